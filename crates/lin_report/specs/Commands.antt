@@ -1,0 +1,45 @@
+-- Which operations the commands are. An operation has 0 in each number that its command doesn't take.
+use Rattle.std.specs.Prelude.{ℕ, Bool, ◌==◌, ◌||◌, ◌&&◌, not, nat_lt}
+use Rattle.lin_report.specs.declared.calls.Client.{Client}
+use Rattle.lin_report.specs.declared.calls.Client.TheVariants.{Queue, List, Tree, Buckets}
+use Rattle.lin_report.specs.declared.calls.Op.{Op}
+use Rattle.lin_report.specs.declared.calls.TheConstants.{PUT, TAKE, ADD, DEL, HAS, SET, REM, GET}
+
+-- keys are below this
+abbrev pub KEY_LIMIT : ℕ
+KEY_LIMIT = 1048576
+
+-- a command that takes no number
+abbrev pub takes_nothing : Op → Bool
+takes_nothing op = op.key == 0 && op.value == 0
+
+-- a command that takes a key alone
+abbrev pub takes_key : Op → Bool
+takes_key op = nat_lt op.key KEY_LIMIT && op.value == 0
+
+-- put with any value, or take
+abbrev pub is_queue_command : Op → Bool
+is_queue_command op = (op.code == PUT && op.key == 0) || (op.code == TAKE && takes_nothing op)
+
+-- add, del or has with a key
+abbrev pub is_set_command : Op → Bool
+is_set_command op = (op.code == ADD || op.code == DEL || op.code == HAS) && takes_key op
+
+-- set with a key and a value, or rem or get with a key
+abbrev pub is_map_command : Op → Bool
+is_map_command op = (op.code == SET && nat_lt op.key KEY_LIMIT) || ((op.code == REM || op.code == GET) && takes_key op)
+
+-- whether the operation is a command of the client
+abbrev pub is_command : Client → Op → Bool
+is_command Queue op = is_queue_command op
+is_command List op = is_set_command op
+is_command Buckets op = is_set_command op
+is_command Tree op = is_map_command op
+
+-- a command that only looks; no other may be answered Exhausted
+abbrev pub only_observes : Op → Bool
+only_observes op = op.code == HAS || op.code == GET
+
+-- a command that may be answered Exhausted
+abbrev pub may_exhaust : Op → Bool
+may_exhaust op = not (only_observes op)

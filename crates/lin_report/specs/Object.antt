@@ -1,0 +1,73 @@
+-- The sequential objects: what each operation answers and leaves, one at a time. They know a list of
+-- values, a set of keys and a map, and nothing of nodes, marks or references.
+use Rattle.std.specs.Prelude.{ℕ, Bool, true, false, ◌==◌, not, if◌then◌else◌, List, [], ◌∷◌, ◌++◌, Option, Some, None}
+use Rattle.std.specs.Ordering.{nat_cmp}
+use Rattle.std.specs.FinSet as set
+use Rattle.std.specs.FinMap as map
+use Rattle.lin_report.specs.declared.calls.Client.{Client}
+use Rattle.lin_report.specs.declared.calls.Client.TheVariants as client
+use Rattle.lin_report.specs.declared.calls.Op.{Op}
+use Rattle.lin_report.specs.declared.calls.Reply.{Reply}
+use Rattle.lin_report.specs.declared.calls.Reply.TheVariants.{Yes, No, Done, Value, Empty, Absent}
+use Rattle.lin_report.specs.declared.calls.TheConstants.{PUT, ADD, DEL, SET, REM}
+use Rattle.lin_report.specs.Commands.{is_queue_command, is_set_command, is_map_command}
+
+-- an object: what it may hold, what it holds at first, and for each operation that it serves what it
+-- holds afterwards and what it replies
+pub record Object : Type 1 where
+  pub Held : Type 0
+  pub empty : Held
+  pub apply : Op → Held → Held × Reply
+  pub serves : Op → Bool
+
+-- yes where it is so
+abbrev pub yes_if : Bool → Reply
+yes_if true = Yes
+yes_if false = No
+
+-- the first value leaves; an empty queue stays
+abbrev pub take_first : List ℕ → List ℕ × Reply
+take_first [] = ([], Empty)
+take_first (value ∷ values) = (values, Value value)
+
+-- the queue, its first value in front: a value that is put goes last
+abbrev pub queue_apply : Op → List ℕ → List ℕ × Reply
+queue_apply op values = if op.code == PUT then (values ++ op.value ∷ [], Done) else take_first values
+
+abbrev pub queue_object : Object
+queue_object = record { Held = List ℕ; empty = []; apply = queue_apply; serves = is_queue_command }
+
+-- the set: add says whether the key was absent, del and has whether it was present
+abbrev pub set_apply : Op → set.FinSet nat_cmp → set.FinSet nat_cmp × Reply
+set_apply op keys =
+    if op.code == ADD then (set.insert keys op.key, yes_if (not (set.contains keys op.key)))
+    else (if op.code == DEL then (set.remove keys op.key, yes_if (set.contains keys op.key))
+    else (keys, yes_if (set.contains keys op.key)))
+
+abbrev pub set_object : Object
+set_object = record { Held = set.FinSet nat_cmp; empty = set.empty; apply = set_apply; serves = is_set_command }
+
+-- a key that has a value keeps it
+abbrev pub set_absent : ℕ → ℕ → map.FinMap nat_cmp ℕ → map.FinMap nat_cmp ℕ × Reply
+set_absent key value pairs = if map.contains_key pairs key then (pairs, No) else (map.insert pairs key value, Yes)
+
+abbrev pub value_or_absent : Option ℕ → Reply
+value_or_absent None = Absent
+value_or_absent (Some value) = Value value
+
+-- the map: set says whether the key was absent, rem whether it was present, get its value
+abbrev pub map_apply : Op → map.FinMap nat_cmp ℕ → map.FinMap nat_cmp ℕ × Reply
+map_apply op pairs =
+    if op.code == SET then set_absent op.key op.value pairs
+    else (if op.code == REM then (map.remove pairs op.key, yes_if (map.contains_key pairs op.key))
+    else (pairs, value_or_absent (map.get pairs op.key)))
+
+abbrev pub map_object : Object
+map_object = record { Held = map.FinMap nat_cmp ℕ; empty = map.empty; apply = map_apply; serves = is_map_command }
+
+-- the object that a client answers as
+abbrev pub object_of : Client → Object
+object_of client.Queue = queue_object
+object_of client.List = set_object
+object_of client.Buckets = set_object
+object_of client.Tree = map_object

@@ -1,0 +1,13 @@
+//! Operations and calls of the clients, the sequential objects that say what they answer, and the
+//! text of a report.
+#![tactic(auto)]
+
+pub use calls::{Client, Op, Outcome, Path, PendingCall, Receipt, Reply};
+pub use events::{Event, EventKind};
+pub use objects::{NoMemory, Sequential};
+pub use queue_object::FifoObject;
+
+pub mod calls;
+pub mod events;
+pub mod objects;
+pub mod queue_object;

@@ -1,0 +1,52 @@
+//! The sequential queue.
+ghost use Rattle.std.specs.Prelude.{◌≡◌, ℕ, List, []};
+
+use crate::calls::{Op, PUT, Reply};
+use crate::objects::{NoMemory, Sequential};
+use std::alloc::Global;
+use std::collections::VecDeque;
+use std::marker::Model;
+
+/// A queue that answers one operation at a time, as the definition of the sequential queue does.
+#[derive(Drop)]
+pub struct FifoObject {
+    values: VecDeque<u32>,
+}
+
+impl Model for FifoObject {
+    ghost Value = { List ℕ };
+
+    ghost view = { λ q. q.values.items };
+}
+
+impl FifoObject {
+    /// The empty queue. It takes no memory yet.
+    pub fn new(alloc: Global) -> Self
+        ensures { result ≡ [] }
+    {
+        FifoObject {
+            values: VecDeque::new(alloc),
+        }
+    }
+}
+
+impl Sequential for FifoObject {
+    ghost use Rattle.lin_report.specs.Object.{queue_object};
+
+    ghost object = { queue_object };
+
+    ghost held = { λ q. q };
+
+    fn apply(&mut self, op: Op) -> Result<Reply, NoMemory> {
+        if op.code == PUT {
+            return match self.values.push_back(op.value) {
+                Ok(()) => Ok(Reply::Done),
+                Err(_) => Err(NoMemory),
+            };
+        }
+        match self.values.pop_front() {
+            Some(value) => Ok(Reply::Value(value)),
+            None => Ok(Reply::Empty),
+        }
+    }
+}
