@@ -5,3 +5,5 @@
 pub use outside::{Failed, Files, FilesInMemory, HostFiles, HostOut, Sink, SinkInMemory};
 
 pub mod outside;
+mod reading;
+mod writing;
