@@ -1,2 +1,4 @@
 pub mod FirstNamed
 pub mod Known
+pub mod OneSeat
+pub mod SeatCalls

@@ -4,6 +4,7 @@
 
 pub use outside::{Failed, Files, FilesInMemory, HostFiles, HostOut, Sink, SinkInMemory};
 
+mod one_seat;
 pub mod outside;
 mod reading;
 mod writing;

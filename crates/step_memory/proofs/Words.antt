@@ -1,4 +1,10 @@
--- What a step leaves at each place, and that no word comes or goes.
+-- What a step leaves at each place and tells of it, and that no word comes or goes.
+use Rattle.std.proofs.Common.{Bool, true, false, cond, eqb, ltb, set, refl, ap, ◌∙◌, sym, ⊎_elim}
+use Rattle.std.proofs.lemmas.Bool.{cases_lt, lt-ltb, le-ltb}
+use Rattle.std.proofs.lemmas.List.{get_or_past, set-get_or}
+use Rattle.step_memory.specs.declared.steps.Seen.{Seen}
+use Rattle.step_memory.specs.declared.steps.Request.TheVariants.{Load, Exchange, Add}
+use Rattle.step_memory.specs.Step.{seen_of}
 use Rattle.std.proofs.Common.{◌≡◌, ◌≢◌, ℕ, ◌<◌, List, length, get_or, get_or-set_same, get_or-set_other}
 use Rattle.std.proofs.Math.ListN.{length-set}
 use Rattle.step_memory.specs.declared.steps.Request.{Request}
@@ -18,3 +24,35 @@ word_at_place request words inside = get_or-set_same words (place_of request) (w
 pub word_elsewhere : (request : Request) (words : List ℕ) (at : ℕ) → at ≢ place_of request → get_or (words_after request words) at 0 ≡ get_or words at 0
 unfolding words_after
 word_elsewhere request words at other = get_or-set_other words (place_of request) at (word_after request (get_or words (place_of request) 0)) 0 other
+
+-- what is told of the word at a place is told of 0 past the end
+before_cond : (at : ℕ) (words : List ℕ) (won : Bool) → (cond (ltb at (length words)) (let seen : Seen = record { before = get_or words at 0; won = won } in seen) (record { before = 0; won = false })).before ≡ get_or words at 0
+before_cond at words won =
+    ⊎_elim
+      (λ inside. let seen : Seen = record { before = get_or words at 0; won = won } in
+        let past : Seen = record { before = 0; won = false } in
+        ap (λ b. (cond b seen past).before) (lt-ltb at (length words) inside))
+      (λ beyond. let seen : Seen = record { before = get_or words at 0; won = won } in
+        let past : Seen = record { before = 0; won = false } in
+        ap (λ b. (cond b seen past).before) (le-ltb at (length words) beyond) ∙ sym (get_or_past words at 0 beyond))
+      (cases_lt at (length words))
+
+-- a load tells the word at its place, 0 past the end, and changes nothing
+pub load_tells : (at : ℕ) (words : List ℕ) → (seen_of (Load at) words).before ≡ get_or words at 0
+unfolding seen_of
+load_tells at words = before_cond at words true
+
+pub load_keeps : (at : ℕ) (words : List ℕ) → words_after (Load at) words ≡ words
+unfolding words_after
+load_keeps at words = set-get_or words at 0
+
+-- an addition tells the word before it
+pub add_tells : (at by : ℕ) (words : List ℕ) → (seen_of (Add at by) words).before ≡ get_or words at 0
+unfolding seen_of
+add_tells at by words = before_cond at words true
+
+-- an exchange writes where it finds its word, else it changes nothing
+pub exchange_changes : (at from to : ℕ) (words : List ℕ) → words_after (Exchange at from to) words ≡ cond (eqb (get_or words at 0) from) (set words at to) words
+unfolding words_after
+exchange_changes at from to words =
+    elim (eqb (get_or words at 0) from) as (λ b. set words at (cond b to (get_or words at 0)) ≡ cond b (set words at to) words) [ true ↦ refl | false ↦ set-get_or words at 0 ]
