@@ -1,0 +1,9 @@
+//! The top calls of the program and the outside that they are given: files to read and a sink to write
+//! to.
+#![tactic(auto)]
+
+pub use outside::{Failed, Files, FilesInMemory, HostFiles, HostOut, Sink, SinkInMemory};
+
+pub mod outside;
+mod reading;
+mod writing;

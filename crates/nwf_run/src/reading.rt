@@ -1,0 +1,61 @@
+//! Reads a file of the outside to its end, or to the byte after the greatest length.
+ghost use Rattle.std.specs.Prelude.{◌≡◌, ◌+◌, ℕ, List, take, IfOk, IfSome, OnOk, IsErrOf, vec_len};
+ghost use Rattle.nwf_run.specs.Outside.{Rose};
+
+use crate::outside::Files;
+use std::alloc::Global;
+
+/// The greatest length of a file, in bytes.
+pub const FILE_LIMIT: usize = 1_048_576;
+
+/// How many bytes are asked for at a time.
+const PIECE: usize = 16_384;
+
+/// Why a file wasn't read.
+#[derive(Clone, Copy, Debug, PartialEq, Eq)]
+pub enum ReadError {
+    /// The outside had a fault.
+    Fault,
+    /// There was no memory for the bytes.
+    NoMemory,
+}
+
+/// The bytes under a name. Of a longer file they are the first FILE_LIMIT + 1, which show that it is
+/// too long.
+pub fn read_file<F: Files>(alloc: Global, files: &mut F, name: &str) -> Result<Vec<u8>, ReadError>
+    ensures bytes { IfOk result (λ bytes. IfSome (F.held files.old name.now) (λ held. bytes.items ≡ take (FILE_LIMIT + 1) held)) }
+    ensures held { (n : List ℕ) → F.held files.new n ≡ F.held files.old n }
+    ensures fault { IsErrOf result ReadError.Fault → Rose (F.faults files.old) (F.faults files.new) }
+    ensures no_memory { IsErrOf result ReadError.NoMemory → F.faults files.new ≡ F.faults files.old }
+    ensures calm { OnOk result (F.faults files.new ≡ F.faults files.old) }
+{
+    if files.start_file(name).is_err() {
+        return Err(ReadError::Fault);
+    }
+    read_left(alloc, files)
+}
+
+/// What is left of the chosen file, or its first FILE_LIMIT + 1 bytes.
+fn read_left<F: Files>(alloc: Global, files: &mut F) -> Result<Vec<u8>, ReadError>
+    ensures bytes { IfOk result (λ bytes. IfSome (F.left files.old) (λ left. bytes.items ≡ take (FILE_LIMIT + 1) left)) }
+    ensures held { (n : List ℕ) → F.held files.new n ≡ F.held files.old n }
+    ensures fault { IsErrOf result ReadError.Fault → Rose (F.faults files.old) (F.faults files.new) }
+    ensures no_memory { IsErrOf result ReadError.NoMemory → F.faults files.new ≡ F.faults files.old }
+    ensures calm { OnOk result (F.faults files.new ≡ F.faults files.old) }
+{
+    let mut bytes = Vec::new(alloc);
+    let mut piece = [0u8; PIECE];
+    while bytes.len() <= FILE_LIMIT {
+        let room = PIECE.min(FILE_LIMIT + 1 - bytes.len());
+        let Ok(count) = files.read(&mut piece[..room]) else {
+            return Err(ReadError::Fault);
+        };
+        if count == 0 {
+            break;
+        }
+        if bytes.extend_from_slice(&piece[..count]).is_err() {
+            return Err(ReadError::NoMemory);
+        }
+    }
+    Ok(bytes)
+}
