@@ -19,11 +19,6 @@ and_mask_reads at width w mask e =
     let ones : mask ≡ 2 ^ width - 1 = omega arith in
     rw ones (and_mask (w / 2 ^ at) width)
 
--- a field's value is below its limit
-pub field_below : (at width w : ℕ) → field_of at width w < 2 ^ width
-unfolding field_of
-field_below at width w = mod_below _ _ (pow_pos width)
-
 -- the bits of a field by themselves, in their place
 and_mask_shifted : (at width w mask : ℕ) → mask + 1 ≡ 2 ^ width → bit_and (mask * 2 ^ at) w ≡ w / 2 ^ at % 2 ^ width * 2 ^ at
 and_mask_shifted at width w mask e =

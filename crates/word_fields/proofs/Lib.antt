@@ -1,2 +1,6 @@
 pub mod FieldLemmas
 pub mod VersionedLemmas
+pub mod QueueLemmas
+pub mod RecordLemmas
+pub mod AnnouncedLemmas
+pub mod PayloadLemmas

@@ -1,2 +1,9 @@
 pub mod Fields
 pub mod Versioned
+pub mod Records
+pub mod Announced
+pub mod Owners
+pub mod Seats
+pub mod ProvedSeats
+pub mod Queues
+pub mod Payloads

@@ -27,12 +27,13 @@ pub struct VersionedWord {
 impl VersionedWord {
     ghost use Rattle.std.specs.Prelude.{◌≡◌, ◌≢◌, ◌+◌, ◌%◌, true, false};
     ghost use Rattle.word_fields.specs.declared.versioned.VersionedWord.{VersionedWord};
-    ghost use Rattle.word_fields.specs.Versioned.{IsVersioned, versioned_word, changed_word, marked_word, cleared_word};
+    ghost use Rattle.word_fields.specs.Versioned.{versioned_of, packed_versioned, versioned_version, changed_word, marked_word, cleared_word};
 
     /// The fields of a word.
     pub fn unpack(word: u64) -> Self
-        ensures fields { IsVersioned word result }
-        ensures word { versioned_word result ≡ word }
+        ensures fields { result ≡ versioned_of word }
+        ensures version { result.version ≡ versioned_version word }
+        ensures packs_again { packed_versioned result ≡ word }
     {
         VersionedWord {
             value: VersionedValue::get(word) as u32,
@@ -43,10 +44,9 @@ impl VersionedWord {
 
     /// The word with these fields.
     pub fn pack(&self) -> u64
-        ensures word { result ≡ versioned_word self.now }
-        ensures fields { IsVersioned result self.now }
-        ensures read_back { (v : VersionedWord) → IsVersioned result v → v ≡ self.now }
-        ensures told_apart { (v : VersionedWord) → versioned_word v ≡ result → v ≡ self.now }
+        ensures word { result ≡ packed_versioned self.now }
+        ensures read_back { versioned_of result ≡ self.now }
+        ensures told_apart { (v : VersionedWord) → packed_versioned v ≡ result → v ≡ self.now }
     {
         let value = VersionedValue::put(0, u64::from(self.value));
         let marked = VersionedBit::put(value, u64::from(self.modified));
@@ -57,11 +57,11 @@ impl VersionedWord {
     /// exchange writes.
     pub fn changed(&self, value: u32) -> VersionedWord
         requires in_range { value < 2 ^ 24 }
-        ensures word { versioned_word result ≡ changed_word (versioned_word self.now) value }
+        ensures word { packed_versioned result ≡ changed_word (packed_versioned self.now) value }
         ensures value { result.value ≡ value }
         ensures clear { result.modified ≡ false }
         ensures version { result.version ≡ (self.now.version + 1) % 2 ^ 39 }
-        ensures differs { versioned_word result ≢ versioned_word self.now }
+        ensures differs { packed_versioned result ≢ packed_versioned self.now }
     {
         VersionedWord {
             value,
@@ -70,31 +70,36 @@ impl VersionedWord {
         }
     }
 
-    /// The bit set, value and version kept.
-    pub fn marked(&self) -> VersionedWord
-        ensures word { versioned_word result ≡ marked_word (versioned_word self.now) }
+    /// This bit, value and version kept.
+    fn with_bit(&self, modified: bool) -> VersionedWord
         ensures value { result.value ≡ self.now.value }
-        ensures set { result.modified ≡ true }
+        ensures bit { result.modified ≡ modified }
         ensures version { result.version ≡ self.now.version }
     {
         VersionedWord {
             value: self.value,
-            modified: true,
+            modified,
             version: self.version,
         }
     }
 
+    /// The bit set, value and version kept.
+    pub fn marked(&self) -> VersionedWord
+        ensures word { packed_versioned result ≡ marked_word (packed_versioned self.now) }
+        ensures value { result.value ≡ self.now.value }
+        ensures set { result.modified ≡ true }
+        ensures version { result.version ≡ self.now.version }
+    {
+        self.with_bit(true)
+    }
+
     /// The bit clear, value and version kept.
     pub fn cleared(&self) -> VersionedWord
-        ensures word { versioned_word result ≡ cleared_word (versioned_word self.now) }
+        ensures word { packed_versioned result ≡ cleared_word (packed_versioned self.now) }
         ensures value { result.value ≡ self.now.value }
         ensures clear { result.modified ≡ false }
         ensures version { result.version ≡ self.now.version }
     {
-        VersionedWord {
-            value: self.value,
-            modified: false,
-            version: self.version,
-        }
+        self.with_bit(false)
     }
 }

@@ -1,0 +1,98 @@
+//! Queue words: the seats whose published calls are to be helped.
+ghost use Rattle.std.specs.Prelude.{◌≡◌, ℕ, ◌<◌, ◌^◌, slice_index};
+ghost use Rattle.word_fields.specs.Seats.{AreSeats, places_of, names_another, queue_seats, seats_word};
+
+use crate::field::Field;
+use arrayvec::ArrayVec;
+
+/// One place, where the word is shifted so that it is the lowest: 0 where it is empty, else one more
+/// than a seat.
+pub type QueuePlace = Field<0, 4>;
+/// The version, which each change of the queue raises by one.
+pub type QueueVersion = Field<32, 32>;
+
+/// How many places there are, and how many seats.
+const PLACES: u32 = 8;
+/// How many bits a place has.
+const PLACE_BITS: u32 = 4;
+
+/// A queue word by its fields: the seats in order, the head first.
+#[derive(Debug, Drop, PartialEq, Eq)]
+pub struct QueueWord {
+    pub seats: ArrayVec<u8, 8>,
+    pub version: u32,
+    pub ghost are_seats: { AreSeats seats.items },
+    pub ghost version_in_range: { version < 2 ^ 32 },
+}
+
+/// What stands at a place.
+fn place_at(word: u64, place: u32) -> u8
+    requires { place < 8 }
+    ensures { result ≡ slice_index (places_of word) place }
+{
+    QueuePlace::get(word >> (PLACE_BITS * place)) as u8
+}
+
+/// Whether what stands at a place names a seat that isn't among these.
+fn is_another(seats: &[u8], named: u8) -> bool
+    ensures { result ≡ names_another seats.now named }
+{
+    named > 0 && u32::from(named) <= PLACES && !seats.contains(&(named - 1))
+}
+
+/// The seats that a word's places name, up to the first that is empty, above 8, or a repeat.
+#[tactic(auto, using(crate::proofs::QueueLemmas::reading))]
+fn read_seats(word: u64) -> ArrayVec<u8, 8>
+    ensures { result.items ≡ queue_seats word }
+{
+    let mut seats = ArrayVec::new();
+    for place in 0..PLACES {
+        let named = place_at(word, place);
+        if !is_another(&seats, named) {
+            break;
+        }
+        seats.push(named - 1);
+    }
+    seats
+}
+
+/// The bits of seats in their places.
+#[tactic(auto, using(crate::proofs::QueueLemmas::write_more), unfolding(crate::specs::Seats::seats_word))]
+fn write_seats(seats: &[u8]) -> u64
+    requires { AreSeats seats.now }
+    ensures { result ≡ seats_word seats.now }
+{
+    let mut word = 0;
+    for place in (0..seats.len()).rev() {
+        word = (word << PLACE_BITS) + u64::from(seats[place]) + 1;
+    }
+    word
+}
+
+impl QueueWord {
+    ghost use Rattle.word_fields.specs.declared.queues.QueueWord.{QueueWord};
+    ghost use Rattle.word_fields.specs.Seats.{ReadsSeats};
+    ghost use Rattle.word_fields.specs.Queues.{queue_of, packed_queue};
+
+    /// The fields of a word.
+    #[tactic(auto, using(crate::proofs::QueueLemmas::queue_seats_read, crate::specs::ProvedSeats::queue_seats_are), unfolding(crate::specs::Queues::queue_version))]
+    pub fn unpack(word: u64) -> Self
+        ensures fields { result ≡ queue_of word }
+        ensures seats { ReadsSeats (places_of word) result.seats.items }
+    {
+        QueueWord {
+            seats: read_seats(word),
+            version: QueueVersion::get(word) as u32,
+        }
+    }
+
+    /// The word with these fields.
+    #[tactic(auto, using(crate::proofs::QueueLemmas::queue_word_put))]
+    pub fn pack(&self) -> u64
+        ensures word { result ≡ packed_queue self.now }
+        ensures read_back { queue_of result ≡ self.now }
+        ensures told_apart { (v : QueueWord) → packed_queue v ≡ result → v ≡ self.now }
+    {
+        QueueVersion::put(write_seats(&self.seats), u64::from(self.version))
+    }
+}
