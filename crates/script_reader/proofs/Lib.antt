@@ -1,0 +1,8 @@
+pub mod Digits
+pub mod WordsOf
+pub mod LinesOf
+pub mod Lines
+pub mod Faults
+pub mod Kept
+pub mod Entries
+pub mod Outcomes

@@ -1,0 +1,15 @@
+//! Command files and schedules: what their bytes say, or the line at which they are refused and why.
+#![tactic(auto)]
+
+pub use causes::{Cause, Refusal, ScriptFault, cause_number};
+pub use schedules::{ScheduleEntry, Span, read_schedule};
+pub use scripts::read_script;
+
+pub mod causes;
+mod grammar;
+mod numbers;
+pub mod schedules;
+pub mod scripts;
+#[cfg(test)]
+mod tests;
+mod words;
