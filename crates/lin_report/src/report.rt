@@ -53,3 +53,6 @@ pub fn write_summary(
 {
     summary::append_summary(room, receipts, pending, overtaken);
 }
+
+#[cfg(test)]
+mod tests;
