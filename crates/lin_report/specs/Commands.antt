@@ -1,13 +1,20 @@
--- Which operations the commands are. An operation has 0 in each number that its command doesn't take.
+-- Which operations the commands are, and which replies each may be given. An operation has 0 in each
+-- number that its command doesn't take.
 use Rattle.std.specs.Prelude.{ℕ, Bool, ◌==◌, ◌||◌, ◌&&◌, not, nat_lt}
 use Rattle.lin_report.specs.declared.calls.Client.{Client}
 use Rattle.lin_report.specs.declared.calls.Client.TheVariants.{Queue, List, Tree, Buckets}
 use Rattle.lin_report.specs.declared.calls.Op.{Op}
+use Rattle.lin_report.specs.declared.calls.Reply.{Reply}
+use Rattle.lin_report.specs.declared.calls.Reply.TheVariants.{Yes, No, Done, Value, Empty, Absent, Exhausted}
 use Rattle.lin_report.specs.declared.calls.TheConstants.{PUT, TAKE, ADD, DEL, HAS, SET, REM, GET}
 
 -- keys are below this
 abbrev pub KEY_LIMIT : ℕ
 KEY_LIMIT = 1048576
+
+-- values are below this, as the type of a value has it
+abbrev pub VALUE_LIMIT : ℕ
+VALUE_LIMIT = 4294967296
 
 -- a command that takes no number
 abbrev pub takes_nothing : Op → Bool
@@ -36,10 +43,28 @@ is_command List op = is_set_command op
 is_command Buckets op = is_set_command op
 is_command Tree op = is_map_command op
 
--- a command that only looks; no other may be answered Exhausted
+-- a command of one client or another
+abbrev pub is_some_command : Op → Bool
+is_some_command op = is_queue_command op || is_set_command op || is_map_command op
+
+-- a command that only looks; each other may find no block left
 abbrev pub only_observes : Op → Bool
 only_observes op = op.code == HAS || op.code == GET
 
 -- a command that may be answered Exhausted
 abbrev pub may_exhaust : Op → Bool
 may_exhaust op = not (only_observes op)
+
+-- a command that is told whether its key was absent, or whether it was present
+abbrev pub tells_presence : Op → Bool
+tells_presence op = op.code == ADD || op.code == DEL || op.code == HAS || op.code == SET || op.code == REM
+
+-- the replies that a command may be given
+abbrev pub may_answer : Op → Reply → Bool
+may_answer op Yes = tells_presence op
+may_answer op No = tells_presence op
+may_answer op Done = op.code == PUT
+may_answer op (Value value) = op.code == TAKE || op.code == GET
+may_answer op Empty = op.code == TAKE
+may_answer op Absent = op.code == GET
+may_answer op Exhausted = may_exhaust op

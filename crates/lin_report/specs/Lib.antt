@@ -4,3 +4,6 @@ pub mod Calls
 pub mod Report
 pub mod Linearizable
 pub mod Text
+pub mod Room
+pub mod Writing
+pub mod Merging

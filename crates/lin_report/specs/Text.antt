@@ -17,12 +17,16 @@ SPACE = 32
 abbrev pub NEWLINE : ℕ
 NEWLINE = 10
 
+-- words with a space before each
+unfoldable pub spaced : List (List ℕ) → List ℕ
+spaced words = flat_map (λ word. SPACE ∷ word) words
+
 -- words with one space between, and a newline
-abbrev pub line : List (List ℕ) → List ℕ
+unfoldable pub line : List (List ℕ) → List ℕ
 line words = join_with_byte SPACE words ++ NEWLINE ∷ []
 
 -- a command with its numbers
-abbrev pub command_words : Op → List (List ℕ)
+unfoldable pub command_words : Op → List (List ℕ)
 command_words op =
     if op.code == PUT then codes "put" ∷ decimal op.value ∷ []
     else (if op.code == TAKE then codes "take" ∷ []
@@ -33,7 +37,7 @@ command_words op =
     else (if op.code == REM then codes "rem" ∷ decimal op.key ∷ []
     else codes "get" ∷ decimal op.key ∷ []))))))
 
-abbrev pub reply_words : Reply → List (List ℕ)
+unfoldable pub reply_words : Reply → List (List ℕ)
 reply_words Yes = codes "yes" ∷ []
 reply_words No = codes "no" ∷ []
 reply_words Done = codes "done" ∷ []
@@ -52,12 +56,12 @@ abbrev pub end_word : Option (Reply × ℕ) → List ℕ
 end_word None = codes "-"
 end_word (Some answer) = decimal answer.1
 
-abbrev pub path_word : Path → List ℕ
+unfoldable pub path_word : Path → List ℕ
 path_word Fast = codes "fast"
 path_word Slow = codes "slow"
 
 -- the line of a call
-abbrev pub call_line : Call → List ℕ
+unfoldable pub call_line : Call → List ℕ
 call_line c =
     line (decimal c.seat ∷ decimal c.number ∷ command_words c.op ++ answer_words c.answer ++ decimal c.begin ∷ end_word c.answer ∷ path_word c.path ∷ [])
 
@@ -67,7 +71,7 @@ insert_call c [] = c ∷ []
 insert_call c (d ∷ calls) = if nat_lt d.begin c.begin then d ∷ insert_call c calls else c ∷ d ∷ calls
 
 -- the calls in rising order of begin
-abbrev pub by_begin : List Call → List Call
+unfoldable pub by_begin : List Call → List Call
 by_begin [] = []
 by_begin (c ∷ calls) = insert_call c (by_begin calls)
 
@@ -98,13 +102,21 @@ abbrev pub overtaken_words : Option ℕ → List (List ℕ)
 overtaken_words None = []
 overtaken_words (Some most) = codes "overtaken" ∷ decimal most ∷ []
 
--- how many calls there are, and how many of each kind
-abbrev pub summary_text : Report → Option ℕ → List ℕ
+-- how many calls there are, and how many of each kind behind its name
+unfoldable pub count_words : (calls fast slow exhausted pending : ℕ) → List (List ℕ)
+count_words calls fast slow exhausted pending =
+    decimal calls ∷ codes "fast" ∷ decimal fast ∷ codes "slow" ∷ decimal slow
+    ∷ codes "exhausted" ∷ decimal exhausted ∷ codes "pending" ∷ decimal pending ∷ []
+
+-- the summary line, the last line of a report
+unfoldable pub summary_text : Report → Option ℕ → List ℕ
 summary_text report overtaken = let calls = calls_of report in
-    line (codes "calls" ∷ decimal (length calls) ∷ codes "fast" ∷ decimal (count_by is_fast calls)
-    ∷ codes "slow" ∷ decimal (count_by is_slow calls) ∷ codes "exhausted" ∷ decimal (count_by is_exhausted calls)
-    ∷ codes "pending" ∷ decimal (length report.pending) ∷ overtaken_words overtaken)
+    line (codes "calls" ∷ count_words (length calls) (count_by is_fast calls) (count_by is_slow calls) (count_by is_exhausted calls) (length report.pending) ++ overtaken_words overtaken)
+
+-- the lines of calls
+unfoldable pub lines : List Call → List ℕ
+lines calls = flat_map call_line calls
 
 -- the text of a report
-abbrev pub report_text : Report → Option ℕ → List ℕ
-report_text report overtaken = flat_map call_line (by_begin (calls_of report)) ++ summary_text report overtaken
+unfoldable pub report_text : Report → Option ℕ → List ℕ
+report_text report overtaken = lines (by_begin (calls_of report)) ++ summary_text report overtaken

@@ -6,8 +6,10 @@ pub use calls::{Client, Op, Outcome, Path, PendingCall, Receipt, Reply};
 pub use events::{Event, EventKind};
 pub use objects::{NoMemory, Sequential};
 pub use queue_object::FifoObject;
+pub use report::{report_room, write_report, write_summary};
 
 pub mod calls;
 pub mod events;
 pub mod objects;
 pub mod queue_object;
+pub mod report;

@@ -1,0 +1,6 @@
+pub mod Rooms
+pub mod Lines
+pub mod Lengths
+pub mod Sorting
+pub mod Merging
+pub mod Summaries
