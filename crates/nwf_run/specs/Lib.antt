@@ -1,6 +1,9 @@
 pub mod Outside
 pub mod MemoryFiles
 pub mod MemorySink
+pub mod Words
 pub mod OneSeat
 pub mod Sequence
 pub mod Seat
+pub mod Accepted
+pub mod Judged

@@ -4,7 +4,10 @@
 
 pub use outside::{Failed, Files, FilesInMemory, HostFiles, HostOut, Sink, SinkInMemory};
 
+mod accepting;
 mod one_seat;
 pub mod outside;
 mod reading;
+mod stops;
+mod words;
 mod writing;

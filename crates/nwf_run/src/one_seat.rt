@@ -3,7 +3,7 @@
 #![tactic(auto, using(step_memory::proofs::Words::load_tells, step_memory::proofs::Words::load_keeps, step_memory::proofs::Words::add_tells, step_memory::proofs::Words::exchange_changes), unfolding(step_memory::specs::Step::words_after, crate::specs::OneSeat::node_place_of, crate::specs::OneSeat::value_place_of, crate::specs::OneSeat::next_place_of, crate::specs::OneSeat::exchanged, crate::specs::OneSeat::node_filled, crate::specs::OneSeat::tail_moved, crate::specs::OneSeat::words_after_put, crate::specs::OneSeat::second_node, crate::specs::OneSeat::words_after_take, crate::specs::OneSeat::take_reply, crate::specs::OneSeat::reply_to, crate::specs::OneSeat::words_after_call))]
 
 ghost use Rattle.std.specs.Prelude.{◌≡◌, ◌≤◌, ℕ, [], IfOk, sum_by, ◌+◌, ◌*◌, ◌%◌, ◌^◌, ◌<◌, ◌==◌, if◌then◌else◌, length, slice_index, slice_set};
-ghost use Rattle.word_fields.specs.Versioned.{versioned_word, versioned_value};
+ghost use Rattle.word_fields.specs.Versioned.{packed_versioned, versioned_value};
 ghost use Rattle.lin_report.specs.Object.{queue_object};
 ghost use Rattle.nwf_run.specs.Sequence.{sequential_receipts};
 ghost use Rattle.nwf_run.specs.OneSeat.{node_place_of, value_place_of, next_place_of, exchanged, node_filled, tail_moved, words_after_put, words_after_take, take_reply, puts_of, reply_to, words_after_call};
@@ -72,7 +72,7 @@ fn store(cells: &mut Cells, at: u32, value: u64)
 /// Exchanges a word for itself changed to a value, where it is still the word that was seen.
 fn exchange(cells: &mut Cells, at: u32, from: &VersionedWord, value: u32)
     requires { value < 2 ^ 24 }
-    ensures { cells.new ≡ exchanged cells.old at (versioned_word from.now) value }
+    ensures { cells.new ≡ exchanged cells.old at (packed_versioned from.now) value }
 {
     cells.apply(Request::Exchange {
         at,
@@ -217,7 +217,7 @@ pub fn make_calls(alloc: Global, ops: &[Op]) -> Result<Vec<Receipt>, NoMemory>
 }
 
 /// How many blocks the operations take.
-fn count_puts(ops: &[Op]) -> u32
+pub fn count_puts(ops: &[Op]) -> u32
     requires { length ops.now ≤ 65535 }
     ensures count { result ≡ sum_by puts_of ops.now }
     ensures most { result ≤ length ops.now }

@@ -2,12 +2,13 @@
 #![tactic(auto)]
 
 pub use causes::{Cause, Refusal, ScriptFault, cause_number};
+pub use numbers::number_up_to;
 pub use schedules::{ScheduleEntry, Span, read_schedule};
 pub use scripts::read_script;
 
 pub mod causes;
 mod grammar;
-mod numbers;
+pub mod numbers;
 pub mod schedules;
 pub mod scripts;
 #[cfg(test)]
