@@ -4,3 +4,5 @@ pub mod Lengths
 pub mod Sorting
 pub mod Merging
 pub mod Summaries
+pub mod Sets
+pub mod Maps
