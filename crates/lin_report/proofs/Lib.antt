@@ -6,3 +6,6 @@ pub mod Merging
 pub mod Summaries
 pub mod Sets
 pub mod Maps
+pub mod Sequences
+pub mod Ticks
+pub mod Alone

@@ -12,6 +12,7 @@ pub use set_object::SetObject;
 
 pub mod calls;
 pub mod events;
+pub mod laws;
 pub mod map_object;
 pub mod objects;
 pub mod queue_object;
