@@ -4,3 +4,8 @@ pub mod Lengths
 pub mod Sorting
 pub mod Merging
 pub mod Summaries
+pub mod Sets
+pub mod Maps
+pub mod Sequences
+pub mod Ticks
+pub mod Alone

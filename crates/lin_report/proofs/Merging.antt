@@ -30,18 +30,18 @@ count_by_rank rank limit (x ∷ xs) least below = omega (arith, least (length xs
 
 -- the n-th of the report's calls is the n-th answered one, and behind those stand the pending ones
 module _ (report : Report) where
-  call_at_answered : (i : ℕ) (d : Receipt) (e : Call) → i < length report.receipts → get_or (calls_of report) i e ≡ answered_call (get_or report.receipts i d)
+  pub call_at_answered : (i : ℕ) (d : Receipt) (e : Call) → i < length report.receipts → get_or (calls_of report) i e ≡ answered_call (get_or report.receipts i d)
   call_at_answered i d e within =
       get_or_append_left (map answered_call report.receipts) _ e i (omega (arith, length-map report.receipts answered_call))
       ∙ get_or-map answered_call report.receipts i d e within
 
-  call_at_pending : (j : ℕ) (d : PendingCall) (e : Call) → j < length report.pending → get_or (calls_of report) (length report.receipts + j) e ≡ pending_call (get_or report.pending j d)
+  pub call_at_pending : (j : ℕ) (d : PendingCall) (e : Call) → j < length report.pending → get_or (calls_of report) (length report.receipts + j) e ≡ pending_call (get_or report.pending j d)
   call_at_pending j d e within =
       ap (λ n. get_or (calls_of report) (n + j) e) (sym (length-map report.receipts answered_call))
       ∙ get_or-append-add (map answered_call report.receipts) (map pending_call report.pending) j e
       ∙ get_or-map pending_call report.pending j d e within
 
-  count_of_calls : length (calls_of report) ≡ length report.receipts + length report.pending
+  pub count_of_calls : length (calls_of report) ≡ length report.receipts + length report.pending
   count_of_calls = length-append (map answered_call report.receipts) _ ∙ omega (arith, length-map report.receipts answered_call, length-map report.pending pending_call)
 
   module _ (count : Option ℕ) (can : CanWrite report count) where

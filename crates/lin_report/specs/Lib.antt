@@ -7,3 +7,4 @@ pub mod Text
 pub mod Room
 pub mod Writing
 pub mod Merging
+pub mod Sequence

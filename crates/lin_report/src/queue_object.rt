@@ -39,10 +39,8 @@ impl Sequential for FifoObject {
 
     fn apply(&mut self, op: Op) -> Result<Reply, NoMemory> {
         if op.code == PUT {
-            return match self.values.push_back(op.value) {
-                Ok(()) => Ok(Reply::Done),
-                Err(_) => Err(NoMemory),
-            };
+            self.values.push_back(op.value)?;
+            return Ok(Reply::Done);
         }
         match self.values.pop_front() {
             Some(value) => Ok(Reply::Value(value)),

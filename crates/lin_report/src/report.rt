@@ -20,7 +20,7 @@ pub fn report_room(alloc: Global, calls: u32) -> Result<Vec<u8>, NoMemory>
     ensures empty { IfOk result (λ room. room.items ≡ []) }
     ensures room { IfOk result (λ room. HasRoom room (64 * calls + 128)) }
 {
-    Vec::with_capacity(alloc, 64 * calls as usize + 128).map_err(|_| NoMemory)
+    Ok(Vec::with_capacity(alloc, 64 * calls as usize + 128)?)
 }
 
 /// Puts the text of a report last. It takes no memory and cannot fail.

@@ -1,0 +1,7 @@
+use Rattle.lin_report.specs.Object.{object_of}
+use Rattle.lin_report.proofs.Sequences.{object_answers}
+use Rattle.lin_report.proofs.Alone.{alone_is_linearizable}
+use Rattle.lin_report.proofs.laws.sequential_report_is_linearizable.Goals as goal
+
+pub returns : goal.returns
+returns c client ops = alone_is_linearizable (object_of client) (object_answers client) ops
