@@ -9,7 +9,7 @@ use Rattle.lin_report.specs.Commands.{is_command}
 use Rattle.script_reader.specs.declared.causes.Refusal.{Refusal}
 use Rattle.script_reader.specs.declared.causes.ScriptFault.{ScriptFault}
 use Rattle.script_reader.specs.declared.schedules.ScheduleEntry.{ScheduleEntry}
-use Rattle.script_reader.specs.Outcomes.{Answers}
+use Rattle.script_reader.specs.Outcomes.{ReadsAs}
 use Rattle.script_reader.specs.Faults.{IsOutcomeOf}
 use Rattle.script_reader.specs.Scripts.{COMMAND_LIMIT, command_of, script_outcome}
 use Rattle.script_reader.specs.Schedules.{ENTRY_LIMIT, entry_of, IsSpanInRange, schedule_outcome}
@@ -47,10 +47,10 @@ schedule_entries seats bytes entries e =
     )
 
 -- what holds of accepted entries holds of what a reader answers
-pub answered : {X : Type 0} (P : List X → Type 0) (r : Result (Vec X) ScriptFault) (outcome : Result (List X) Refusal) → ((xs : List X) → outcome ≡ Ok xs → P xs) → Answers r outcome → IfOk r (λ v. P v.items)
+pub answered : {X : Type 0} (P : List X → Type 0) (r : Result (Vec X) ScriptFault) (outcome : Result (List X) Refusal) → ((xs : List X) → outcome ≡ Ok xs → P xs) → ReadsAs r outcome → IfOk r (λ v. P v.items)
 answered P (Ok v) outcome each e = each v.items e
 answered P (Err fault) outcome each e = tt
 
-pub counted : {X : Type 0} (limit : ℕ) (r : Result (Vec X) ScriptFault) (outcome : Result (List X) Refusal) → ((xs : List X) → outcome ≡ Ok xs → length xs ≤ limit) → Answers r outcome → IfOk r (λ v. vec_len v ≤ limit)
+pub counted : {X : Type 0} (limit : ℕ) (r : Result (Vec X) ScriptFault) (outcome : Result (List X) Refusal) → ((xs : List X) → outcome ≡ Ok xs → length xs ≤ limit) → ReadsAs r outcome → IfOk r (λ v. vec_len v ≤ limit)
 counted limit (Ok v) outcome each e = omega (arith, v.ok.0, each v.items e)
 counted limit (Err fault) outcome each e = tt

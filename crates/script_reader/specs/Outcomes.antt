@@ -66,8 +66,8 @@ file_outcome entry limit bytes =
     then Err (record { line = 0; cause = FileTooLong })
     else lines_outcome entry limit 1 0 (lines_of bytes)
 
--- a reader answers what the file is, unless memory ran out
-abbrev pub Answers : {X : Type 0} → Result (Vec X) ScriptFault → Result (List X) Refusal → Type 0
-Answers (Ok entries) outcome = outcome ≡ Ok entries.items
-Answers (Err (Refused refusal)) outcome = outcome ≡ Err refusal
-Answers (Err NoMemory) outcome = Unit {0}
+-- what a reader answers is what the file is, unless memory ran out
+abbrev pub ReadsAs : {X : Type 0} → Result (Vec X) ScriptFault → Result (List X) Refusal → Type 0
+ReadsAs (Ok entries) outcome = outcome ≡ Ok entries.items
+ReadsAs (Err (Refused refusal)) outcome = outcome ≡ Err refusal
+ReadsAs (Err NoMemory) outcome = Unit {0}

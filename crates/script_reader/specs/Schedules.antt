@@ -53,7 +53,7 @@ entry_from seats seat span =
     else (if not (is_number seat) then Err BadNumber
     else entry_with seats (digits_value 10 seat) (span_named span))
 
--- what the code asks of each word by itself
+-- each of the two words by itself; judged in this order they are the entry
 abbrev pub span_of : List ℕ → Result Span Cause
 span_of span = if not (is_span span) then Err BadCommand else ok_or (span_named span) BadNumber
 

@@ -2,7 +2,7 @@
 ghost use Rattle.std.specs.Prelude.{◌≡◌, ◌<◌, ◌≤◌, ◌∷◌, ℕ, List, Result, length};
 ghost use Rattle.std.specs.List.{position_or_len};
 ghost use Rattle.script_reader.specs.Words.{is_newline, lines_of};
-ghost use Rattle.script_reader.specs.Outcomes.{FILE_LIMIT, line_outcome, lines_outcome, file_outcome, Answers};
+ghost use Rattle.script_reader.specs.Outcomes.{FILE_LIMIT, line_outcome, lines_outcome, file_outcome, ReadsAs};
 
 use crate::causes::{Cause, Refusal, ScriptFault};
 use crate::words::{Words, words_in};
@@ -84,7 +84,7 @@ fn read_lines<G: Grammar>(
     bytes: &[u8],
 ) -> Result<Vec<G::Entry>, ScriptFault>
     requires { length bytes.now ≤ FILE_LIMIT }
-    ensures { Answers result (lines_outcome (G.entry_of grammar.now) G.limit 1 0 (lines_of bytes.now)) }
+    ensures { ReadsAs result (lines_outcome (G.entry_of grammar.now) G.limit 1 0 (lines_of bytes.now)) }
 {
     let mut entries = Vec::new(alloc);
     let mut number = 0;
@@ -111,7 +111,7 @@ pub fn read_file<G: Grammar>(
     grammar: &G,
     bytes: &[u8],
 ) -> Result<Vec<G::Entry>, ScriptFault>
-    ensures { Answers result (file_outcome (G.entry_of grammar.now) G.limit bytes.now) }
+    ensures { ReadsAs result (file_outcome (G.entry_of grammar.now) G.limit bytes.now) }
 {
     if bytes.len() > MAX_BYTES {
         return Err(ScriptFault::Refused(Refusal {

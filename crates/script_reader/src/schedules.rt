@@ -1,6 +1,6 @@
 //! Schedules: one entry a line, a seat and how far it goes.
 ghost use Rattle.std.specs.Prelude.{◌≡◌, ◌≤◌, ◌<◌, All, IfOk, vec_len};
-ghost use Rattle.script_reader.specs.Outcomes.{Answers};
+ghost use Rattle.script_reader.specs.Outcomes.{ReadsAs};
 ghost use Rattle.script_reader.specs.Schedules.{span_of, seat_of, entry_from, entry_of, ENTRY_LIMIT, IsSpanInRange, schedule_outcome};
 ghost use Rattle.script_reader.specs.Faults.{IsOutcomeOf};
 
@@ -105,7 +105,7 @@ pub fn read_schedule(
 ) -> Result<Vec<ScheduleEntry>, ScriptFault>
     requires some { 1 ≤ seats }
     requires few { seats ≤ 8 }
-    ensures outcome { Answers result (schedule_outcome seats bytes.now) }
+    ensures outcome { ReadsAs result (schedule_outcome seats bytes.now) }
 
     // The outcome, told of single lines: none is at fault, or the refusal names the first that is.
     ensures lines { IsOutcomeOf (entry_of seats) ENTRY_LIMIT bytes.now (schedule_outcome seats bytes.now) }

@@ -2,7 +2,7 @@
 ghost use Rattle.std.specs.Prelude.{◌≡◌, ◌≤◌, ◌∷◌, ℕ, List, All, IsTrue, IfOk, vec_len};
 ghost use Rattle.lin_report.specs.Commands.{is_command};
 ghost use Rattle.script_reader.specs.WordList.{AreWords};
-ghost use Rattle.script_reader.specs.Outcomes.{Answers};
+ghost use Rattle.script_reader.specs.Outcomes.{ReadsAs};
 ghost use Rattle.script_reader.specs.Scripts.{queue_command, set_command, map_command, command_named, op_of, op_from_words, command_of, COMMAND_LIMIT, script_outcome};
 ghost use Rattle.script_reader.specs.Faults.{IsOutcomeOf};
 
@@ -130,7 +130,7 @@ impl Grammar for Commands {
 
 /// The commands of a file for a client, or the first line at fault.
 pub fn read_script(alloc: Global, bytes: &[u8], client: Client) -> Result<Vec<Op>, ScriptFault>
-    ensures outcome { Answers result (script_outcome client bytes.now) }
+    ensures outcome { ReadsAs result (script_outcome client bytes.now) }
 
     // The outcome, told of single lines: none is at fault, or the refusal names the first that is.
     ensures lines { IsOutcomeOf (command_of client) COMMAND_LIMIT bytes.now (script_outcome client bytes.now) }
