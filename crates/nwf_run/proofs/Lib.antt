@@ -1,4 +1,8 @@
 pub mod FirstNamed
 pub mod Known
+pub mod CutFiles
+pub mod JudgedFiles
+pub mod Endings
 pub mod OneSeat
+pub mod Printable
 pub mod SeatCalls

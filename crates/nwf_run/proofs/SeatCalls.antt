@@ -9,7 +9,7 @@ use Rattle.lin_report.specs.declared.calls.Path.TheVariants.{Fast}
 use Rattle.lin_report.specs.Object.{queue_apply, queue_object}
 use Rattle.nwf_run.specs.declared.one_seat.OneSeat.{OneSeat}
 use Rattle.nwf_run.specs.Seat.{receipt_of}
-use Rattle.nwf_run.specs.Sequence.{sequential_receipts}
+use Rattle.lin_report.specs.Sequence.{sequential_receipts}
 use Rattle.nwf_run.specs.OneSeat.{StandsFor, puts_of, reply_to, words_after_call}
 use Rattle.nwf_run.proofs.OneSeat.{stands-ticked, call_stands}
 

@@ -1,11 +1,11 @@
 -- Which files the program accepts while it has one seat, and what it writes for them.
-use Rattle.std.specs.Prelude.{◌≡◌, ℕ, Bool, true, false, nat_le, if◌then◌else◌, List, [], length, take, sum_by, Option, Some, None, Result, Ok, Err}
+use Rattle.std.specs.Prelude.{◌≡◌, ℕ, Bool, true, false, nat_le, if◌then◌else◌, List, [], length, take, sum_by, IsTrue, ◌<◌, Option, Some, None, Result, Ok, Err}
 use Rattle.std.specs.List.{list_all}
 use Rattle.std.specs.Option.{option_map, option_and_then}
 use Rattle.lin_report.specs.declared.calls.Op.{Op}
 use Rattle.lin_report.specs.declared.calls.Client.TheVariants.{Queue}
+use Rattle.lin_report.specs.Commands.{is_queue_command, VALUE_LIMIT}
 use Rattle.lin_report.specs.Object.{queue_object}
-use Rattle.lin_report.specs.Calls.{Report}
 use Rattle.lin_report.specs.Text.{report_text}
 use Rattle.script_reader.specs.declared.causes.Refusal.{Refusal}
 use Rattle.script_reader.specs.declared.schedules.Span.{Span}
@@ -14,7 +14,12 @@ use Rattle.script_reader.specs.declared.schedules.ScheduleEntry.{ScheduleEntry}
 use Rattle.script_reader.specs.Schedules.{schedule_outcome}
 use Rattle.script_reader.specs.Scripts.{script_outcome}
 use Rattle.nwf_run.specs.OneSeat.{puts_of}
-use Rattle.nwf_run.specs.Sequence.{sequential_receipts}
+use Rattle.lin_report.specs.Sequence.{sequential_report}
+
+-- a command of the queue with its value in range
+pub record IsGood (op : Op) : Type 0 where
+  pub command : IsTrue (is_queue_command op)
+  pub value : op.value < VALUE_LIMIT
 
 abbrev pub is_to_end : Span → Bool
 is_to_end ToEnd = true
@@ -43,13 +48,9 @@ with_blocks cap (Err refusal) = None
 unfoldable pub file_commands : ℕ → List ℕ → Option (List Op)
 file_commands cap bytes = with_blocks cap (script_outcome Queue bytes)
 
--- the report of calls of one seat, each of them whole
-abbrev pub one_seat_report : List Op → Report
-one_seat_report ops = record { receipts = sequential_receipts queue_object 1 [] ops; pending = [] }
-
 -- the text that is written where so many calls are made of the commands
 abbrev pub one_seat_text : ℕ → List Op → List ℕ
-one_seat_text calls ops = report_text (one_seat_report (take calls ops)) (Some 0)
+one_seat_text calls ops = report_text (sequential_report queue_object (take calls ops)) (Some 0)
 
 -- the text that is written for the bytes of a schedule and of a command file, where both are accepted
 unfoldable pub replayed : ℕ → List ℕ → List ℕ → Option (List ℕ)

@@ -3,7 +3,7 @@ pub mod MemoryFiles
 pub mod MemorySink
 pub mod Words
 pub mod OneSeat
-pub mod Sequence
 pub mod Seat
 pub mod Accepted
 pub mod Judged
+pub mod Replaying

@@ -2,7 +2,7 @@
 ghost use Rattle.std.specs.Prelude.{◌≡◌, ◌≤◌, IfOk, All, length, sum_by, vec_len, IsTrue};
 ghost use Rattle.std.specs.List.{list_all};
 ghost use Rattle.lin_report.specs.Commands.{is_queue_command};
-ghost use Rattle.nwf_run.specs.Accepted.{makes_a_call, schedule_calls, file_commands};
+ghost use Rattle.nwf_run.specs.Accepted.{IsGood, makes_a_call, schedule_calls, file_commands};
 ghost use Rattle.nwf_run.specs.OneSeat.{puts_of};
 ghost use Rattle.nwf_run.specs.Judged.{Judges};
 
@@ -43,7 +43,7 @@ fn make_calls(entries: &[ScheduleEntry]) -> bool
 #[tactic(auto, unfolding(crate::specs::Accepted::file_commands))]
 pub fn accepted_commands(alloc: Global, bytes: &[u8], cap: u32) -> Result<Vec<Op>, Stop>
     ensures judged { Judges (λ ops. ops.items) result (file_commands cap bytes.now) }
-    ensures commands { IfOk result (λ ops. All (λ op. IsTrue (is_queue_command op)) ops.items) }
+    ensures good { IfOk result (λ ops. All IsGood ops.items) }
     ensures count { IfOk result (λ ops. vec_len ops ≤ 65535) }
     ensures puts { IfOk result (λ ops. sum_by puts_of ops.items ≤ cap) }
 {

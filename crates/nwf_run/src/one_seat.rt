@@ -5,7 +5,7 @@
 ghost use Rattle.std.specs.Prelude.{◌≡◌, ◌≤◌, ℕ, [], IfOk, sum_by, ◌+◌, ◌*◌, ◌%◌, ◌^◌, ◌<◌, ◌==◌, if◌then◌else◌, length, slice_index, slice_set};
 ghost use Rattle.word_fields.specs.Versioned.{packed_versioned, versioned_value};
 ghost use Rattle.lin_report.specs.Object.{queue_object};
-ghost use Rattle.nwf_run.specs.Sequence.{sequential_receipts};
+ghost use Rattle.lin_report.specs.Sequence.{sequential_receipts};
 ghost use Rattle.nwf_run.specs.OneSeat.{node_place_of, value_place_of, next_place_of, exchanged, node_filled, tail_moved, words_after_put, words_after_take, take_reply, puts_of, reply_to, words_after_call};
 
 use lin_report::calls::PUT;
@@ -201,15 +201,17 @@ impl OneSeat {
     }
 }
 
-/// The receipts of the operations, made one after another from an empty queue.
-pub fn make_calls(alloc: Global, ops: &[Op]) -> Result<Vec<Receipt>, NoMemory>
+/// The receipts of the operations, made one after another from an empty queue with so many blocks.
+pub fn make_calls(alloc: Global, cap: u32, ops: &[Op]) -> Result<Vec<Receipt>, NoMemory>
     requires calls { length ops.now ≤ 65535 }
+    requires cap { cap ≤ 65536 }
+    requires puts { sum_by puts_of ops.now ≤ cap }
     ensures { IfOk result (λ receipts. receipts.items ≡ sequential_receipts queue_object 1 [] ops.now) }
 {
     let Ok(mut receipts) = Vec::with_capacity(alloc, ops.len()) else {
         return Err(NoMemory);
     };
-    let mut seat = OneSeat::open(alloc, count_puts(ops))?;
+    let mut seat = OneSeat::open(alloc, cap)?;
     for op in ops {
         receipts.push_reserved(seat.call(*op));
     }

@@ -7,6 +7,7 @@ use script_reader::number_up_to;
 
 /// What the words of a replay say: how many blocks there are, how often a call may fail on its fast path,
 /// and the names of the files.
+#[derive(Clone, Copy, Debug)]
 pub struct ReplayWords<'a> {
     pub cap: u32,
     pub limit: u32,

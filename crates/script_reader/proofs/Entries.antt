@@ -159,3 +159,26 @@ entry_is seats (seat ∷ span ∷ []) entry e = by_tests (is_span span) (is_numb
     by_tests true false e = absurd cc
     by_tests false b e = absurd cc
 entry_is seats (seat ∷ span ∷ word ∷ words) entry e = absurd cc
+
+value_within : (code : ℕ) (numbers : Numbers) (words : List (List ℕ)) (op : Op) → op_from_words code numbers words ≡ Ok op → op.value ≤ GREATEST_VALUE
+value_within code NoNumber [] op e = let m = made code (Some 0) (Some 0) op e in let same : 0 ≡ op.value = cc in omega arith
+value_within code NoNumber (word ∷ words) op e = absurd cc
+value_within code OneValue [] op e = absurd cc
+value_within code OneValue (value ∷ []) op e = let m = made code (Some 0) (number_up_to GREATEST_VALUE value) op e in read_within GREATEST_VALUE value op.value m.value_is
+value_within code OneValue (value ∷ word ∷ words) op e = absurd cc
+value_within code OneKey [] op e = absurd cc
+value_within code OneKey (key ∷ []) op e = let m = made code (number_up_to GREATEST_KEY key) (Some 0) op e in let same : 0 ≡ op.value = cc in omega arith
+value_within code OneKey (key ∷ word ∷ words) op e = absurd cc
+value_within code KeyAndValue [] op e = absurd cc
+value_within code KeyAndValue (key ∷ []) op e = absurd cc
+value_within code KeyAndValue (key ∷ value ∷ []) op e = let m = made code (number_up_to GREATEST_KEY key) (number_up_to GREATEST_VALUE value) op e in read_within GREATEST_VALUE value op.value m.value_is
+value_within code KeyAndValue (key ∷ value ∷ word ∷ words) op e = absurd cc
+
+-- the value of a command is in range
+pub command_value : (client : Client) (words : List (List ℕ)) (op : Op) → command_of client words ≡ Ok op → op.value ≤ GREATEST_VALUE
+command_value client [] op e = absurd cc
+command_value client (word ∷ words) op e = by_name (command_named client word) e
+  where
+    by_name : (found : Option (ℕ × Numbers)) → command_from found words ≡ Ok op → op.value ≤ GREATEST_VALUE
+    by_name None e = absurd cc
+    by_name (Some command) e = value_within command.0 command.1 words op e

@@ -11,11 +11,11 @@ use Rattle.script_reader.specs.declared.causes.ScriptFault.{ScriptFault}
 use Rattle.script_reader.specs.declared.schedules.ScheduleEntry.{ScheduleEntry}
 use Rattle.script_reader.specs.Outcomes.{ReadsAs}
 use Rattle.script_reader.specs.Faults.{IsOutcomeOf}
-use Rattle.script_reader.specs.Scripts.{COMMAND_LIMIT, command_of, script_outcome}
+use Rattle.script_reader.specs.Scripts.{COMMAND_LIMIT, GREATEST_VALUE, command_of, script_outcome}
 use Rattle.script_reader.specs.Schedules.{ENTRY_LIMIT, entry_of, IsSpanInRange, schedule_outcome}
 use Rattle.script_reader.proofs.Faults.{accepted, refused}
 use Rattle.script_reader.proofs.Kept.{file_keeps}
-use Rattle.script_reader.proofs.Entries.{command_is, entry_is}
+use Rattle.script_reader.proofs.Entries.{command_is, command_value, entry_is}
 
 pub script_lines : (client : Client) (bytes : List ℕ) → IsOutcomeOf (command_of client) COMMAND_LIMIT bytes (script_outcome client bytes)
 unfolding script_outcome
@@ -26,6 +26,12 @@ unfolding script_outcome
 script_commands client bytes ops e =
     let kept = file_keeps (command_of client) COMMAND_LIMIT (λ op. IsTrue (is_command client op)) (command_is client) bytes ops e in
     (All-from_recursion (λ op. IsTrue (is_command client op)) ops kept.0, kept.1)
+
+pub script_values : (client : Client) (bytes : List ℕ) (ops : List Op) → script_outcome client bytes ≡ Ok ops → All (λ (op : Op). op.value ≤ GREATEST_VALUE) ops
+unfolding script_outcome
+script_values client bytes ops e =
+    let kept = file_keeps (command_of client) COMMAND_LIMIT (λ op. op.value ≤ GREATEST_VALUE) (command_value client) bytes ops e in
+    All-from_recursion (λ op. op.value ≤ GREATEST_VALUE) ops kept.0
 
 pub schedule_lines : (seats : ℕ) (bytes : List ℕ) → IsOutcomeOf (entry_of seats) ENTRY_LIMIT bytes (schedule_outcome seats bytes)
 unfolding schedule_outcome

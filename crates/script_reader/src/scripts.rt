@@ -3,7 +3,7 @@ ghost use Rattle.std.specs.Prelude.{◌≡◌, ◌≤◌, ◌∷◌, ℕ, List, 
 ghost use Rattle.lin_report.specs.Commands.{is_command};
 ghost use Rattle.script_reader.specs.WordList.{AreWords};
 ghost use Rattle.script_reader.specs.Outcomes.{ReadsAs};
-ghost use Rattle.script_reader.specs.Scripts.{queue_command, set_command, map_command, command_named, op_of, op_from_words, command_of, COMMAND_LIMIT, script_outcome};
+ghost use Rattle.script_reader.specs.Scripts.{queue_command, set_command, map_command, command_named, op_of, op_from_words, command_of, COMMAND_LIMIT, GREATEST_VALUE, script_outcome};
 ghost use Rattle.script_reader.specs.Faults.{IsOutcomeOf};
 
 use crate::causes::{Cause, ScriptFault};
@@ -135,6 +135,7 @@ pub fn read_script(alloc: Global, bytes: &[u8], client: Client) -> Result<Vec<Op
     // The outcome, told of single lines: none is at fault, or the refusal names the first that is.
     ensures lines { IsOutcomeOf (command_of client) COMMAND_LIMIT bytes.now (script_outcome client bytes.now) }
     ensures commands { IfOk result (λ v. All (λ op. IsTrue (is_command client op)) v.items) }
+    ensures values { IfOk result (λ v. All (λ op. op.value ≤ GREATEST_VALUE) v.items) }
     ensures count { IfOk result (λ v. vec_len v ≤ COMMAND_LIMIT) }
 {
     read_file(alloc, &Commands { client }, bytes)

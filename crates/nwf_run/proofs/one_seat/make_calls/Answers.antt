@@ -1,4 +1,5 @@
-use Rattle.std.proofs.Common.{◌≡◌, ◌<◌, ◌+◌, ◌++◌, ◌∷◌, [], length, drop, get_or, sum_by, sym, ap, ◌∙◌, subst, arith, append_assoc, add-one}
+use Rattle.std.proofs.Common.{◌≡◌, ◌<◌, ◌+◌, ◌++◌, ◌∷◌, [], length, drop, get_or, sum_by, sym, ap, ◌∙◌, subst, arith, append_assoc, add-one, ◌≤◌, List, rules, ℕ}
+use Rattle.nwf_run.specs.declared.one_seat.OneSeat.{OneSeat}
 use Rattle.std.proofs.Math.Seq.{drop-cons}
 use Rattle.std.proofs.lemmas.List.Sums.{sum_by-cons}
 use Rattle.lin_report.specs.declared.calls.Op.{Op}
@@ -6,9 +7,23 @@ use Rattle.lin_report.specs.declared.calls.Receipt.{Receipt}
 use Rattle.lin_report.specs.Object.{queue_object, queue_apply}
 use Rattle.nwf_run.specs.OneSeat.{puts_of}
 use Rattle.nwf_run.specs.Seat.{Holds}
-use Rattle.nwf_run.specs.Sequence.{sequential_receipts}
+use Rattle.lin_report.specs.Sequence.{sequential_receipts}
 use Rattle.nwf_run.proofs.SeatCalls.{next_receipts}
 use Rattle.nwf_run.proofs.one_seat.make_calls.Goals as goal
+
+-- room for more puts is room for fewer
+holds_fewer : (seat : OneSeat) (values : List ℕ) (more fewer : ℕ) → fewer ≤ more → Holds seat values more → Holds seat values fewer
+holds_fewer seat values more fewer le h = record { takes = h.takes; stands = h.stands; ticks = h.ticks; room = omega (arith, h.room); few = omega (arith, h.few); calls = h.calls }
+
+pub loop-op-init : goal.loop-op-init
+loop-op-init c = record {
+  values = [];
+  holds = holds_fewer c.in_ok-seat.seat [] c.args.cap (sum_by puts_of (drop 0 c.args.ops.now)) (omega arith) c.in_ok-seat.ensures.empty;
+  made = ap (λ l. l ++ sequential_receipts queue_object 1 [] c.args.ops.now) c.in-Ok.ensures.items;
+  calls = search rules;
+  count = search rules;
+  room = search rules;
+}
 
 pub loop-op-preserved : goal.loop-op-preserved
 loop-op-preserved c =

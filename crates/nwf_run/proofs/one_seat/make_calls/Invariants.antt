@@ -2,7 +2,7 @@ use Rattle.std.proofs.Common.{◌≡◌, ◌≤◌, ◌+◌, ◌++◌, ℕ, List
 use Rattle.lin_report.specs.Object.{queue_object}
 use Rattle.nwf_run.specs.OneSeat.{puts_of}
 use Rattle.nwf_run.specs.Seat.{Holds}
-use Rattle.nwf_run.specs.Sequence.{sequential_receipts}
+use Rattle.lin_report.specs.Sequence.{sequential_receipts}
 use Rattle.nwf_run.proofs.one_seat.make_calls.Given as goal
 
 -- the receipts so far, and those of what is left on what the seat holds, are those of all

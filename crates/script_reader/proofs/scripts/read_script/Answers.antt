@@ -1,8 +1,8 @@
-use Rattle.std.proofs.Common.{All}
+use Rattle.std.proofs.Common.{All, ◌≤◌}
 use Rattle.std.specs.Prelude.{IsTrue}
 use Rattle.lin_report.specs.Commands.{is_command}
-use Rattle.script_reader.specs.Scripts.{COMMAND_LIMIT, script_outcome}
-use Rattle.script_reader.proofs.Outcomes.{script_lines, script_commands, answered, counted}
+use Rattle.script_reader.specs.Scripts.{COMMAND_LIMIT, GREATEST_VALUE, script_outcome}
+use Rattle.script_reader.proofs.Outcomes.{script_lines, script_commands, script_values, answered, counted}
 use Rattle.script_reader.proofs.scripts.read_script.Goals as goal
 
 pub returns-clause-outcome : goal.returns-clause-outcome
@@ -23,3 +23,9 @@ unfolding script_outcome
 returns-clause-count c =
     counted COMMAND_LIMIT c.read_file.result (script_outcome c.args.client c.args.bytes.now)
     (λ ops e. (script_commands c.args.client c.args.bytes.now ops e).1) c.read_file.ensures
+
+pub returns-clause-values : goal.returns-clause-values
+unfolding script_outcome
+returns-clause-values c =
+    answered (All (λ op. op.value ≤ GREATEST_VALUE)) c.read_file.result (script_outcome c.args.client c.args.bytes.now)
+    (script_values c.args.client c.args.bytes.now) c.read_file.ensures
