@@ -231,7 +231,7 @@ fn files_of_the_host(rt: HostRuntime) -> Result<(), Fail> {
     assert_eq!(rt; files.start_file(name), Ok(()));
     assert_eq!(rt; files.read(&mut into), Ok(6));
     assert_eq!(rt; files.read(&mut into[6..]), Ok(0));
-    assert_eq!(rt; into[..6], *b"put 7\n");
+    assert_eq!(rt; &into[..6], b"put 7\n".as_slice());
     fs::remove_file(&rt, name)?;
     assert_eq!(rt; files.start_file(name), Err(Failed));
     let mut out = HostOut::new(&rt);
