@@ -42,8 +42,22 @@ pub const STATE_FIELD: u32 = 9;
 pub const VALUE_FIELD: u32 = 11;
 /// The first field of node 1.
 pub const NODE_FIELD: u32 = 12;
-/// How many fields a node has: key, value, next or left, right, update.
+/// How many fields a node has.
 pub const NODE_FIELDS: u32 = 5;
+/// The first field of what the tree notes of a change.
+pub const INFO_FIELD: u32 = 27;
+
+/// The field of a node that has its key.
+pub const NODE_KEY: u32 = 0;
+/// The field of a node that has its value.
+pub const NODE_VALUE: u32 = 1;
+/// The field of a node that has its next word, or its left child's.
+pub const NODE_NEXT: u32 = 2;
+/// The field of a node that has its right child's word.
+pub const NODE_RIGHT: u32 = 3;
+/// The field of a node that has its update word.
+pub const NODE_UPDATE: u32 = 4;
+
 /// How many references a block has: 0 is none, then its three nodes.
 pub const REFERENCES: u32 = 4;
 
