@@ -1,7 +1,7 @@
 -- Places of different blocks, fields and nodes differ, for proofs that leave the memory map closed.
-use Rattle.std.proofs.Common.{◌≡◌, ◌≢◌, ℕ, ◌+◌, ◌-◌, ◌*◌, ◌/◌, ◌%◌, ◌<◌, ◌≤◌, refl, arith}
+use Rattle.std.proofs.Common.{◌≡◌, ℕ, ◌+◌, ◌-◌, ◌*◌, ◌/◌, ◌%◌, ◌<◌, ◌≤◌, refl, arith}
 use Rattle.std.proofs.lemmas.Bool.Decides.{nat_tests}
-use Rattle.node_arena.specs.MemoryMap.{words_of, block_place, node_place, reference_to, node_named, block_at, field_at}
+use Rattle.node_arena.specs.MemoryMap.{words_of, block_place, node_place, reference_to, NamesNode, node_named, block_at, field_at}
 
 -- ---- blocks
 
@@ -58,7 +58,7 @@ pub block-reference_to : (block node : ℕ) → node < 4 → reference_to block 
 block-reference_to block node below = omega arith
 
 -- a reference that names a node is the reference to it
-pub reference_split : (reference : ℕ) → reference % 4 ≢ 0 → reference_to (reference / 4) (node_named reference) ≡ reference
+pub reference_split : (reference : ℕ) → NamesNode reference → reference_to (reference / 4) (node_named reference) ≡ reference
 unfolding node_named
 reference_split reference names = grind (arith, nat_tests)
 
@@ -82,11 +82,11 @@ unfolding node_place
 field_at-node_place reference field small =
     field_at-block_place (reference / 4) (12 + 5 * (node_named reference - 1) + field) (omega (arith, node_field_below reference field small))
 
-pub same_node : (reference field other at : ℕ) → field < 5 → at < 5 → reference % 4 ≢ 0 → other % 4 ≢ 0 → node_place reference field ≡ node_place other at → reference ≡ other
+pub same_node : (reference field other at : ℕ) → field < 5 → at < 5 → NamesNode reference → NamesNode other → node_place reference field ≡ node_place other at → reference ≡ other
 unfolding node_place block_place node_named
 same_node reference field other at small small' names names' e = grind (arith, nat_tests)
 
-pub same_node_field : (reference field other at : ℕ) → field < 5 → at < 5 → reference % 4 ≢ 0 → other % 4 ≢ 0 → node_place reference field ≡ node_place other at → field ≡ at
+pub same_node_field : (reference field other at : ℕ) → field < 5 → at < 5 → NamesNode reference → NamesNode other → node_place reference field ≡ node_place other at → field ≡ at
 unfolding node_place block_place node_named
 same_node_field reference field other at small small' names names' e = grind (arith, nat_tests)
 

@@ -1,5 +1,5 @@
--- The memory of a run: 32 words for all, then blocks 0 to cap of 32 words each.
-use Rattle.std.specs.Prelude.{ℕ, ◌+◌, ◌-◌, ◌*◌, ◌/◌, ◌%◌, ◌==◌, if◌then◌else◌}
+-- The memory of a run: 32 first words, then blocks 0 to cap of 32 words each.
+use Rattle.std.specs.Prelude.{◌≢◌, ℕ, ◌+◌, ◌-◌, ◌*◌, ◌/◌, ◌%◌, ◌==◌, if◌then◌else◌}
 
 -- how many words there are
 abbrev pub words_of : ℕ → ℕ
@@ -24,6 +24,10 @@ block_place block field = 32 + 32 * block + field
 -- a reference to a node, 1 to 3, of a block; the reference 0 is null
 abbrev pub reference_to : ℕ → ℕ → ℕ
 reference_to block node = 4 * block + node
+
+-- the reference names a node of its block
+abbrev pub NamesNode : ℕ → Type 0
+NamesNode reference = reference % 4 ≢ 0
 
 -- the node that a reference names in its block; a reference that names none is read as node 1
 unfoldable pub node_named : ℕ → ℕ

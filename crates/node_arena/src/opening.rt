@@ -28,7 +28,8 @@ pub fn opening_words(alloc: Global, cap: u32, client: Client) -> Result<Vec<u64>
     requires cap_in_range { cap ≤ 65536 }
     ensures words { IfOk result (λ words. words.items ≡ opening_words client cap) }
     ensures length { IfOk result (λ words. vec_len words ≡ words_of cap) }
-    ensures each { IfOk result (λ words. (place : ℕ) → place < words_of cap → slice_index words.items place ≡ opening_word client place) }
+    ensures each { IfOk result (λ words. (place : ℕ) → place < words_of cap →
+        slice_index words.items place ≡ opening_word client place) }
 {
     let mut words = zeros(alloc, cap)?;
     if client != Client::Queue {

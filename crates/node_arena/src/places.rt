@@ -1,7 +1,7 @@
-//! The memory map: 32 words for all, of which 24 are two op words and a record word for each seat, and
-//! then blocks of 32 words.
-ghost use Rattle.std.specs.Prelude.{◌≡◌, ◌≢◌, ℕ, ◌+◌, ◌*◌, ◌/◌, ◌%◌, ◌^◌, ◌<◌, ◌≤◌};
-ghost use Rattle.node_arena.specs.MemoryMap.{block_place, reference_to, node_named, node_place, op_place, record_place, value_place, words_of};
+//! The memory map: 32 first words, with an op word, a record word and a value word for each seat among
+//! them, and then blocks of 32 words.
+ghost use Rattle.std.specs.Prelude.{◌≡◌, ℕ, ◌+◌, ◌*◌, ◌/◌, ◌%◌, ◌^◌, ◌<◌, ◌≤◌};
+ghost use Rattle.node_arena.specs.MemoryMap.{block_place, reference_to, NamesNode, node_named, node_place, op_place, record_place, value_place, words_of};
 
 /// The place of the tick counter.
 pub const TICKS: u32 = 0;
@@ -82,8 +82,10 @@ pub fn node_place(reference: u32, field: u32) -> u32
     ensures place { result ≡ node_place reference field }
     ensures behind_first { 32 ≤ result }
     ensures inside { (cap : ℕ) → reference / 4 ≤ cap → result < words_of cap }
-    ensures in_block { (block at : ℕ) → at < 32 → block_place block at ≡ result → (block ≡ reference / 4) × (12 ≤ at) × (at < 27) }
-    ensures apart { (other at : ℕ) → at < 5 → reference % 4 ≢ 0 → other % 4 ≢ 0 → node_place other at ≡ result → (other ≡ reference) × (at ≡ field) }
+    ensures in_block { (block at : ℕ) → at < 32 → block_place block at ≡ result →
+        (block ≡ reference / 4) × (12 ≤ at) × (at < 27) }
+    ensures apart { (other at : ℕ) → at < 5 → NamesNode reference → NamesNode other →
+        node_place other at ≡ result → (other ≡ reference) × (at ≡ field) }
 {
     let node = match reference % REFERENCES {
         0 => 1,

@@ -1,13 +1,12 @@
 //! The steps on the words of a seat.
-ghost use Rattle.std.specs.Prelude.{◌≡◌, ◌≢◌, ℕ, ◌<◌, ◌≤◌, ◌^◌, IsTrue, Some};
+ghost use Rattle.std.specs.Prelude.{◌≡◌, ◌≢◌, ℕ, ◌<◌, ◌≤◌, ◌^◌, Some};
 ghost use Rattle.step_memory.specs.declared.steps.Request.{Request};
-ghost use Rattle.step_memory.specs.Step.{word_after, seen_at};
 ghost use Rattle.word_fields.specs.declared.records.Phase.{Phase};
 ghost use Rattle.word_fields.specs.Announced.{op_word, value_word};
 ghost use Rattle.word_fields.specs.Records.{record_word, record_number, packed_record, record_of};
 ghost use Rattle.node_arena.specs.MemoryMap.{op_place, value_place, record_place};
 ghost use Rattle.op_record.specs.Outcomes.{FitsPayload, outcome_of, completed_word};
-ghost use Rattle.op_record.specs.Progress.{IsEarlier};
+ghost use Rattle.op_record.specs.Progress.{IsEarlier, GoesOn, GoesOnWhereWon};
 
 use crate::outcomes::payload_of;
 use lin_report::{Op, Outcome};
@@ -53,7 +52,7 @@ pub fn announce(seat: u32, number: u16) -> Request
     requires seat { seat < 8 }
     requires number { 1 ≤ number }
     ensures request { result ≡ Request.Store (record_place seat) (record_word Phase.Generate number 0 0) }
-    ensures later { (word : ℕ) → record_number word < number → IsEarlier (record_of word) (record_of (word_after result word)) }
+    ensures later { (word : ℕ) → record_number word < number → GoesOn result word }
 {
     let word = RecordWord {
         phase: Phase::Generate,
@@ -71,7 +70,7 @@ pub fn announce(seat: u32, number: u16) -> Request
 pub fn advance(seat: u32, from: RecordWord, to: RecordWord) -> Request
     requires { seat < 8 }
     ensures request { result ≡ Request.Exchange (record_place seat) (packed_record from) (packed_record to) }
-    ensures later { (word : ℕ) → IsTrue (seen_at result word).won → IsEarlier from to → IsEarlier (record_of word) (record_of (word_after result word)) }
+    ensures later { IsEarlier from to → GoesOnWhereWon result }
 {
     Request::Exchange {
         at: record_place(seat),
@@ -86,7 +85,7 @@ pub fn complete(seat: u32, from: RecordWord, outcome: Outcome) -> Request
     requires seat { seat < 8 }
     requires fits { FitsPayload outcome }
     ensures request { result ≡ Request.Exchange (record_place seat) (packed_record from) (completed_word from outcome) }
-    ensures later { (word : ℕ) → IsTrue (seen_at result word).won → from.phase ≢ Phase.Completed → IsEarlier (record_of word) (record_of (word_after result word)) }
+    ensures later { from.phase ≢ Phase.Completed → GoesOnWhereWon result }
     ensures tells { outcome_of (record_of (completed_word from outcome)) ≡ Some outcome }
 {
     let to = RecordWord {
