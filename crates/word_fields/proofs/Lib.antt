@@ -1,3 +1,4 @@
+pub mod Ranges
 pub mod FieldLemmas
 pub mod VersionedLemmas
 pub mod QueueLemmas

@@ -8,6 +8,7 @@ use Rattle.std.proofs.lemmas.List.Folds.{Any-from_list_any}
 use Rattle.std.proofs.lemmas.List.Elements.{All-drop}
 use mathlib.Core.HLevel.{is_prop→PathP}
 use Rattle.std.proofs.Props.{props}
+use Rattle.word_fields.proofs.Ranges.{below_prop}
 use Rattle.word_fields.specs.declared.queues.QueueWord.{QueueWord}
 use Rattle.word_fields.specs.Fields.{field_of, with_field}
 use Rattle.word_fields.specs.Seats.{AreSeats, ReadsSeats, NamesNoOther, places_of, names_another, seats_named, queue_seats, seats_word}
@@ -156,16 +157,13 @@ queue_word_put seats version are = omega (arith, seats_word_below 8 seats are.fi
 are_prop : (seats : List ℕ) → IsProp (AreSeats seats)
 are_prop seats = hlevel props
 
-below_prop : (n : ℕ) → IsProp (n < 2 ^ 32)
-below_prop n = hlevel props
-
 -- queue words with the same seats and version are the same
 same_queue : (v u : QueueWord) → v.seats.items ≡ u.seats.items → v.version ≡ u.version → v ≡ u
 same_queue v u seats version = λ i. record {
   seats = record { items = seats i };
   version = version i;
   are_seats = is_prop→PathP (λ j. AreSeats (seats j)) (λ j. are_prop (seats j)) v.are_seats u.are_seats i;
-  version_in_range = is_prop→PathP (λ j. version j < 2 ^ 32) (λ j. below_prop (version j)) v.version_in_range u.version_in_range i;
+  version_in_range = is_prop→PathP (λ j. version j < 2 ^ 32) (λ j. below_prop (version j) (2 ^ 32)) v.version_in_range u.version_in_range i;
 }
 
 -- what was packed is unpacked again

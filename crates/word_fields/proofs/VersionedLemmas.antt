@@ -1,6 +1,10 @@
 -- What the fields of a versioned word are after each change, for proofs that leave its layout closed.
-use Rattle.std.proofs.Common.{◌≡◌, ◌≢◌, ℕ, ◌+◌, ◌*◌, ◌%◌, ◌^◌, ◌<◌, arith}
-use Rattle.word_fields.specs.Versioned.{versioned_value, versioned_bit, versioned_version, versioned_word, changed_word, marked_word, cleared_word}
+use Rattle.std.proofs.Common.{◌≡◌, ◌≢◌, ℕ, zero, suc, ◌+◌, ◌*◌, ◌%◌, ◌^◌, ◌<◌, Bool, true, false, refl, ap, ◌∙◌, arith}
+use mathlib.Core.HLevel.{is_prop→PathP}
+use Rattle.std.specs.Prelude.{◌==◌}
+use Rattle.word_fields.proofs.Ranges.{below_prop}
+use Rattle.word_fields.specs.declared.versioned.VersionedWord.{VersionedWord}
+use Rattle.word_fields.specs.Versioned.{packed_versioned, versioned_of, bit_of, versioned_value, versioned_bit, versioned_version, versioned_word, changed_word, marked_word, cleared_word}
 
 -- ---- the fields of any word
 
@@ -133,6 +137,47 @@ bit-word value bit version small one = omega arith
 pub version-word : (value bit version : ℕ) → value < 2 ^ 24 → bit < 2 → versioned_version (versioned_word value bit version) ≡ version
 unfolding versioned_version versioned_word
 version-word value bit version small one = omega arith
+
+bit_of_below : (b : Bool) → bit_of b < 2
+bit_of_below true = omega arith
+bit_of_below false = omega arith
+
+bit_from_test : (b : ℕ) → b < 2 → bit_of (b == 1) ≡ b
+bit_from_test zero h = refl
+bit_from_test (suc zero) h = refl
+bit_from_test (suc (suc b)) h = absurd (omega arith)
+
+is_set : (b : Bool) → (bit_of b == 1) ≡ b
+is_set true = refl
+is_set false = refl
+
+same_versioned : (v u : VersionedWord) → v.value ≡ u.value → v.modified ≡ u.modified → v.version ≡ u.version → v ≡ u
+same_versioned v u value modified version = λ i. record {
+  value = value i;
+  modified = modified i;
+  version = version i;
+  value_in_range = is_prop→PathP (λ j. value j < 2 ^ 24) (λ j. below_prop (value j) (2 ^ 24)) v.value_in_range u.value_in_range i;
+  version_in_range = is_prop→PathP (λ j. version j < 2 ^ 39) (λ j. below_prop (version j) (2 ^ 39)) v.version_in_range u.version_in_range i;
+}
+
+-- what was packed is unpacked again
+pub versioned_of-packed : (v : VersionedWord) → versioned_of (packed_versioned v) ≡ v
+versioned_of-packed v =
+    let bit = bit_of_below v.modified in
+    let version = version-word v.value (bit_of v.modified) v.version v.value_in_range bit in
+    let whole : v.version % 2 ^ 39 ≡ v.version = omega (arith, v.version_in_range) in
+    same_versioned (versioned_of (packed_versioned v)) v
+    (value-word v.value (bit_of v.modified) v.version v.value_in_range bit)
+    (ap (λ b. b == 1) (bit-word v.value (bit_of v.modified) v.version v.value_in_range bit) ∙ is_set v.modified)
+    (ap (λ n. n % 2 ^ 39) version ∙ whole)
+
+-- what is unpacked is packed again: all bits of a word are in its fields
+pub packed-versioned_of : (w : ℕ) → w < 2 ^ 64 → packed_versioned (versioned_of w) ≡ w
+unfolding versioned_word
+packed-versioned_of w fits =
+    let bit = bit_from_test (versioned_bit w) (bit_below w) in
+    let whole : versioned_version w % 2 ^ 39 ≡ versioned_version w = omega (arith, version_below w fits) in
+    rw (bit, whole) (word-split w)
 
 -- the equations above, for `grind` and `simp`
 pub ruleset versioned_words = (value-changed, bit-changed, version-changed, value-marked, bit-marked, version-marked, value-cleared, bit-cleared, version-cleared, cleared-marked, marked-cleared, cleared-changed, changed-marked, changed-cleared, value-word, bit-word, version-word)

@@ -32,7 +32,8 @@ impl<const AT: u32, const WIDTH: u32> Field<AT, WIDTH> {
         requires in_range { value < 2 ^ WIDTH }
         ensures exact { result ≡ with_field AT WIDTH word value }
         ensures read_back { field_of AT WIDTH result ≡ value }
-        ensures others_stay { (at width : ℕ) → IsApart at width AT WIDTH → field_of at width result ≡ field_of at width word }
+        ensures others_stay { (at width : ℕ) → IsApart at width AT WIDTH →
+            field_of at width result ≡ field_of at width word }
     {
         (word & !(Self::mask() << AT)) | (value << AT)
     }

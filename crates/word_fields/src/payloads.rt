@@ -42,6 +42,7 @@ pub fn pack_wrapping(block: u32, stop: u32) -> u32
     ensures payload { result ≡ wrapping_payload block stop }
     ensures block { payload_block result ≡ block }
     ensures stop { payload_stop result ≡ stop }
+    ensures in_range { result < 2 ^ 19 }
 {
     PayloadStop::put(PayloadBlock::put(0, u64::from(block)), u64::from(stop)) as u32
 }
@@ -73,6 +74,7 @@ pub fn pack_reply(kind: u32, value: u32) -> u32
     ensures kind { reply_kind result ≡ kind }
     ensures value { reply_value result ≡ value }
     ensures reply { IsTrue (Payloads.is_reply result) }
+    ensures in_range { result < 2 ^ 23 }
 {
     ReplyValue::put(ReplyKind::put(0, u64::from(kind)), u64::from(value)) as u32
 }

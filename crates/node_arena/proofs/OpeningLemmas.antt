@@ -1,0 +1,40 @@
+-- Zeros, and the queue's two words among them, are the opening words.
+use Rattle.std.proofs.Common.{◌≡◌, ℕ, ◌<◌, ◌≤◌, length, get_or, set, arith, ◌∙◌, zero-add, length-set}
+use Rattle.std.specs.Prelude.{replicate, slice_index}
+use Rattle.std.proofs.lemmas.Grind.{common_steps}
+use Rattle.std.proofs.lemmas.Bool.Decides.{nat_tests}
+use Rattle.std.proofs.lemmas.List.{get_or-replicate, length-replicate}
+use Rattle.std.proofs.lemmas.List.FromFn.{fill_by_all, get_or-map-range_with_len, length-map-range_with_len}
+use Rattle.lin_report.specs.declared.calls.Client.{Client}
+use Rattle.lin_report.specs.declared.calls.Client.TheVariants as client
+use Rattle.node_arena.specs.MemoryMap.{words_of}
+use Rattle.node_arena.specs.Opening.{dummy_word, opening_word, opening_words}
+
+queue_each : (n place : ℕ) → 32 ≤ n → place < n → get_or (set (set (replicate n 0) 20 dummy_word) 21 dummy_word) place 0 ≡ opening_word client.Queue place
+unfolding opening_word
+queue_each n place many within = grind (arith, common_steps, nat_tests)
+
+list_each : (n place : ℕ) → place < n → get_or (replicate n 0) place 0 ≡ opening_word client.List place
+unfolding opening_word
+list_each n place within = get_or-replicate n place 0 0 within
+
+-- the opening words of the queue
+pub queue_opening : (cap : ℕ) → set (set (replicate (words_of cap) 0) 20 dummy_word) 21 dummy_word ≡ opening_words client.Queue cap
+queue_opening cap =
+    let n = words_of cap in
+    let whole : length (set (set (replicate n 0) 20 dummy_word) 21 dummy_word) ≡ n =
+    length-set (set (replicate n 0) 20 dummy_word) 21 dummy_word ∙ length-set (replicate n 0) 20 dummy_word ∙ length-replicate n 0 in
+    fill_by_all (opening_word client.Queue) _ n 0 whole (λ place within. queue_each n place (omega arith) within)
+
+-- those of the list
+pub list_opening : (cap : ℕ) → replicate (words_of cap) 0 ≡ opening_words client.List cap
+list_opening cap = fill_by_all (opening_word client.List) _ (words_of cap) 0 (length-replicate (words_of cap) 0) (λ place within. list_each (words_of cap) place within)
+
+-- each of the opening words is in its place
+pub opening_each : (c : Client) (cap place : ℕ) → place < words_of cap → slice_index (opening_words c cap) place ≡ opening_word c place
+opening_each c cap place within = get_or-map-range_with_len (opening_word c) 0 (words_of cap) place place 0 within (zero-add place)
+
+pub length-opening_words : (c : Client) (cap : ℕ) → length (opening_words c cap) ≡ words_of cap
+length-opening_words c cap = length-map-range_with_len (opening_word c) 0 (words_of cap)
+
+pub ruleset opening = (queue_opening, list_opening, opening_each, length-opening_words)

@@ -1,0 +1,2 @@
+pub mod MemoryMap
+pub mod Opening
