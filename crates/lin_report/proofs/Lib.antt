@@ -9,3 +9,5 @@ pub mod Maps
 pub mod Sequences
 pub mod Ticks
 pub mod Alone
+pub mod Replies
+pub mod Written

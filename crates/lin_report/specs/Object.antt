@@ -20,6 +20,11 @@ pub record Object : Type 1 where
   pub apply : Op → Held → Held × Reply
   pub serves : Op → Bool
 
+-- what is held after operations
+abbrev pub held_after : (object : Object) → object.Held → List Op → object.Held
+held_after object held [] = held
+held_after object held (op ∷ ops) = held_after object (object.apply op held).0 ops
+
 -- yes where it is so
 abbrev pub yes_if : Bool → Reply
 yes_if true = Yes

@@ -4,25 +4,18 @@ use Rattle.std.specs.Prelude.{◌≢◌, ℕ, ◌<◌, ◌≤◌, Option, IfSome
 use Rattle.std.specs.List.Sorted.{IsNonDecreasingBy}
 use Rattle.lin_report.specs.declared.calls.Op.{Op}
 use Rattle.lin_report.specs.declared.calls.Reply.{Reply}
-use Rattle.lin_report.specs.declared.calls.Reply.TheVariants.{Value}
 use Rattle.lin_report.specs.declared.calls.Receipt.{Receipt}
 use Rattle.lin_report.specs.declared.calls.PendingCall.{PendingCall}
-use Rattle.lin_report.specs.Commands.{is_some_command, may_answer, VALUE_LIMIT}
+use Rattle.lin_report.specs.Commands.{is_some_command, IsReplyTo, VALUE_LIMIT}
 use Rattle.lin_report.specs.Calls.{Call, Report, calls_of}
 
 -- ticks are below this: eight seats make at most 65,535 calls each, of two ticks
 abbrev pub TICK_LIMIT : ℕ
 TICK_LIMIT = 1048576
 
--- the value that a reply tells, or 0
-abbrev pub told_value : Reply → ℕ
-told_value (Value value) = value
-told_value _ = 0
-
 -- the answer is one that the operation may be given, at a tick in range
 pub record IsPrintableAnswer (op : Op) (answer : Reply × ℕ) : Type 0 where
-  pub reply : IsTrue (may_answer op answer.0)
-  pub value : told_value answer.0 < VALUE_LIMIT
+  pub reply : IsReplyTo op answer.0
   pub end : answer.1 < TICK_LIMIT
 
 -- a command of some client, so with its key in range, by one of eight seats, with the rest in range too

@@ -1,5 +1,5 @@
 //! Laws over the definitions, each the contract of a function that does nothing.
-ghost use Rattle.lin_report.specs.Sequence.{SequentialReportIsReport, SequentialReportIsLinearizable};
+ghost use Rattle.lin_report.specs.Sequence.{SequentialReportIsReport, SequentialReportIsLinearizable, SequentialReportCanBeWritten, RepliesFitCommands};
 
 /// What one seat did alone, one operation after another, is a report over its file.
 pub fn sequential_report_is_report()
@@ -9,4 +9,14 @@ pub fn sequential_report_is_report()
 /// What one seat did alone, one operation after another, is linearizable.
 pub fn sequential_report_is_linearizable()
     ensures { SequentialReportIsLinearizable }
+{}
+
+/// What one seat did alone can be written, where its operations are commands of one client.
+pub fn sequential_report_can_be_written()
+    ensures { SequentialReportCanBeWritten }
+{}
+
+/// Each client's object gives a command one of the replies that the command may be given.
+pub fn replies_fit_commands()
+    ensures { RepliesFitCommands }
 {}
