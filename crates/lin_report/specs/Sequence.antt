@@ -6,7 +6,7 @@ use Rattle.lin_report.specs.declared.calls.Path.TheVariants.{Fast}
 use Rattle.lin_report.specs.declared.calls.Receipt.{Receipt}
 use Rattle.lin_report.specs.Commands.{IsCommandOf, IsReplyTo}
 use Rattle.lin_report.specs.Object.{Object, object_of, held_after}
-use Rattle.lin_report.specs.Calls.{Report}
+use Rattle.lin_report.specs.Calls.{Report, report_of}
 use Rattle.lin_report.specs.Report.{IsReport}
 use Rattle.lin_report.specs.Linearizable.{IsLinearizable}
 use Rattle.lin_report.specs.Writing.{CanWrite}
@@ -21,7 +21,7 @@ sequential_receipts object number held (op ∷ ops) =
 
 -- no call is pending
 abbrev pub sequential_report : Object → List Op → Report
-sequential_report object ops = record { receipts = sequential_receipts object 1 object.empty ops; pending = [] }
+sequential_report object ops = report_of (sequential_receipts object 1 object.empty ops) []
 
 -- it is a report over the one file of these operations, whatever the client
 abbrev pub SequentialReportIsReport : Type 0

@@ -1,6 +1,6 @@
 -- What the writers of the report ask of the calls that they are given, so that the line of each call has
 -- at most 64 bytes and the summary line at most 128.
-use Rattle.std.specs.Prelude.{◌≢◌, ℕ, ◌<◌, ◌≤◌, Option, IfSome, AllPairs, All, IsTrue}
+use Rattle.std.specs.Prelude.{◌≢◌, ℕ, ◌+◌, ◌*◌, ◌<◌, ◌≤◌, length, Option, IfSome, AllPairs, All, IsTrue}
 use Rattle.std.specs.List.Sorted.{IsNonDecreasingBy}
 use Rattle.lin_report.specs.declared.calls.Op.{Op}
 use Rattle.lin_report.specs.declared.calls.Reply.{Reply}
@@ -8,6 +8,7 @@ use Rattle.lin_report.specs.declared.calls.Receipt.{Receipt}
 use Rattle.lin_report.specs.declared.calls.PendingCall.{PendingCall}
 use Rattle.lin_report.specs.Commands.{is_some_command, IsReplyTo, VALUE_LIMIT}
 use Rattle.lin_report.specs.Calls.{Call, Report, calls_of}
+use Rattle.lin_report.specs.Text.{report_text, summary_text}
 
 -- ticks are below this: eight seats make at most 65,535 calls each, of two ticks
 abbrev pub TICK_LIMIT : ℕ
@@ -36,3 +37,9 @@ pub record CanWrite (report : Report) (count : Option ℕ) : Type 0 where
   pub apart : AllPairs (λ c d. c.begin ≢ d.begin) (calls_of report)
   pub printable : All IsPrintable (calls_of report)
   pub overtaken : IfSome count (λ most. most ≤ 524280)
+
+-- what is written fits the room that is asked for: 64 bytes for each call, and 128 for the summary line
+abbrev pub ReportTextFits : Type 0
+ReportTextFits =
+    (report : Report) (count : Option ℕ) → CanWrite report count
+    → (length (report_text report count) ≤ 64 * length (calls_of report) + 128) × (length (summary_text report count) ≤ 128)
