@@ -15,14 +15,14 @@ use Rattle.lin_report.proofs.Ticks.{each_tick, length-ticks}
 use Rattle.lin_report.proofs.Sequences.{IsPlaced, placed, length-sequential_receipts}
 
 -- a receipt to look up with
-some_receipt : Receipt
+pub some_receipt : Receipt
 some_receipt = record { seat = 0; number = 0; op = record { code = 0; key = 0; value = 0 }; reply = Yes; begin = 0; end = 0; path = Fast }
 
 -- the k-th call is an answered one in its place
-record IsPlacedCall (ops : List Op) (k : ℕ) (c : Call) : Type 0 where
-  receipt : Receipt
-  is : c ≡ answered_call receipt
-  place : IsPlaced ops 1 k receipt
+pub record IsPlacedCall (ops : List Op) (k : ℕ) (c : Call) : Type 0 where
+  pub receipt : Receipt
+  pub is : c ≡ answered_call receipt
+  pub place : IsPlaced ops 1 k receipt
 
 command_of : (ops : List Op) (k : ℕ) (r : Receipt) → IsPlaced ops 1 k r → IsCommand (ops ∷ []) (answered_call r)
 command_of ops k r place =
@@ -33,19 +33,19 @@ command_of ops k r place =
     }
 
 module _ (object : Object) (answers : (op : Op) (held : object.Held) → (object.apply op held).1 ≢ Exhausted) (ops : List Op) where
-  abbrev alone : Report
+  abbrev pub alone : Report
   alone = sequential_report object ops
 
-  many : length alone.receipts ≡ length ops
+  pub many : length alone.receipts ≡ length ops
   many = length-sequential_receipts object answers 1 object.empty ops
 
-  many_calls : length (calls_of alone) ≡ length ops
+  pub many_calls : length (calls_of alone) ≡ length ops
   many_calls = count_of_calls alone ∙ omega (arith, many)
 
-  receipt_at : (k : ℕ) (d : Receipt) → k < length alone.receipts → IsPlaced ops 1 k (get_or alone.receipts k d)
+  pub receipt_at : (k : ℕ) (d : Receipt) → k < length alone.receipts → IsPlaced ops 1 k (get_or alone.receipts k d)
   receipt_at k d within = placed object answers 1 object.empty ops k d (omega (arith, many))
 
-  call_at : (k : ℕ) (d : Call) → k < length (calls_of alone) → IsPlacedCall ops k (get_or (calls_of alone) k d)
+  pub call_at : (k : ℕ) (d : Call) → k < length (calls_of alone) → IsPlacedCall ops k (get_or (calls_of alone) k d)
   call_at k d within = record {
     receipt = get_or alone.receipts k some_receipt;
     is = call_at_answered alone k some_receipt d (omega (arith, many, many_calls));

@@ -11,9 +11,9 @@ use Rattle.lin_report.specs.declared.calls.Path.TheVariants.{Fast, Slow}
 use Rattle.lin_report.specs.declared.calls.Receipt.{Receipt}
 use Rattle.lin_report.specs.declared.calls.PendingCall.{PendingCall}
 use Rattle.lin_report.specs.declared.calls.TheConstants.{TAKE, GET}
-use Rattle.lin_report.specs.Commands.{is_some_command, may_answer, KEY_LIMIT, VALUE_LIMIT}
+use Rattle.lin_report.specs.Commands.{is_some_command, may_answer, told_value, KEY_LIMIT, VALUE_LIMIT}
 use Rattle.lin_report.specs.Calls.{answered_call, pending_call}
-use Rattle.lin_report.specs.Writing.{IsPrintable, TICK_LIMIT, told_value}
+use Rattle.lin_report.specs.Writing.{IsPrintable, TICK_LIMIT}
 use Rattle.lin_report.specs.Text.{SPACE, NEWLINE, spaced, command_words, reply_words, path_word, call_line}
 use Rattle.lin_report.proofs.Lines.{length_answered, length_pending}
 
@@ -74,7 +74,7 @@ answered_length r can =
       arith,
       length_answered r,
       request_length r.seat r.number r.op can.seat can.number,
-      exchange_length r.op r.reply can.command can.value can.answer.reply can.answer.value,
+      exchange_length r.op r.reply can.command can.value can.answer.reply.named can.answer.reply.value,
       tick_length r.begin can.begin,
       tick_length r.end can.answer.end,
       ending_length r.path,

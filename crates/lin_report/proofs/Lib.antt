@@ -2,6 +2,7 @@ pub mod Rooms
 pub mod Lines
 pub mod Lengths
 pub mod Sorting
+pub mod Sorted
 pub mod Merging
 pub mod Summaries
 pub mod Sets
@@ -9,3 +10,6 @@ pub mod Maps
 pub mod Sequences
 pub mod Ticks
 pub mod Alone
+pub mod Replies
+pub mod Written
+pub mod Fits

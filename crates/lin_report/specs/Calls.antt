@@ -15,9 +15,11 @@ pub record Call : Type 0 where
   pub begin : ℕ
   pub path : Path
 
+-- an answered call, by its receipt
 abbrev pub answered_call : Receipt → Call
 answered_call r = record { seat = r.seat; number = r.number; op = r.op; answer = Some (r.reply, r.end); begin = r.begin; path = r.path }
 
+-- a call without an answer
 abbrev pub pending_call : PendingCall → Call
 pending_call p = record { seat = p.seat; number = p.number; op = p.op; answer = None; begin = p.begin; path = p.path }
 
@@ -26,6 +28,11 @@ pub record Report : Type 0 where
   pub receipts : List Receipt
   pub pending : List PendingCall
 
+-- the report of two slices, as the writers of the report are given it
+abbrev pub report_of : List Receipt → List PendingCall → Report
+report_of receipts pending = record { receipts = receipts; pending = pending }
+
+-- all its calls, the answered ones first
 abbrev pub calls_of : Report → List Call
 calls_of report = map answered_call report.receipts ++ map pending_call report.pending
 

@@ -1,6 +1,6 @@
 -- Which operations the commands are, and which replies each may be given. An operation has 0 in each
 -- number that its command doesn't take.
-use Rattle.std.specs.Prelude.{ℕ, Bool, ◌==◌, ◌||◌, ◌&&◌, not, nat_lt}
+use Rattle.std.specs.Prelude.{ℕ, ◌<◌, Bool, IsTrue, ◌==◌, ◌||◌, ◌&&◌, not, nat_lt}
 use Rattle.lin_report.specs.declared.calls.Client.{Client}
 use Rattle.lin_report.specs.declared.calls.Client.TheVariants.{Queue, List, Tree, Buckets}
 use Rattle.lin_report.specs.declared.calls.Op.{Op}
@@ -43,6 +43,11 @@ is_command List op = is_set_command op
 is_command Buckets op = is_set_command op
 is_command Tree op = is_map_command op
 
+-- a command of the client, with its value in range
+pub record IsCommandOf (client : Client) (op : Op) : Type 0 where
+  pub command : IsTrue (is_command client op)
+  pub value : op.value < VALUE_LIMIT
+
 -- a command of one client or another
 abbrev pub is_some_command : Op → Bool
 is_some_command op = is_queue_command op || is_set_command op || is_map_command op
@@ -68,3 +73,13 @@ may_answer op (Value value) = op.code == TAKE || op.code == GET
 may_answer op Empty = op.code == TAKE
 may_answer op Absent = op.code == GET
 may_answer op Exhausted = may_exhaust op
+
+-- the value that a reply tells, or 0
+abbrev pub told_value : Reply → ℕ
+told_value (Value value) = value
+told_value _ = 0
+
+-- a reply that the operation may be given, with its value in range
+pub record IsReplyTo (op : Op) (reply : Reply) : Type 0 where
+  pub named : IsTrue (may_answer op reply)
+  pub value : told_value reply < VALUE_LIMIT

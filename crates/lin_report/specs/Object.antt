@@ -20,6 +20,11 @@ pub record Object : Type 1 where
   pub apply : Op → Held → Held × Reply
   pub serves : Op → Bool
 
+-- what is held after operations
+abbrev pub held_after : (object : Object) → object.Held → List Op → object.Held
+held_after object held [] = held
+held_after object held (op ∷ ops) = held_after object (object.apply op held).0 ops
+
 -- yes where it is so
 abbrev pub yes_if : Bool → Reply
 yes_if true = Yes
@@ -34,6 +39,7 @@ take_first (value ∷ values) = (values, Value value)
 abbrev pub queue_apply : Op → List ℕ → List ℕ × Reply
 queue_apply op values = if op.code == PUT then (values ++ op.value ∷ [], Done) else take_first values
 
+-- what the queue's client answers as
 abbrev pub queue_object : Object
 queue_object = record { Held = List ℕ; empty = []; apply = queue_apply; serves = is_queue_command }
 
@@ -44,6 +50,7 @@ set_apply op keys =
     else (if op.code == DEL then (set.remove keys op.key, yes_if (set.contains keys op.key))
     else (keys, yes_if (set.contains keys op.key)))
 
+-- what the clients of lists answer as
 abbrev pub set_object : Object
 set_object = record { Held = set.FinSet nat_cmp; empty = set.empty; apply = set_apply; serves = is_set_command }
 
@@ -51,6 +58,7 @@ set_object = record { Held = set.FinSet nat_cmp; empty = set.empty; apply = set_
 abbrev pub set_absent : ℕ → ℕ → map.FinMap nat_cmp ℕ → map.FinMap nat_cmp ℕ × Reply
 set_absent key value pairs = if map.contains_key pairs key then (pairs, No) else (map.insert pairs key value, Yes)
 
+-- the value at a key
 abbrev pub value_or_absent : Option ℕ → Reply
 value_or_absent None = Absent
 value_or_absent (Some value) = Value value
@@ -62,6 +70,7 @@ map_apply op pairs =
     else (if op.code == REM then (map.remove pairs op.key, yes_if (map.contains_key pairs op.key))
     else (pairs, value_or_absent (map.get pairs op.key)))
 
+-- what the tree's client answers as
 abbrev pub map_object : Object
 map_object = record { Held = map.FinMap nat_cmp ℕ; empty = map.empty; apply = map_apply; serves = is_map_command }
 

@@ -1,13 +1,15 @@
--- The report of one seat that makes operations one after another, with no other seat.
-use Rattle.std.specs.Prelude.{ℕ, ◌+◌, ◌-◌, ◌*◌, List, [], ◌∷◌}
+-- Operations made one after another: what they reply, and the report of one seat that makes them alone.
+use Rattle.std.specs.Prelude.{ℕ, ◌+◌, ◌-◌, ◌*◌, ◌≤◌, List, [], ◌∷◌, length, All, Option, IfSome}
 use Rattle.lin_report.specs.declared.calls.Client.{Client}
 use Rattle.lin_report.specs.declared.calls.Op.{Op}
 use Rattle.lin_report.specs.declared.calls.Path.TheVariants.{Fast}
 use Rattle.lin_report.specs.declared.calls.Receipt.{Receipt}
-use Rattle.lin_report.specs.Object.{Object, object_of}
-use Rattle.lin_report.specs.Calls.{Report}
+use Rattle.lin_report.specs.Commands.{IsCommandOf, IsReplyTo}
+use Rattle.lin_report.specs.Object.{Object, object_of, held_after}
+use Rattle.lin_report.specs.Calls.{Report, report_of}
 use Rattle.lin_report.specs.Report.{IsReport}
 use Rattle.lin_report.specs.Linearizable.{IsLinearizable}
+use Rattle.lin_report.specs.Writing.{CanWrite}
 
 -- the receipts of the operations, the first one having this number: each reply is the object's in turn,
 -- and call k takes the ticks 2k - 2 and 2k - 1
@@ -19,7 +21,7 @@ sequential_receipts object number held (op ∷ ops) =
 
 -- no call is pending
 abbrev pub sequential_report : Object → List Op → Report
-sequential_report object ops = record { receipts = sequential_receipts object 1 object.empty ops; pending = [] }
+sequential_report object ops = report_of (sequential_receipts object 1 object.empty ops) []
 
 -- it is a report over the one file of these operations, whatever the client
 abbrev pub SequentialReportIsReport : Type 0
@@ -28,3 +30,15 @@ SequentialReportIsReport = (client : Client) (ops : List Op) → IsReport (ops �
 -- it is linearizable, whatever the client
 abbrev pub SequentialReportIsLinearizable : Type 0
 SequentialReportIsLinearizable = (client : Client) (ops : List Op) → IsLinearizable (object_of client) (sequential_report (object_of client) ops)
+
+-- the writers of the report take it, where the operations are commands and no more than a file may have
+abbrev pub SequentialReportCanBeWritten : Type 0
+SequentialReportCanBeWritten =
+    (client : Client) (ops : List Op) (overtaken : Option ℕ) → All (IsCommandOf client) ops → length ops ≤ 65535 → IfSome overtaken (λ most. most ≤ 524280)
+    → CanWrite (sequential_report (object_of client) ops) overtaken
+
+-- made after other commands of the client, a command is given a reply of the table
+abbrev pub RepliesFitCommands : Type 0
+RepliesFitCommands =
+    (client : Client) (ops : List Op) (op : Op) → All (IsCommandOf client) ops → IsCommandOf client op
+    → IsReplyTo op ((object_of client).apply op (held_after (object_of client) (object_of client).empty ops)).1

@@ -1,5 +1,6 @@
 -- The text of a report: a line for each call in rising order of begin, then the summary line.
-use Rattle.std.specs.Prelude.{ℕ, ◌==◌, nat_lt, if◌then◌else◌, Bool, true, false, not, Option, Some, None, List, [], ◌∷◌, ◌++◌, length, count_by, codes}
+use Rattle.std.specs.Prelude.{ℕ, ◌==◌, nat_lt, if◌then◌else◌, Bool, true, false, not, Option, Some, None, List, [], ◌∷◌, ◌++◌, length, count_by, codes, IsPermutation}
+use Rattle.std.specs.List.Sorted.{IsNonDecreasingBy}
 use Rattle.std.specs.List.{flat_map, join_with_byte}
 use Rattle.std.specs.Fmt.{decimal}
 use Rattle.lin_report.specs.declared.calls.Op.{Op}
@@ -17,7 +18,7 @@ SPACE = 32
 abbrev pub NEWLINE : ℕ
 NEWLINE = 10
 
--- words with a space before each
+-- words with a space before each, as the writer puts them behind the first word of a line
 unfoldable pub spaced : List (List ℕ) → List ℕ
 spaced words = flat_map (λ word. SPACE ∷ word) words
 
@@ -37,6 +38,7 @@ command_words op =
     else (if op.code == REM then codes "rem" ∷ decimal op.key ∷ []
     else codes "get" ∷ decimal op.key ∷ []))))))
 
+-- a reply with its value
 unfoldable pub reply_words : Reply → List (List ℕ)
 reply_words Yes = codes "yes" ∷ []
 reply_words No = codes "no" ∷ []
@@ -56,6 +58,7 @@ abbrev pub end_word : Option (Reply × ℕ) → List ℕ
 end_word None = codes "-"
 end_word (Some answer) = decimal answer.1
 
+-- how the call was made
 unfoldable pub path_word : Path → List ℕ
 path_word Fast = codes "fast"
 path_word Slow = codes "slow"
@@ -75,19 +78,26 @@ unfoldable pub by_begin : List Call → List Call
 by_begin [] = []
 by_begin (c ∷ calls) = insert_call c (by_begin calls)
 
+-- putting calls in order moves them only, and they rise by begin afterwards
+abbrev pub ByBeginSorts : Type 0
+ByBeginSorts = (calls : List Call) → IsPermutation calls (by_begin calls) × IsNonDecreasingBy (λ (c : Call). c.begin) (by_begin calls)
+
+-- the call was made by its own seat alone
 abbrev pub path_is_fast : Path → Bool
 path_is_fast Fast = true
 path_is_fast Slow = false
 
+-- the call found no block left
 abbrev pub reply_is_exhausted : Reply → Bool
 reply_is_exhausted Exhausted = true
 reply_is_exhausted _ = false
 
+-- a pending call has found nothing yet
 abbrev pub answer_is_exhausted : Option (Reply × ℕ) → Bool
 answer_is_exhausted None = false
 answer_is_exhausted (Some answer) = reply_is_exhausted answer.0
 
--- the calls that are counted by themselves
+-- the three kinds of calls that the summary counts by what they are
 abbrev pub is_fast : Call → Bool
 is_fast c = path_is_fast c.path
 

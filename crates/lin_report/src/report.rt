@@ -1,5 +1,6 @@
 //! The text of a report, written into room that was made before the calls were.
 ghost use Rattle.std.specs.Prelude.{◌≡◌, ℕ, ◌+◌, ◌*◌, ◌≤◌, ◌++◌, [], length, vec_capacity, IfOk};
+ghost use Rattle.lin_report.specs.Calls.{report_of};
 ghost use Rattle.lin_report.specs.Room.{HasRoom};
 ghost use Rattle.lin_report.specs.Text.{report_text, summary_text};
 ghost use Rattle.lin_report.specs.Writing.{CanWrite};
@@ -31,8 +32,8 @@ pub fn write_report(
     overtaken: Option<u64>,
 )
     requires room { HasRoom room.old (64 * (length receipts.now + length pending.now) + 128) }
-    requires report { CanWrite (record { receipts = receipts.now; pending = pending.now }) overtaken }
-    ensures text { room.new.items ≡ room.old.items ++ report_text (record { receipts = receipts.now; pending = pending.now }) overtaken }
+    requires report { CanWrite (report_of receipts.now pending.now) overtaken }
+    ensures text { room.new.items ≡ room.old.items ++ report_text (report_of receipts.now pending.now) overtaken }
     ensures capacity { vec_capacity room.new ≡ vec_capacity room.old }
 {
     merge::append_lines(room, receipts, pending);
@@ -47,8 +48,8 @@ pub fn write_summary(
     overtaken: Option<u64>,
 )
     requires room { HasRoom room.old 128 }
-    requires report { CanWrite (record { receipts = receipts.now; pending = pending.now }) overtaken }
-    ensures text { room.new.items ≡ room.old.items ++ summary_text (record { receipts = receipts.now; pending = pending.now }) overtaken }
+    requires report { CanWrite (report_of receipts.now pending.now) overtaken }
+    ensures text { room.new.items ≡ room.old.items ++ summary_text (report_of receipts.now pending.now) overtaken }
     ensures capacity { vec_capacity room.new ≡ vec_capacity room.old }
 {
     summary::append_summary(room, receipts, pending, overtaken);

@@ -3,7 +3,7 @@ ghost use Rattle.std.specs.Prelude.{◌≡◌, ◌⊎◌, ℕ, ◌+◌, ◌*◌,
 ghost use Rattle.lin_report.specs.declared.calls.Receipt.{Receipt};
 ghost use Rattle.lin_report.specs.declared.calls.PendingCall.{PendingCall};
 ghost use Rattle.lin_report.specs.Room.{HasRoom, Appends};
-ghost use Rattle.lin_report.specs.Calls.{calls_of};
+ghost use Rattle.lin_report.specs.Calls.{report_of, calls_of};
 ghost use Rattle.lin_report.specs.Text.{lines, by_begin};
 ghost use Rattle.lin_report.specs.Writing.{CanWrite};
 ghost use Rattle.lin_report.specs.Merging.{AnsweredIsNext, PendingIsNext};
@@ -31,9 +31,9 @@ fn is_answered_next(
 /// the summary line.
 pub(super) fn append_lines(room: &mut Vec<u8>, receipts: &[Receipt], pending: &[PendingCall])
     requires room { HasRoom room.old (64 * (length receipts.now + length pending.now) + 128) }
-    requires report { CanWrite (record { receipts = receipts.now; pending = pending.now }) None }
+    requires report { CanWrite (report_of receipts.now pending.now) None }
     ensures room { HasRoom room.new 128 }
-    ensures text { Appends room.old room.new (lines (by_begin (calls_of (record { receipts = receipts.now; pending = pending.now })))) }
+    ensures text { Appends room.old room.new (lines (by_begin (calls_of (report_of receipts.now pending.now)))) }
 {
     let mut answered = 0;
     let mut waiting = 0;

@@ -2,7 +2,7 @@
 ghost use Rattle.std.specs.Prelude.{◌≡◌, ℕ, ◌+◌, ◌-◌, ◌≤◌, ◌++◌, ◌∷◌, [], length, map, codes, count_by};
 ghost use Rattle.std.specs.Fmt.{decimal};
 ghost use Rattle.lin_report.specs.Room.{HasRoom, Appends};
-ghost use Rattle.lin_report.specs.Calls.{answered_call, calls_of};
+ghost use Rattle.lin_report.specs.Calls.{answered_call, report_of, calls_of};
 ghost use Rattle.lin_report.specs.Text.{NEWLINE, spaced, count_words, overtaken_words, is_fast, is_exhausted, summary_text};
 ghost use Rattle.lin_report.specs.Writing.{CanWrite};
 
@@ -12,7 +12,7 @@ use crate::report::lines::{append_named, append_number};
 
 /// How many calls were made by their own seat alone.
 fn count_fast(receipts: &[Receipt], pending: &[PendingCall]) -> usize
-    ensures { result ≡ count_by is_fast (calls_of (record { receipts = receipts.now; pending = pending.now })) }
+    ensures { result ≡ count_by is_fast (calls_of (report_of receipts.now pending.now)) }
 {
     let answered = receipts
         .iter()
@@ -73,8 +73,8 @@ pub(super) fn append_summary(
     overtaken: Option<u64>,
 )
     requires room { HasRoom room.old 128 }
-    requires report { CanWrite (record { receipts = receipts.now; pending = pending.now }) overtaken }
-    ensures { Appends room.old room.new (summary_text (record { receipts = receipts.now; pending = pending.now }) overtaken) }
+    requires report { CanWrite (report_of receipts.now pending.now) overtaken }
+    ensures { Appends room.old room.new (summary_text (report_of receipts.now pending.now) overtaken) }
 {
     let calls = receipts.len() + pending.len();
     let fast = count_fast(receipts, pending);

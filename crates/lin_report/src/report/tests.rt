@@ -1,5 +1,6 @@
 //! Worked reports as text, and the longest lines.
 ghost use Rattle.std.specs.Prelude.{ℕ, ◌+◌, ◌≤◌, length};
+ghost use Rattle.lin_report.specs.Calls.{report_of};
 ghost use Rattle.lin_report.specs.Writing.{CanWrite};
 
 use super::{report_room, write_report, write_summary};
@@ -11,14 +12,14 @@ use std::alloc::Global;
 use std::test::Fail;
 
 /// The report, in the room that is made for it.
-fn report_of(
+fn written_report(
     alloc: Global,
     receipts: &[Receipt],
     pending: &[PendingCall],
     overtaken: Option<u64>,
 ) -> Result<Vec<u8>, NoMemory>
     requires calls { length receipts.now + length pending.now ≤ 524280 }
-    requires report { CanWrite (record { receipts = receipts.now; pending = pending.now }) overtaken }
+    requires report { CanWrite (report_of receipts.now pending.now) overtaken }
 {
     let calls = receipts.len() + pending.len();
     let mut room = report_room(alloc, calls as u32)?;
@@ -28,7 +29,7 @@ fn report_of(
 
 #[test]
 fn a_report_without_a_call(rt: HostRuntime) -> Result<(), Fail> {
-    let text = report_of(rt.alloc(), &[], &[], Some(0))?;
+    let text = written_report(rt.alloc(), &[], &[], Some(0))?;
     assert_eq!(rt;
         text.as_slice(),
         b"calls 0 fast 0 slow 0 exhausted 0 pending 0 overtaken 0\n".as_slice()
@@ -62,7 +63,7 @@ fn an_answered_call_and_a_pending_one(rt: HostRuntime) -> Result<(), Fail> {
         end: 2,
         path: Path::Slow,
     };
-    let text = report_of(rt.alloc(), &[take], &[put], Some(0))?;
+    let text = written_report(rt.alloc(), &[take], &[put], Some(0))?;
     assert_eq!(rt;
         text.as_slice(),
         b"0 1 put 7 pending 0 - slow\n1 1 take value 7 1 2 slow\ncalls 2 fast 0 slow 2 exhausted 0 pending 1 overtaken 0\n".as_slice()
@@ -98,7 +99,7 @@ fn a_report_that_tells_no_overtaking(rt: HostRuntime) -> Result<(), Fail> {
         end: 3,
         path: Path::Fast,
     };
-    let text = report_of(rt.alloc(), &[put, take], &[], None)?;
+    let text = written_report(rt.alloc(), &[put, take], &[], None)?;
     assert_eq!(rt;
         text.as_slice(),
         b"0 1 put 7 done 0 1 fast\n0 2 take empty 2 3 fast\ncalls 2 fast 2 slow 0 exhausted 0 pending 0\n".as_slice()
@@ -201,7 +202,7 @@ fn the_commands_of_a_set_and_of_a_map(rt: HostRuntime) -> Result<(), Fail> {
             path: Path::Fast,
         },
     ];
-    let text = report_of(rt.alloc(), &receipts, &[], Some(1))?;
+    let text = written_report(rt.alloc(), &receipts, &[], Some(1))?;
     assert_eq!(rt;
         text.as_slice(),
         b"0 1 add 1048575 yes 0 1 fast\n0 2 del 5 no 2 5 slow\n1 1 has 5 no 3 4 fast\n2 1 set 1 9 yes 6 7 fast\n2 2 get 1 value 9 8 9 fast\n2 3 rem 1 exhausted 10 11 slow\n2 4 get 2 absent 12 13 fast\ncalls 7 fast 5 slow 2 exhausted 1 pending 0 overtaken 1\n".as_slice()
@@ -225,7 +226,7 @@ fn the_longest_line_has_62_bytes(rt: HostRuntime) -> Result<(), Fail> {
         path: Path::Slow,
     };
     let line = b"7 65535 set 1048575 4294967295 exhausted 1048558 1048559 slow\n";
-    let text = report_of(rt.alloc(), &[set], &[], Some(524_280))?;
+    let text = written_report(rt.alloc(), &[set], &[], Some(524_280))?;
     assert_eq!(rt; line.len(), 62);
     assert!(rt; text.as_slice().starts_with(line));
     assert!(rt;
