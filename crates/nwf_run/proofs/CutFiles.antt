@@ -1,11 +1,10 @@
 -- A file that is too long is refused, however much of it was read.
-use Rattle.std.proofs.Common.{◌≡◌, ℕ, ◌+◌, ◌<◌, ◌≤◌, Bool, true, false, cond, List, length, take, refl, sym, ap, ◌∙◌, arith, Result, Ok, Err, ⊎_elim, length-take, ltb}
+use Rattle.std.proofs.Common.{◌≡◌, ℕ, ◌<◌, cond, List, length, take, sym, ap, ◌∙◌, arith, Result, Err, ⊎_elim, length-take}
 use Rattle.std.proofs.lemmas.Bool.{cases_lt, lt-ltb}
 use Rattle.std.proofs.lemmas.List.{take_all}
 use Rattle.lin_report.specs.declared.calls.Client.TheVariants.{Queue}
 use Rattle.script_reader.specs.declared.causes.Cause.{Cause}
 use Rattle.script_reader.specs.declared.causes.Cause.TheVariants.{FileTooLong}
-use Rattle.script_reader.specs.declared.causes.Refusal.{Refusal}
 use Rattle.script_reader.specs.Words.{lines_of}
 use Rattle.script_reader.specs.Outcomes.{file_outcome, lines_outcome}
 use Rattle.script_reader.specs.Scripts.{script_outcome, command_of, COMMAND_LIMIT}

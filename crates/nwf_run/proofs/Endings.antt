@@ -1,5 +1,5 @@
 -- What a call has written, by whether its sink had a fault.
-use Rattle.std.proofs.Common.{◌≡◌, ℕ, Option, Some, None, List, Result, Ok, Err, OnOk, OnErr, IfSome, length, take, min, refl, sym, ap, ◌∙◌, subst, inl, inr, arith, ◌⊎◌, ◌≤◌, ⊎_elim}
+use Rattle.std.proofs.Common.{◌≡◌, ℕ, Option, Some, None, List, Result, Ok, Err, OnOk, OnErr, IfSome, length, take, min, refl, sym, ap, ◌∙◌, subst, arith, ⊎_elim}
 use Rattle.std.proofs.Math.Seq.{take-length}
 use Rattle.std.proofs.lemmas.Bool.{cases_lt}
 use Rattle.std.proofs.lemmas.List.{take_all}
@@ -9,7 +9,7 @@ use Rattle.nwf_run.specs.declared.stops.Stop.{Stop}
 use Rattle.nwf_run.specs.Accepted.{schedule_calls, file_commands, one_seat_text, replayed}
 use Rattle.nwf_run.specs.Judged.{status_of, message_of}
 use Rattle.nwf_run.specs.Outside.{Rose, AppendsPrefix}
-use Rattle.nwf_run.specs.Replaying.{Reported, Told}
+use Rattle.nwf_run.specs.Replaying.{Told}
 
 whole_is_prefix : (written written' : Option (List ℕ)) (text : List ℕ) → Appends written written' text → AppendsPrefix written written' text
 whole_is_prefix written written' text h = (length text, subst (Appends written written') (sym (take-length text)) h)

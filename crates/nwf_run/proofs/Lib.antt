@@ -4,5 +4,4 @@ pub mod CutFiles
 pub mod JudgedFiles
 pub mod Endings
 pub mod OneSeat
-pub mod Printable
 pub mod SeatCalls

@@ -1,5 +1,5 @@
 -- Each call of the one seat leaves words that stand for what the sequential queue holds.
-use Rattle.std.proofs.Common.{◌≡◌, ◌≢◌, ℕ, ◌+◌, ◌*◌, ◌%◌, ◌^◌, ◌<◌, ◌≤◌, Bool, true, false, cond, List, [], ◌∷◌, ◌++◌, length, get_or, set, refl, sym, ap, ◌∙◌, subst, arith, get_or-set_same, get_or-set_other, length-append, eqb, length-set, ⊎_elim, suc, add-zero}
+use Rattle.std.proofs.Common.{◌/◌, ◌≡◌, ◌≢◌, ℕ, ◌+◌, ◌*◌, ◌%◌, ◌^◌, ◌<◌, ◌≤◌, Bool, true, false, cond, List, [], ◌∷◌, ◌++◌, length, get_or, set, refl, sym, ap, ◌∙◌, subst, arith, get_or-set_same, get_or-set_other, length-append, eqb, length-set, ⊎_elim, suc, add-zero}
 use Rattle.lin_report.specs.declared.calls.Reply.{Reply}
 use Rattle.lin_report.specs.declared.calls.Reply.TheVariants.{Done, Empty, Value}
 use Rattle.lin_report.specs.declared.calls.Op.{Op}
@@ -8,15 +8,24 @@ use Rattle.std.proofs.lemmas.Bool.{eq-eqb, ne_eqb, cases_lt}
 use Rattle.std.proofs.lemmas.List.{get_or_append_left, get_or_push}
 use Rattle.word_fields.specs.Versioned.{versioned_value, changed_word}
 use Rattle.word_fields.proofs.VersionedLemmas.{value-changed}
-use Rattle.nwf_run.specs.OneSeat.{node_place_of, value_place_of, next_place_of, exchanged, node_filled, tail_moved, words_after_put, second_node, words_after_take, take_reply, puts_of, reply_to, words_after_call, StandsFor}
+use Rattle.node_arena.specs.MemoryMap.{node_place, block_place, node_named}
+use Rattle.nwf_run.specs.OneSeat.{value_place_of, next_place_of, exchanged, node_filled, tail_moved, words_after_put, second_node, words_after_take, take_reply, puts_of, reply_to, words_after_call, StandsFor}
+
+-- node 1 of block k
+field_at : (k f : ℕ) → node_place (4 * k + 1) f ≡ 44 + 32 * k + f
+unfolding node_place block_place node_named
+field_at k f =
+    let node : (4 * k + 1) % 4 ≡ 1 = omega arith in
+    let block : (4 * k + 1) / 4 ≡ k = omega arith in
+    rw (node, block) (omega arith)
 
 next_place_at : (k : ℕ) → next_place_of (4 * k + 1) ≡ 46 + 32 * k
-unfolding next_place_of node_place_of
-next_place_at k = omega arith
+unfolding next_place_of
+next_place_at k = field_at k 2 ∙ (omega arith)
 
 value_place_at : (k : ℕ) → value_place_of (4 * k + 1) ≡ 45 + 32 * k
-unfolding value_place_of node_place_of
-value_place_at k = omega arith
+unfolding value_place_of
+value_place_at k = field_at k 1 ∙ (omega arith)
 
 -- an exchange from the word that is there
 exchanged_won : (words : List ℕ) (at from value : ℕ) → get_or words at 0 ≡ from → exchanged words at from value ≡ set words at (changed_word from value)

@@ -1,7 +1,10 @@
 -- One call of the seat: a tick, the queue's steps, a tick.
-use Rattle.std.proofs.lemmas.List.{get_or-replicate, length-replicate}
-use Rattle.word_fields.specs.Versioned.{versioned_value}
-use Rattle.std.proofs.Common.{◌≡◌, ℕ, ◌+◌, ◌-◌, ◌*◌, ◌%◌, ◌^◌, ◌<◌, ◌≤◌, List, [], ◌∷◌, length, replicate, refl, get_or, get_or-set_other, set, sym, ap, ◌∙◌, subst, arith, get_or-set_same, length-set}
+use Rattle.std.proofs.lemmas.Bool.{ne_eqb}
+use Rattle.lin_report.specs.declared.calls.Client.TheVariants.{Queue}
+use Rattle.node_arena.specs.Opening.{opening_word}
+use Rattle.word_fields.proofs.VersionedLemmas.{value-word}
+use Rattle.word_fields.specs.Versioned.{versioned_value, versioned_word}
+use Rattle.std.proofs.Common.{◌≡◌, ℕ, ◌+◌, ◌-◌, ◌*◌, ◌%◌, ◌^◌, ◌<◌, ◌≤◌, List, [], ◌∷◌, length, refl, get_or, set, sym, ap, ◌∙◌, subst, arith, get_or-set_same, length-set}
 use Rattle.lin_report.specs.declared.calls.Op.{Op}
 use Rattle.lin_report.specs.declared.calls.Reply.{Reply}
 use Rattle.lin_report.specs.declared.calls.Receipt.{Receipt}
@@ -52,39 +55,46 @@ module _ (before begun answered after : List ℕ) (puts calls : ℕ) (op : Op) (
         reply_is = r ∙ made.reply_is;
       }
 
-value-one : versioned_value 1 ≡ 1
-unfolding versioned_value
-value-one = refl
-
-value-zero : versioned_value 0 ≡ 0
-unfolding versioned_value
-value-zero = refl
-
 -- the opening words stand for the empty queue
-pub opening_stands : (blocks n : ℕ) → n ≡ 32 * (blocks + 2) → StandsFor (set (set (replicate n 0) 20 1) 21 1) 0 0 []
-opening_stands blocks n e =
-    let zeros : List ℕ = replicate n 0 in
-    let within : length zeros ≡ n = length-replicate n 0 in
-    let inner : length (set zeros 20 1) ≡ n = length-set zeros 20 1 ∙ within in
-    record {
-      head = ap versioned_value (get_or-set_other (set zeros 20 1) 21 20 1 0 (omega arith) ∙ get_or-set_same zeros 20 1 0 (omega arith)) ∙ value-one;
-      tail = ap versioned_value (get_or-set_same (set zeros 20 1) 21 1 0 (omega arith)) ∙ value-one;
-      links = λ k low high. absurd (omega arith);
-      last = ap versioned_value (get_or-set_other (set zeros 20 1) 21 46 1 0 (omega arith) ∙ get_or-set_other zeros 20 46 1 0 (omega arith) ∙ get_or-replicate n 46 0 0 (omega arith)) ∙ value-zero;
-      held = λ i low. absurd (omega arith);
-      count = refl;
-      small = λ i low. absurd (omega arith);
-      room = omega (arith, length-set (set zeros 20 1) 21 1);
-    }
+module _ (words : List ℕ) (cap : ℕ) (some : 1 ≤ cap) (many : length words ≡ 32 * (cap + 2)) (each : (place : ℕ) → place < 32 * (cap + 2) → get_or words place 0 ≡ opening_word Queue place) where
+  dummy : versioned_value (versioned_word 1 0 0) ≡ 1
+  dummy = value-word 1 0 0 (omega arith) (omega arith)
 
--- and no tick was drawn
-pub opening_tick : (n : ℕ) → 22 ≤ n → ◌≡◌ {A = ℕ} (get_or (set (set (replicate n 0) 20 1) 21 1) 0 0) 0
-opening_tick n h =
-    let zeros : List ℕ = replicate n 0 in
-    get_or-set_other (set zeros 20 1) 21 0 1 0 (omega arith) ∙ get_or-set_other zeros 20 0 1 0 (omega arith) ∙ get_or-replicate n 0 0 0 (omega arith)
+  zero : versioned_value 0 ≡ 0
+  unfolding versioned_value
+  zero = refl
 
-pub opening_length : (n : ℕ) → length {A = ℕ} (set (set (replicate n 0) 20 1) 21 1) ≡ n
-opening_length n = let zeros : List ℕ = replicate n 0 in length-set (set zeros 20 1) 21 1 ∙ length-set zeros 20 1 ∙ length-replicate n 0
+  other : (place : ℕ) → 21 < place → opening_word Queue place ≡ 0
+  unfolding opening_word
+  other place past = rw (ne_eqb place 20 (omega arith), ne_eqb place 21 (omega arith)) refl
+
+  head : opening_word Queue 20 ≡ versioned_word 1 0 0
+  unfolding opening_word
+  head = refl
+
+  tail : opening_word Queue 21 ≡ versioned_word 1 0 0
+  unfolding opening_word
+  tail = refl
+
+  ticks : opening_word Queue 0 ≡ 0
+  unfolding opening_word
+  ticks = refl
+
+  pub opening_stands : StandsFor words 0 0 []
+  opening_stands = record {
+    head = ap versioned_value (each 20 (omega arith) ∙ head) ∙ dummy;
+    tail = ap versioned_value (each 21 (omega arith) ∙ tail) ∙ dummy;
+    links = λ k low high. absurd (omega arith);
+    last = ap versioned_value (each 46 (omega arith) ∙ other 46 (omega arith)) ∙ zero;
+    held = λ i low. absurd (omega arith);
+    count = refl;
+    small = λ i low. absurd (omega arith);
+    room = omega arith;
+  }
+
+  -- and no tick was drawn
+  pub opening_tick : get_or words 0 0 ≡ 0
+  opening_tick = each 0 (omega arith) ∙ ticks
 
 -- the next receipt is the one that the sequential queue gives
 pub next_receipts : (seat : OneSeat) (k : ℕ) (op : Op) (ops : List Op) (values : List ℕ) → seat.calls ≡ k →

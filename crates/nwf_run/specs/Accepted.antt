@@ -1,10 +1,9 @@
 -- Which files the program accepts while it has one seat, and what it writes for them.
-use Rattle.std.specs.Prelude.{◌≡◌, ℕ, Bool, true, false, nat_le, if◌then◌else◌, List, [], length, take, sum_by, IsTrue, ◌<◌, Option, Some, None, Result, Ok, Err}
+use Rattle.std.specs.Prelude.{ℕ, Bool, true, false, nat_le, if◌then◌else◌, List, length, take, sum_by, Option, Some, None, Result, Ok, Err}
 use Rattle.std.specs.List.{list_all}
 use Rattle.std.specs.Option.{option_map, option_and_then}
 use Rattle.lin_report.specs.declared.calls.Op.{Op}
 use Rattle.lin_report.specs.declared.calls.Client.TheVariants.{Queue}
-use Rattle.lin_report.specs.Commands.{is_queue_command, VALUE_LIMIT}
 use Rattle.lin_report.specs.Object.{queue_object}
 use Rattle.lin_report.specs.Text.{report_text}
 use Rattle.script_reader.specs.declared.causes.Refusal.{Refusal}
@@ -15,11 +14,6 @@ use Rattle.script_reader.specs.Schedules.{schedule_outcome}
 use Rattle.script_reader.specs.Scripts.{script_outcome}
 use Rattle.nwf_run.specs.OneSeat.{puts_of}
 use Rattle.lin_report.specs.Sequence.{sequential_report}
-
--- a command of the queue with its value in range
-pub record IsGood (op : Op) : Type 0 where
-  pub command : IsTrue (is_queue_command op)
-  pub value : op.value < VALUE_LIMIT
 
 abbrev pub is_to_end : Span → Bool
 is_to_end ToEnd = true

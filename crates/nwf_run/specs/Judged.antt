@@ -1,5 +1,5 @@
 -- What a step of a top call answers, or why the call stops there.
-use Rattle.std.specs.Prelude.{◌≡◌, ℕ, List, Option, Some, None, Result, Ok, Err, codes, ◌++◌, ◌∷◌, []}
+use Rattle.std.specs.Prelude.{◌≡◌, ℕ, List, Option, Some, None, Result, Ok, Err, codes}
 use Rattle.nwf_run.specs.declared.reading.ReadError.{ReadError}
 use Rattle.nwf_run.specs.declared.reading.ReadError.TheVariants.{Fault}
 use Rattle.nwf_run.specs.declared.reading.ReadError.TheVariants as read

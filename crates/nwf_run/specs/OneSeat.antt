@@ -1,27 +1,20 @@
 -- The queue of one seat: which words stand for which values, and what its steps leave.
-use Rattle.std.specs.Prelude.{◌≡◌, ℕ, ◌+◌, ◌-◌, ◌*◌, ◌/◌, ◌%◌, ◌^◌, ◌<◌, ◌≤◌, ◌==◌, if◌then◌else◌, List, length, slice_index, slice_set}
+use Rattle.std.specs.Prelude.{◌≡◌, ℕ, ◌+◌, ◌*◌, ◌%◌, ◌^◌, ◌<◌, ◌≤◌, ◌==◌, if◌then◌else◌, List, length, slice_index, slice_set}
+use Rattle.node_arena.specs.declared.places.TheConstants.{HEAD, TAIL, NODE_VALUE, NODE_NEXT}
+use Rattle.node_arena.specs.MemoryMap.{node_place}
 use Rattle.word_fields.specs.Versioned.{versioned_value, changed_word}
 use Rattle.lin_report.specs.declared.calls.Reply.{Reply}
 use Rattle.lin_report.specs.declared.calls.Reply.TheVariants.{Done, Empty, Value}
 use Rattle.lin_report.specs.declared.calls.Op.{Op}
 use Rattle.lin_report.specs.declared.calls.TheConstants.{PUT}
 
--- the places of the words that a call uses
-abbrev pub HEAD_PLACE : ℕ
-HEAD_PLACE = 20
-
-abbrev pub TAIL_PLACE : ℕ
-TAIL_PLACE = 21
-
--- where field f of the node with this reference is: 4 x block + k names node k of a block
-unfoldable pub node_place_of : ℕ → ℕ → ℕ
-node_place_of reference field = 44 + 32 * (reference / 4) + 5 * (reference % 4 - 1) + field
-
+-- where the value of a node is
 unfoldable pub value_place_of : ℕ → ℕ
-value_place_of reference = node_place_of reference 1
+value_place_of reference = node_place reference NODE_VALUE
 
+-- where the word of a node is that leads to the next one
 unfoldable pub next_place_of : ℕ → ℕ
-next_place_of reference = node_place_of reference 2
+next_place_of reference = node_place reference NODE_NEXT
 
 -- after an exchange from a word to itself changed to a value
 unfoldable pub exchanged : List ℕ → ℕ → ℕ → ℕ → List ℕ
@@ -34,25 +27,25 @@ node_filled reference value words = slice_set (slice_set words (value_place_of r
 -- the tail moved on to a node, where the word that leads there is the one of the tail's node
 unfoldable pub tail_moved : ℕ → ℕ → List ℕ → List ℕ
 tail_moved reference at words =
-    if next_place_of (versioned_value (slice_index words TAIL_PLACE)) == at
-    then exchanged words TAIL_PLACE (slice_index words TAIL_PLACE) reference
+    if next_place_of (versioned_value (slice_index words TAIL)) == at
+    then exchanged words TAIL (slice_index words TAIL) reference
     else words
 
 -- after a put of the value into the node: it is filled, linked behind the tail's node, and becomes the tail
 unfoldable pub words_after_put : ℕ → ℕ → List ℕ → List ℕ
 words_after_put reference value words =
-    let at = next_place_of (versioned_value (slice_index words TAIL_PLACE)) in
+    let at = next_place_of (versioned_value (slice_index words TAIL)) in
     tail_moved reference at (exchanged (node_filled reference value words) at (slice_index words at) reference)
 
 -- the reference behind the head's node
 unfoldable pub second_node : List ℕ → ℕ
-second_node words = versioned_value (slice_index words (next_place_of (versioned_value (slice_index words HEAD_PLACE))))
+second_node words = versioned_value (slice_index words (next_place_of (versioned_value (slice_index words HEAD))))
 
 -- after a take: the head moves on where there is a node behind it
 unfoldable pub words_after_take : List ℕ → List ℕ
 words_after_take words =
     if second_node words == 0 then words
-    else exchanged words HEAD_PLACE (slice_index words HEAD_PLACE) (second_node words)
+    else exchanged words HEAD (slice_index words HEAD) (second_node words)
 
 unfoldable pub take_reply : List ℕ → Reply
 take_reply words =
@@ -75,8 +68,8 @@ words_after_call puts op words =
 -- node 1 of the blocks after the last one that was taken, each leads to the next, and the last leads
 -- nowhere.
 pub record StandsFor (words : List ℕ) (puts takes : ℕ) (values : List ℕ) : Type 0 where
-  pub head : versioned_value (slice_index words HEAD_PLACE) ≡ 4 * takes + 1
-  pub tail : versioned_value (slice_index words TAIL_PLACE) ≡ 4 * puts + 1
+  pub head : versioned_value (slice_index words HEAD) ≡ 4 * takes + 1
+  pub tail : versioned_value (slice_index words TAIL) ≡ 4 * puts + 1
   pub links : (k : ℕ) → takes ≤ k → k < puts → versioned_value (slice_index words (46 + 32 * k)) ≡ 4 * k + 5
   pub last : versioned_value (slice_index words (46 + 32 * puts)) ≡ 0
   pub held : (i : ℕ) → i < length values → slice_index words (77 + 32 * (takes + i)) ≡ slice_index values i

@@ -1,8 +1,9 @@
 //! Reads the files that the program accepts while it has one seat.
 ghost use Rattle.std.specs.Prelude.{◌≡◌, ◌≤◌, IfOk, All, length, sum_by, vec_len, IsTrue};
 ghost use Rattle.std.specs.List.{list_all};
-ghost use Rattle.lin_report.specs.Commands.{is_queue_command};
-ghost use Rattle.nwf_run.specs.Accepted.{IsGood, makes_a_call, schedule_calls, file_commands};
+ghost use Rattle.lin_report.specs.declared.calls.Client.TheVariants as client;
+ghost use Rattle.lin_report.specs.Commands.{IsCommandOf};
+ghost use Rattle.nwf_run.specs.Accepted.{makes_a_call, schedule_calls, file_commands};
 ghost use Rattle.nwf_run.specs.OneSeat.{puts_of};
 ghost use Rattle.nwf_run.specs.Judged.{Judges};
 
@@ -43,7 +44,7 @@ fn make_calls(entries: &[ScheduleEntry]) -> bool
 #[tactic(auto, unfolding(crate::specs::Accepted::file_commands))]
 pub fn accepted_commands(alloc: Global, bytes: &[u8], cap: u32) -> Result<Vec<Op>, Stop>
     ensures judged { Judges (λ ops. ops.items) result (file_commands cap bytes.now) }
-    ensures good { IfOk result (λ ops. All IsGood ops.items) }
+    ensures commands { IfOk result (λ ops. All (IsCommandOf client.Queue) ops.items) }
     ensures count { IfOk result (λ ops. vec_len ops ≤ 65535) }
     ensures puts { IfOk result (λ ops. sum_by puts_of ops.items ≤ cap) }
 {

@@ -1,41 +1,27 @@
 //! The queue's calls by one seat, made step by step on the words of a memory. The k-th put uses node 1 of
 //! block k.
-#![tactic(auto, using(step_memory::proofs::Words::load_tells, step_memory::proofs::Words::load_keeps, step_memory::proofs::Words::add_tells, step_memory::proofs::Words::exchange_changes), unfolding(step_memory::specs::Step::words_after, crate::specs::OneSeat::node_place_of, crate::specs::OneSeat::value_place_of, crate::specs::OneSeat::next_place_of, crate::specs::OneSeat::exchanged, crate::specs::OneSeat::node_filled, crate::specs::OneSeat::tail_moved, crate::specs::OneSeat::words_after_put, crate::specs::OneSeat::second_node, crate::specs::OneSeat::words_after_take, crate::specs::OneSeat::take_reply, crate::specs::OneSeat::reply_to, crate::specs::OneSeat::words_after_call))]
+#![tactic(auto, using(step_memory::proofs::Words::load_tells, step_memory::proofs::Words::load_keeps, step_memory::proofs::Words::add_tells, step_memory::proofs::Words::exchange_changes), unfolding(step_memory::specs::Step::words_after, crate::specs::OneSeat::value_place_of, crate::specs::OneSeat::next_place_of, crate::specs::OneSeat::exchanged, crate::specs::OneSeat::node_filled, crate::specs::OneSeat::tail_moved, crate::specs::OneSeat::words_after_put, crate::specs::OneSeat::second_node, crate::specs::OneSeat::words_after_take, crate::specs::OneSeat::take_reply, crate::specs::OneSeat::reply_to, crate::specs::OneSeat::words_after_call))]
 
 ghost use Rattle.std.specs.Prelude.{◌≡◌, ◌≤◌, ℕ, [], IfOk, sum_by, ◌+◌, ◌*◌, ◌%◌, ◌^◌, ◌<◌, ◌==◌, if◌then◌else◌, length, slice_index, slice_set};
 ghost use Rattle.word_fields.specs.Versioned.{packed_versioned, versioned_value};
 ghost use Rattle.lin_report.specs.Object.{queue_object};
 ghost use Rattle.lin_report.specs.Sequence.{sequential_receipts};
-ghost use Rattle.nwf_run.specs.OneSeat.{node_place_of, value_place_of, next_place_of, exchanged, node_filled, tail_moved, words_after_put, words_after_take, take_reply, puts_of, reply_to, words_after_call};
+ghost use Rattle.nwf_run.specs.OneSeat.{value_place_of, next_place_of, exchanged, node_filled, tail_moved, words_after_put, words_after_take, take_reply, puts_of, reply_to, words_after_call};
 
 use lin_report::calls::PUT;
-use lin_report::{NoMemory, Op, Path, Receipt, Reply};
+use lin_report::{Client, NoMemory, Op, Path, Receipt, Reply};
+use node_arena::places::{HEAD, NODE_NEXT, NODE_VALUE, TAIL, TICKS};
+use node_arena::{node_place, opening_words};
 use std::alloc::Global;
 use step_memory::{Cells, Port, Request};
 use word_fields::VersionedWord;
-
-/// The place of the tick counter.
-const TICKS: u32 = 0;
-/// The place of the head, which names the node before the first value.
-const HEAD: u32 = 20;
-/// The place of the tail, which names the last node or one before it.
-const TAIL: u32 = 21;
-
-/// Where field f of a node is. The reference 4 x block + k names node k of a block.
-fn node_place(reference: u32, field: u32) -> u32
-    requires in_range { reference < 2 ^ 24 }
-    requires field { field < 5 }
-    ensures { result ≡ node_place_of reference field }
-{
-    44 + 32 * (reference / 4) + 5 * (reference % 4).saturating_sub(1) + field
-}
 
 /// Where the value of a node is.
 fn value_place(reference: u32) -> u32
     requires { reference < 2 ^ 24 }
     ensures { result ≡ value_place_of reference }
 {
-    node_place(reference, 1)
+    node_place(reference, NODE_VALUE)
 }
 
 /// Where the word of a node is that leads to the next one.
@@ -43,7 +29,7 @@ fn next_place(reference: u32) -> u32
     requires { reference < 2 ^ 24 }
     ensures { result ≡ next_place_of reference }
 {
-    node_place(reference, 2)
+    node_place(reference, NODE_NEXT)
 }
 
 /// Draws a tick.
@@ -158,16 +144,13 @@ impl OneSeat {
 
     /// An empty queue with so many blocks beside block 0.
     fn open(alloc: Global, blocks: u32) -> Result<OneSeat, NoMemory>
-        requires { blocks ≤ 65536 }
+        requires some { 1 ≤ blocks }
+        requires few { blocks ≤ 65536 }
         ensures empty { IfOk result (λ seat. Holds seat [] blocks) }
         ensures calls { IfOk result (λ seat. seat.calls ≡ 0) }
         ensures puts { IfOk result (λ seat. seat.puts ≡ 0) }
     {
-        let Ok(mut words) = vec![in alloc; 0u64; 32 * (blocks as usize + 2)] else {
-            return Err(NoMemory);
-        };
-        words[HEAD as usize] = 1;
-        words[TAIL as usize] = 1;
+        let words = opening_words(alloc, blocks, Client::Queue)?;
         Ok(OneSeat {
             cells: Cells::new(words),
             puts: 0,
@@ -204,6 +187,7 @@ impl OneSeat {
 /// The receipts of the operations, made one after another from an empty queue with so many blocks.
 pub fn make_calls(alloc: Global, cap: u32, ops: &[Op]) -> Result<Vec<Receipt>, NoMemory>
     requires calls { length ops.now ≤ 65535 }
+    requires some { 1 ≤ cap }
     requires cap { cap ≤ 65536 }
     requires puts { sum_by puts_of ops.now ≤ cap }
     ensures { IfOk result (λ receipts. receipts.items ≡ sequential_receipts queue_object 1 [] ops.now) }

@@ -1,10 +1,12 @@
 //! `replay`: runs a command file by a schedule and writes the report.
 ghost use Rattle.std.specs.Prelude.{◌≡◌, ◌≢◌, ◌↔◌, ◌⊎◌, ◌≤◌, ℕ, List, None, map, IfOk, IfSome, IfErr, IsSome, IsSomeAnd, IsErrOf, All, Some, length, vec_len, sum_by, string_bytes};
 ghost use Rattle.std.specs.Io.KnownBytes.{Appends};
+ghost use Rattle.lin_report.specs.declared.calls.Client.TheVariants as client;
+ghost use Rattle.lin_report.specs.Commands.{IsCommandOf};
 ghost use Rattle.lin_report.specs.Object.{queue_object};
 ghost use Rattle.lin_report.specs.Sequence.{sequential_report};
 ghost use Rattle.lin_report.specs.Text.{report_text};
-ghost use Rattle.nwf_run.specs.Accepted.{IsGood, schedule_calls, file_commands, replayed};
+ghost use Rattle.nwf_run.specs.Accepted.{schedule_calls, file_commands, replayed};
 ghost use Rattle.nwf_run.specs.Judged.{status_of, message_of};
 ghost use Rattle.nwf_run.specs.Outside.{Rose, AppendsPrefix};
 ghost use Rattle.nwf_run.specs.Replaying.{ReadsAs, FaultsAsTold, Reported, Told, Ends, OfFiles, OfSchedule};
@@ -19,6 +21,7 @@ use crate::reading::read_file;
 use crate::stops::Stop;
 use crate::words::{ReplayWords, replay_words};
 use crate::writing::write_all;
+use lin_report::laws::sequential_report_can_be_written;
 use lin_report::{NoMemory, Op, report_room, write_report};
 use std::alloc::Global;
 
@@ -42,7 +45,7 @@ fn read_commands<F: Files>(
     ensures reads { ReadsAs (λ ops. ops.items) (file_commands cap) (F.held files.old name.now) result }
     ensures faults { FaultsAsTold (F.faults files.old) (F.faults files.new) result }
     ensures held { (n : List ℕ) → F.held files.new n ≡ F.held files.old n }
-    ensures good { IfOk result (λ ops. All IsGood ops.items) }
+    ensures commands { IfOk result (λ ops. All (IsCommandOf client.Queue) ops.items) }
     ensures few { IfOk result (λ ops. vec_len ops ≤ 65535) }
     ensures puts { IfOk result (λ ops. sum_by puts_of ops.items ≤ cap) }
 {
@@ -52,14 +55,16 @@ fn read_commands<F: Files>(
 
 /// The text of the report of these calls.
 fn report_of(alloc: Global, cap: u32, ops: &[Op]) -> Result<Vec<u8>, NoMemory>
-    requires good { All IsGood ops.now }
+    requires commands { All (IsCommandOf client.Queue) ops.now }
     requires few { length ops.now ≤ 65535 }
+    requires some { 1 ≤ cap }
     requires cap { cap ≤ 65536 }
     requires puts { sum_by puts_of ops.now ≤ cap }
     ensures { IfOk result (λ text. text.items ≡ report_text (sequential_report queue_object ops.now) (Some 0)) }
 {
     let mut text = report_room(alloc, ops.len() as u32)?;
     let receipts = make_calls(alloc, cap, ops)?;
+    sequential_report_can_be_written();
     write_report(&mut text, &receipts, &[], Some(0));
     Ok(text)
 }
@@ -70,7 +75,8 @@ fn replay_text<F: Files>(
     words: &ReplayWords<'_>,
     files: &mut F,
 ) -> Result<Vec<u8>, Stop>
-    requires { words.now.cap ≤ 65536 }
+    requires some { 1 ≤ words.now.cap }
+    requires cap { words.now.cap ≤ 65536 }
     ensures text { IfOk result (λ text. IfSome (F.held files.old words.now.schedule.now) (λ s. IfSome (F.held files.old words.now.file.now) (λ f. replayed words.now.cap s f ≡ Some text.items))) }
     ensures refused { IsErrOf result Stop.Refused → IfSome (F.held files.old words.now.schedule.now) (λ s. IsSome (schedule_calls s) → IfSome (F.held files.old words.now.file.now) (λ f. file_commands words.now.cap f ≡ None)) }
     ensures served { IfErr result (λ stop. stop ≢ Stop.Usage) }

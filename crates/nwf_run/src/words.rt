@@ -23,7 +23,7 @@ const MAX_LIMIT: u32 = 255;
 /// Reads `replay queue CAP LIMIT SCHEDULE FILE`. Other words are no replay.
 pub fn replay_words(words: &[String]) -> Option<ReplayWords<'_>>
     ensures words { option_map (λ w. record { cap = w.cap; limit = w.limit; schedule = w.schedule.now; file = w.file.now }) result ≡ replay_words (map string_bytes words.now) }
-    ensures cap { IfSome result (λ w. w.cap ≤ 65536) }
+    ensures cap { IfSome result (λ w. (1 ≤ w.cap) × (w.cap ≤ 65536)) }
 {
     let [command, client, cap, limit, schedule, file] = words else {
         return None;
@@ -48,7 +48,7 @@ pub fn replay_words(words: &[String]) -> Option<ReplayWords<'_>>
 /// The number that a word writes, where it is in range.
 fn number_in(least: u32, most: u32, word: &str) -> Option<u32>
     ensures number { result ≡ number_in least most word.now }
-    ensures most { IfSome result (λ n. n ≤ most) }
+    ensures range { IfSome result (λ n. (least ≤ n) × (n ≤ most)) }
 {
     let number = number_up_to(most, word.as_bytes())?;
     if !word.is_empty() && least <= number {

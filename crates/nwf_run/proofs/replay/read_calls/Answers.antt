@@ -1,4 +1,4 @@
-use Rattle.std.proofs.Common.{ap, subst, sym, List, ℕ}
+use Rattle.std.proofs.Common.{subst}
 use Rattle.nwf_run.specs.Accepted.{schedule_calls}
 use Rattle.nwf_run.specs.Judged.{Judges}
 use Rattle.nwf_run.proofs.CutFiles.{cut_schedule}

@@ -1,4 +1,4 @@
-use Rattle.std.proofs.Common.{◌≡◌, List, ℕ, Some, Option, IfSome, length, min, take, ap, ◌∙◌, sym, subst, arith}
+use Rattle.std.proofs.Common.{◌≡◌, List, ℕ, Some, Option, IfSome, length, min, take, ap, ◌∙◌, subst, arith}
 use Rattle.lin_report.specs.Object.{queue_object}
 use Rattle.lin_report.specs.Sequence.{sequential_report}
 use Rattle.lin_report.specs.Text.{report_text}
