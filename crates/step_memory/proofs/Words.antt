@@ -29,13 +29,13 @@ word_elsewhere request words at other = get_or-set_other words (place_of request
 before_cond : (at : ℕ) (words : List ℕ) (won : Bool) → (cond (ltb at (length words)) (let seen : Seen = record { before = get_or words at 0; won = won } in seen) (record { before = 0; won = false })).before ≡ get_or words at 0
 before_cond at words won =
     ⊎_elim
-      (λ inside. let seen : Seen = record { before = get_or words at 0; won = won } in
-        let past : Seen = record { before = 0; won = false } in
-        ap (λ b. (cond b seen past).before) (lt-ltb at (length words) inside))
-      (λ beyond. let seen : Seen = record { before = get_or words at 0; won = won } in
-        let past : Seen = record { before = 0; won = false } in
-        ap (λ b. (cond b seen past).before) (le-ltb at (length words) beyond) ∙ sym (get_or_past words at 0 beyond))
-      (cases_lt at (length words))
+    (λ inside. let seen : Seen = record { before = get_or words at 0; won = won } in
+    let past : Seen = record { before = 0; won = false } in
+    ap (λ b. (cond b seen past).before) (lt-ltb at (length words) inside))
+    (λ beyond. let seen : Seen = record { before = get_or words at 0; won = won } in
+    let past : Seen = record { before = 0; won = false } in
+    ap (λ b. (cond b seen past).before) (le-ltb at (length words) beyond) ∙ sym (get_or_past words at 0 beyond))
+    (cases_lt at (length words))
 
 -- a load tells the word at its place, 0 past the end, and changes nothing
 pub load_tells : (at : ℕ) (words : List ℕ) → (seen_of (Load at) words).before ≡ get_or words at 0

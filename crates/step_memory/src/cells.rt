@@ -64,46 +64,24 @@ mod tests {
     use super::*;
     use std::test::Fail;
 
+    fn exchange(at: u32, from: u64, to: u64) -> Request {
+        Request::Exchange { at, from, to }
+    }
+
     #[test]
     fn each_request_on_a_word_and_past_the_end(rt: HostRuntime) -> Result<(), Fail> {
-        let words = [5, u64::MAX].to_vec(rt.alloc())?;
-        let mut cells = Cells::new(words);
-        let steps = [
+        let mut cells = Cells::new([5, u64::MAX].to_vec(rt.alloc())?);
+        for (request, before, won) in [
             (Request::Load { at: 0 }, 5, true),
-            (
-                Request::Exchange {
-                    at: 0,
-                    from: 4,
-                    to: 6,
-                },
-                5,
-                false,
-            ),
-            (
-                Request::Exchange {
-                    at: 0,
-                    from: 5,
-                    to: 6,
-                },
-                5,
-                true,
-            ),
+            (exchange(0, 4, 6), 5, false),
+            (exchange(0, 5, 6), 5, true),
             (Request::Store { at: 0, value: 7 }, 0, true),
             (Request::Add { at: 1, by: 2 }, u64::MAX, true),
             (Request::Load { at: 2 }, 0, false),
             (Request::Store { at: 2, value: 7 }, 0, false),
             (Request::Add { at: 2, by: 7 }, 0, false),
-            (
-                Request::Exchange {
-                    at: 2,
-                    from: 0,
-                    to: 7,
-                },
-                0,
-                false,
-            ),
-        ];
-        for (request, before, won) in steps {
+            (exchange(2, 0, 7), 0, false),
+        ] {
             assert_eq!(rt; cells.apply(request), Seen { before, won });
         }
         assert_eq!(rt; cells.words(), [7, 1].as_slice());

@@ -1,5 +1,5 @@
 //! Files in memory, for tests and for whoever has the bytes already.
-ghost use Rattle.std.specs.Prelude.{◌≡◌, ◌≢◌, ◌+◌, ◌≤◌, ◌<◌, ◌^◌, ◌↔◌, ◌-◌, if◌then◌else◌, IsTrue, ℕ, List, Option, Some, take, drop, length, min, map, IfOk, OnOk, OnErr, IsErr, IsSome, IfSome, slice_get, option_map, Contains, unwrap_or, [], string_bytes};
+ghost use Rattle.std.specs.Prelude.{◌≡◌, ◌≢◌, ◌+◌, ◌≤◌, ◌<◌, ◌^◌, ◌↔◌, ◌-◌, if◌then◌else◌, IsTrue, ℕ, List, Option, Some, take, drop, length, min, map, IfOk, OnOk, OnErr, IsErr, IsNone, Some, ◌⊎◌, ◌++◌, IsSome, IfSome, slice_get, option_map, Contains, unwrap_or, [], string_bytes};
 ghost use Rattle.std.specs.List.{position_from};
 ghost use Rattle.std.specs.Str.{bytes_eq};
 ghost use Rattle.std.specs.Io.KnownBytes.{Keeps, Consumes, IsAtEnd};
@@ -154,7 +154,18 @@ impl Files for FilesInMemory {
 
     ghost faults = { λ f. f.faults };
 
-    fn start_file(&mut self, name: &str) -> Result<(), Failed> {
+    fn start_file(&mut self, name: &str) -> Result<(), Failed>
+        ensures chosen { OnOk result (Keeps (first_named name.now self.old.files) (Some self.new.rest)) }
+        ensures held { (n : List ℕ) → first_named n self.new.files ≡ first_named n self.old.files }
+        ensures calm { OnOk result (self.new.faults ≡ self.old.faults) }
+        ensures fault { OnErr result (Rose self.old.faults self.new.faults) }
+
+        // It fails exactly where it is to, or where there is no such file, and then nothing is left.
+        ensures fails { IsErr result ↔ (Contains self.old.fails self.old.calls ⊎ IsNone (first_named name.now self.old.files)) }
+        ensures none_left { OnErr result (self.new.rest ≡ []) }
+        ensures counted { self.new.calls ≡ min (self.old.calls + 1) LAST_COUNT }
+        ensures same { (self.new.files ≡ self.old.files) × (self.new.fails ≡ self.old.fails) × (self.new.most ≡ self.old.most) }
+    {
         let fails = self.count_call();
         if !self.choose(name) {
             self.faults = self.faults.saturating_add(1);
@@ -167,7 +178,21 @@ impl Files for FilesInMemory {
         Ok(())
     }
 
-    fn read(&mut self, into: &mut [u8]) -> Result<usize, Failed> {
+    fn read(&mut self, into: &mut [u8]) -> Result<usize, Failed>
+        ensures fits { IfOk result (λ n. n ≤ length into.new) }
+        ensures reads { IfOk result (λ n. self.old.rest ≡ take n into.new ++ self.new.rest) }
+        ensures end { IfOk result (λ n. n ≡ 0 → 0 < length into.new → self.new.rest ≡ []) }
+        ensures tells { StillTells (Some self.old.rest) (Some self.new.rest) }
+        ensures held { (n : List ℕ) → first_named n self.new.files ≡ first_named n self.old.files }
+        ensures calm { OnOk result (self.new.faults ≡ self.old.faults) }
+        ensures fault { OnErr result (Rose self.old.faults self.new.faults) }
+
+        // It fails exactly where it is to, and gives as many bytes as there are, fit and may be given.
+        ensures fails { IsErr result ↔ Contains self.old.fails self.old.calls }
+        ensures count { IfOk result (λ n. n ≡ min (min (length self.old.rest) (length into.new)) self.old.most) }
+        ensures counted { self.new.calls ≡ min (self.old.calls + 1) LAST_COUNT }
+        ensures same { (self.new.files ≡ self.old.files) × (self.new.fails ≡ self.old.fails) × (self.new.most ≡ self.old.most) }
+    {
         if self.count_call() {
             return Err(Failed);
         }

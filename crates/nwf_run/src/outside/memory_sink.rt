@@ -1,5 +1,5 @@
 //! A sink in memory, for tests and for whoever wants the bytes.
-ghost use Rattle.std.specs.Prelude.{◌≡◌, ◌≤◌, ◌<◌, ◌^◌, ◌-◌, ◌+◌, ◌↔◌, ◌++◌, [], ℕ, Option, Some, take, length, min, if◌then◌else◌, IsTrue, IfOk, OnOk, OnErr, Contains, vec_len, vec_capacity};
+ghost use Rattle.std.specs.Prelude.{◌≡◌, ◌≤◌, ◌<◌, ◌^◌, ◌-◌, ◌+◌, ◌↔◌, ◌++◌, [], ℕ, Option, Some, take, length, min, if◌then◌else◌, IsTrue, IfOk, OnOk, OnErr, IsErr, ◌⊎◌, Contains, vec_len, vec_capacity};
 ghost use Rattle.std.specs.Io.KnownBytes.{Keeps, Appends};
 ghost use Rattle.nwf_run.specs.Outside.{LAST_COUNT, Rose};
 
@@ -113,7 +113,21 @@ impl Sink for SinkInMemory {
 
     ghost faults = { λ s. s.faults };
 
-    fn put(&mut self, bytes: &[u8]) -> Result<usize, Failed> {
+    fn put(&mut self, bytes: &[u8]) -> Result<usize, Failed>
+        ensures fits { IfOk result (λ n. n ≤ length bytes.now) }
+        ensures some { IfOk result (λ n. 0 < length bytes.now → 0 < n) }
+        ensures writes { IfOk result (λ n. self.new.bytes ≡ self.old.bytes ++ take n bytes.now) }
+        ensures kept { OnErr result (self.new.bytes ≡ self.old.bytes) }
+        ensures calm { OnOk result (self.new.faults ≡ self.old.faults) }
+        ensures fault { OnErr result (Rose self.old.faults self.new.faults) }
+
+        // It fails exactly where it is to, or where a piece with bytes finds no room, and takes as many
+        // bytes as there are, fit and may be taken.
+        ensures fails { IsErr result ↔ (Contains self.old.fails self.old.calls ⊎ ((0 < length bytes.now) × (self.old.room ≤ length self.old.bytes))) }
+        ensures count { IfOk result (λ n. n ≡ min (min (length bytes.now) self.old.most) (self.old.room - length self.old.bytes)) }
+        ensures counted { self.new.calls ≡ min (self.old.calls + 1) LAST_COUNT }
+        ensures same { (self.new.room ≡ self.old.room) × (self.new.fails ≡ self.old.fails) × (self.new.most ≡ self.old.most) }
+    {
         if self.count_call() {
             self.count_fault();
             return Err(Failed);
