@@ -1,0 +1,6 @@
+pub mod States
+pub mod Order
+pub mod Steps
+pub mod Tracking
+pub mod Greatest
+pub mod Ordered

@@ -1,0 +1,3 @@
+pub mod Overtaking
+pub mod Order
+pub mod OpenCalls
