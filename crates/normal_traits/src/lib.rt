@@ -9,3 +9,5 @@ pub use lists::{Entry, List, Offer};
 pub mod contention;
 pub mod form;
 pub mod lists;
+#[cfg(test)]
+mod tests;
