@@ -1,0 +1,2 @@
+pub mod Mechs
+pub mod PhaseTable
