@@ -99,3 +99,10 @@ Generates _ = ⊥
 abbrev pub Applies : {S W : Type 0} → Phase S W → Type 0
 Applies (phase.Apply run stores at) = Unit {0}
 Applies _ = ⊥
+
+-- the seat makes the same call
+pub record SameCall {S W : Type 0} (mech older : Mech S W) : Type 0 where
+  pub setup : mech.setup ≡ older.setup
+  pub seat : mech.seat ≡ older.seat
+  pub number : mech.number ≡ older.number
+  pub op : mech.op ≡ older.op

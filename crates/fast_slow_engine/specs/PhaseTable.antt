@@ -8,6 +8,9 @@ use Rattle.lin_report.specs.declared.calls.Reply.TheVariants as reply
 use Rattle.lin_report.specs.declared.calls.Receipt.{Receipt}
 use Rattle.lin_report.specs.declared.calls.PendingCall.{PendingCall}
 use Rattle.lin_report.specs.declared.calls.Path.TheVariants.{Fast}
+use Rattle.lin_report.specs.declared.events.Event.{Event}
+use Rattle.lin_report.specs.declared.events.EventKind.{EventKind}
+use Rattle.lin_report.specs.declared.events.EventKind.TheVariants as kind
 use Rattle.step_memory.specs.declared.steps.Request.{Request}
 use Rattle.step_memory.specs.declared.steps.Request.TheVariants.{Load, Store, Add}
 use Rattle.step_memory.specs.declared.steps.Seen.{Seen}
@@ -221,3 +224,25 @@ mech_new seat setup = record { setup = setup; seat = seat; number = 0; op = reco
 -- the next call begins
 abbrev pub mech_started : {S W : Type 0} → Op → Mech S W → Mech S W
 mech_started op mech = record mech { number = mech.number + 1; op = op; failures = 0; phase = Begin }
+
+abbrev pub event_of : {S W : Type 0} → EventKind → Mech S W → Event
+event_of kind mech = record { kind = kind; seat = mech.seat; number = mech.number }
+
+abbrev pub event_in : {S W : Type 0} → Phase S W → Mech S W → Option Event
+event_in Begin mech = Some (event_of kind.Begin mech)
+event_in (End reply) mech = Some (event_of kind.Return mech)
+event_in _ mech = None
+
+-- the event of the next step: a call begins where its begin tick is drawn, and returns where its end tick is
+abbrev pub mech_event : {S W : Type 0} → Mech S W → Option Event
+mech_event mech = event_in mech.phase mech
+
+-- how many ticks a call has still to draw
+abbrev pub ticks_left : {S W : Type 0} → Phase S W → ℕ
+ticks_left Idle = 0
+ticks_left Begin = 2
+ticks_left _ = 1
+
+-- how many lines: one for a call that runs
+abbrev pub lines_left : {S W : Type 0} → Phase S W → ℕ
+lines_left phase = if rests phase then 0 else 1

@@ -8,7 +8,7 @@ use crate::fast::go_on;
 use crate::phases::{Applying, Phase};
 use crate::requests::request_of;
 use crate::setup::{Setup, Turn};
-use lin_report::{Op, PendingCall};
+use lin_report::{Event, EventKind, Op, PendingCall};
 use normal_traits::{Contention, Normalized};
 use std::marker::Model;
 use step_memory::{Request, Seen};
@@ -32,7 +32,7 @@ impl<C: Normalized> Model for Machine<C> {
 
 impl<C: Normalized> Machine<C> {
     ghost use Rattle.lin_report.specs.Commands.{is_command};
-    ghost use Rattle.fast_slow_engine.specs.PhaseTable.{mech_new, mech_started, mech_pending, mech_request, mech_fed, mech_turn, rests, lists};
+    ghost use Rattle.fast_slow_engine.specs.PhaseTable.{mech_event, mech_new, mech_started, mech_pending, mech_request, mech_fed, mech_turn, rests, lists};
 
     /// A seat that has made no call and holds no block.
     pub fn new(seat: u32, setup: Setup) -> Machine<C>
@@ -120,5 +120,28 @@ impl<C: Normalized> Machine<C> {
             Phase::Idle | Phase::Begin => None,
             _ => Some(self.call.pending()),
         }
+    }
+
+    /// How many calls the seat has begun.
+    pub fn number(&self) -> u32
+        ensures { result ≡ self.now.number }
+    {
+        self.call.number
+    }
+
+    /// The event that the next step is, if it is one: it draws the begin tick or the end tick.
+    pub fn next_event(&self) -> Option<Event>
+        ensures { result ≡ mech_event self.now }
+    {
+        let kind = match &self.phase {
+            Phase::Begin => EventKind::Begin,
+            Phase::End(_) => EventKind::Return,
+            _ => return None,
+        };
+        Some(Event {
+            kind,
+            seat: self.call.seat,
+            number: self.call.number,
+        })
     }
 }
