@@ -1,0 +1,58 @@
+-- A run over command files, as a core holds it, and what a step of a seat makes of it.
+use Rattle.std.specs.Prelude.{ℕ, ◌+◌, ◌≤◌, List, map, sum_by, slice_get, Option, Some, None}
+use Rattle.lin_report.specs.declared.calls.Op.{Op}
+use Rattle.lin_report.specs.declared.calls.Receipt.{Receipt}
+use Rattle.lin_report.specs.declared.events.Event.{Event}
+use Rattle.step_memory.specs.Step.{seen_of}
+use Rattle.normal_traits.specs.NormalForm.{NormalForm}
+use Rattle.fast_slow_engine.specs.declared.setup.Setup.{Setup}
+use Rattle.fast_slow_engine.specs.declared.setup.Turn.{Turn}
+use Rattle.fast_slow_engine.specs.declared.setup.Turn.TheVariants as turn
+use Rattle.fast_slow_engine.specs.Mechs.{Mech}
+use Rattle.fast_slow_engine.specs.PhaseTable.{mech_request, mech_turn}
+use Rattle.fast_slow_engine.specs.Runs.{Move, RunState, begun, next_move, run_step}
+use Rattle.event_core.specs.declared.cores.CoreTurn.{CoreTurn}
+use Rattle.event_core.specs.declared.cores.CoreTurn.TheVariants.{Idle, Going, Returned}
+use Rattle.event_core.specs.Seats.{Seat, lines_owed, events_owed}
+
+-- a run with its command files, one for each seat
+pub record CoreView (S W : Type 0) : Type 0 where
+  pub setup : Setup
+  pub files : List (List Op)
+  pub state : RunState S W
+
+-- the run of these seats
+abbrev pub core_of : {S W : Type 0} → Setup → List ℕ → List (Seat S W) → List Receipt → List Event → CoreView S W
+core_of setup words seats receipts events =
+    record { setup = setup; files = map (λ seat. seat.file) seats; state = record { words = words; mechs = map (λ seat. seat.mech) seats; receipts = receipts; events = events } }
+
+-- there is room for all lines and events that the seats still owe, beside so many
+pub record HasRoom {S W : Type 0} (seats : List (Seat S W)) (lines line_room events event_room : ℕ) : Type 0 where
+  pub for_lines : lines + sum_by lines_owed seats ≤ line_room
+  pub for_events : events + sum_by events_owed seats ≤ event_room
+
+-- after the move of a seat, where it has one
+abbrev pub after_move : {S W : Type 0} → NormalForm S W → Option Move → RunState S W → RunState S W
+after_move form None state = state
+after_move form (Some move) state = run_step form state move
+
+-- what a step of a seat leaves
+abbrev pub core_stepped : {S W : Type 0} → NormalForm S W → ℕ → CoreView S W → CoreView S W
+core_stepped form seat view = record { setup = view.setup; files = view.files; state = after_move form (next_move view.files seat view.state) view.state }
+
+-- what a turn of a machine is to the core
+abbrev pub core_turn_of : Turn → CoreTurn
+core_turn_of turn.Going = Going
+core_turn_of (turn.Returned receipt) = Returned
+
+abbrev pub turn_by : {S W : Type 0} → NormalForm S W → Option (Mech S W) → Move → RunState S W → CoreTurn
+turn_by form None move state = Idle
+turn_by form (Some mech) move state = core_turn_of (mech_turn (begun move.begins mech) (seen_of (mech_request form (begun move.begins mech)) state.words))
+
+abbrev pub turn_after : {S W : Type 0} → NormalForm S W → Option Move → RunState S W → CoreTurn
+turn_after form None state = Idle
+turn_after form (Some move) state = turn_by form (slice_get state.mechs move.seat) move state
+
+-- what a step of a seat answers: Idle where it has no move, Returned where its call ends
+abbrev pub core_turn : {S W : Type 0} → NormalForm S W → ℕ → CoreView S W → CoreTurn
+core_turn form seat view = turn_after form (next_move view.files seat view.state) view.state

@@ -1,0 +1,38 @@
+-- A seat with the file of its commands.
+use Rattle.std.specs.Prelude.{ℕ, ◌+◌, ◌-◌, ◌*◌, ◌≤◌, Bool, false, if◌then◌else◌, List, length, slice_get, Option, None, IsTrue, All, is_none}
+use Rattle.lin_report.specs.declared.calls.Client.{Client}
+use Rattle.lin_report.specs.declared.calls.Op.{Op}
+use Rattle.lin_report.specs.Commands.{is_command}
+use Rattle.fast_slow_engine.specs.Mechs.{Mech}
+use Rattle.fast_slow_engine.specs.PhaseTable.{lines_left, rests, ticks_left}
+
+-- the machine of a seat, and its commands
+pub record Seat (S W : Type 0) : Type 0 where
+  pub mech : Mech S W
+  pub file : List Op
+
+-- a file is of commands of the client, as many as a seat can number
+pub record IsFileOf (client : Client) (file : List Op) : Type 0 where
+  pub commands : All (λ op. IsTrue (is_command client op)) file
+  pub few : length file ≤ 65535
+
+-- the seat's calls are commands of its file, begun in order
+pub record IsSeatOf {S W : Type 0} (client : Client) (seat : Seat S W) : Type 0 where
+  pub file : IsFileOf client seat.file
+  pub number : seat.mech.number ≤ length seat.file
+
+-- how many lines the seat has still to write: one for each command that hasn't returned
+abbrev pub lines_owed : {S W : Type 0} → Seat S W → ℕ
+lines_owed seat = length seat.file - seat.mech.number + lines_left seat.mech.phase
+
+-- how many events: two for each command that hasn't begun, and those of the call that runs
+abbrev pub events_owed : {S W : Type 0} → Seat S W → ℕ
+events_owed seat = 2 * (length seat.file - seat.mech.number) + ticks_left seat.mech.phase
+
+-- the command that the seat begins: the next one of its file, where no call runs
+abbrev pub command_of : {S W : Type 0} → Seat S W → Option Op
+command_of seat = if rests seat.mech.phase then slice_get seat.file seat.mech.number else None
+
+-- no call runs and no command is left
+abbrev pub is_over : {S W : Type 0} → Seat S W → Bool
+is_over seat = if rests seat.mech.phase then is_none (slice_get seat.file seat.mech.number) else false

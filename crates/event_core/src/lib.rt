@@ -1,0 +1,7 @@
+//! Runs of one to eight seats over one memory, one atomic step after the other.
+#![tactic(auto)]
+
+pub use cores::{Core, CoreTurn};
+
+pub mod cores;
+mod seats;

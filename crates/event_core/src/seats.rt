@@ -1,0 +1,102 @@
+//! A seat with the file of its commands.
+ghost use Rattle.std.specs.Prelude.{◌≡◌, ◌+◌, ◌<◌, true, false, not, length};
+ghost use Rattle.std.specs.Option.{option_to_list};
+ghost use Rattle.step_memory.specs.Step.{seen_of, words_after};
+ghost use Rattle.fast_slow_engine.specs.Runs.{begun, returned};
+ghost use Rattle.fast_slow_engine.specs.PhaseTable.{lists, mech_event, mech_fed, mech_new, mech_pending, mech_request, mech_turn, rests};
+
+use fast_slow_engine::{Machine, Setup, Turn};
+use lin_report::{Event, Op, PendingCall};
+use normal_traits::Normalized;
+use std::marker::Model;
+use step_memory::{Cells, Port};
+
+/// The machine of a seat, and its commands.
+#[derive(Drop)]
+pub struct Seat<C: Normalized> {
+    machine: Machine<C>,
+    file: Vec<Op>,
+}
+
+impl<C: Normalized> Model for Seat<C> {
+    ghost use Rattle.event_core.specs.Seats.{IsSeatOf, Seat as SeatView};
+
+    ghost Value = { SeatView C.Search C.Wrap };
+
+    ghost view = { λ s. record { mech = s.machine; file = s.file.items } };
+
+    ghost invariant = { λ s. IsSeatOf C.form.client (record { mech = s.machine; file = s.file.items }) };
+}
+
+impl<C: Normalized> Seat<C> {
+    ghost use Rattle.std.specs.Prelude.{Some, None};
+    ghost use Rattle.event_core.specs.Seats.{IsFileOf, command_of, events_owed, is_over, lines_owed};
+
+    /// Begins the seat's next command where no call runs. Whether a call runs then.
+    pub fn begin_next(&mut self) -> bool
+        ensures machine { self.new.mech ≡ begun (command_of self.old) self.old.mech }
+        ensures file { self.new.file ≡ self.old.file }
+        ensures over { result ≡ not (is_over self.old) }
+        ensures runs { result ≡ true → rests self.new.mech.phase ≡ false }
+        ensures lines { lines_owed self.new ≡ lines_owed self.old }
+        ensures events { events_owed self.new ≡ events_owed self.old }
+    {
+        if !self.machine.is_idle() {
+            return true;
+        }
+        let number = self.machine.number() as usize;
+        if number >= self.file.len() {
+            return false;
+        }
+        self.machine.start(self.file[number]);
+        true
+    }
+
+    /// The seat of this number, whose machine has made no call.
+    pub fn new(seat: u32, setup: Setup, file: Vec<Op>) -> Seat<C>
+        requires seat { seat < setup.seats }
+        requires file { IsFileOf C.form.client file.items }
+        ensures mech { result.mech ≡ mech_new seat setup }
+        ensures file { result.file ≡ file.items }
+    {
+        Seat {
+            machine: Machine::new(seat, setup),
+            file,
+        }
+    }
+
+    /// The event that the next step is, if it is one.
+    pub fn next_event(&self) -> Option<Event>
+        ensures { result ≡ mech_event self.now.mech }
+    {
+        self.machine.next_event()
+    }
+
+    /// Makes the next step of the call that runs.
+    pub fn step(&mut self, cells: &mut Cells) -> Turn
+        requires runs { rests self.old.mech.phase ≡ false }
+        ensures words { cells.new ≡ words_after (mech_request C.form self.old.mech) cells.old }
+        ensures mech { self.new.mech ≡ mech_fed C.form self.old.mech (seen_of (mech_request C.form self.old.mech) cells.old) }
+        ensures file { self.new.file ≡ self.old.file }
+        ensures turn { result ≡ mech_turn self.old.mech (seen_of (mech_request C.form self.old.mech) cells.old) }
+        ensures lines { lines_owed self.new + length (returned result) ≡ lines_owed self.old }
+        ensures events { events_owed self.new + length (option_to_list (mech_event self.old.mech)) ≡ events_owed self.old }
+    {
+        let seen = cells.apply(self.machine.request());
+        self.machine.feed(seen)
+    }
+
+    /// Whether the next step is the exchange of an entry of a list.
+    pub fn next_is_listed(&self) -> bool
+        ensures { result ≡ lists self.now.mech.phase }
+    {
+        self.machine.next_is_listed()
+    }
+
+    /// The call that runs, once its begin tick is drawn.
+    pub fn pending(&self) -> Option<PendingCall>
+        ensures { result ≡ mech_pending self.now.mech }
+    {
+        self.machine.pending()
+    }
+}

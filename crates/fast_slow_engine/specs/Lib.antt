@@ -1,0 +1,3 @@
+pub mod Mechs
+pub mod PhaseTable
+pub mod Runs

@@ -1,0 +1,13 @@
+//! The normalized form of a lock-free structure: a generator, which names a short list of exchanges, and a
+//! wrap-up, which reads how far that list got.
+#![tactic(auto)]
+
+pub use contention::Contention;
+pub use form::{Found, Normalized, Wrapped};
+pub use lists::{Entry, List, Offer};
+
+pub mod contention;
+pub mod form;
+pub mod lists;
+#[cfg(test)]
+mod tests;
