@@ -115,7 +115,7 @@ pub record Laws {S W : Type 0} (form : NormalForm S W) : Type 0 where
   pub wrap_fed : (world after : World) (seen : Seen) (wrap : W) (list : Listed) (stop : ℕ) → IsCommandOf form.client list.call.op → form.shape world → form.wraps wrap → form.follows wrap list stop world → Requested form (form.wrap_request_of wrap) world after seen
       → WrappedWell form after list stop (form.feed_wrap_of wrap seen) (form.wrap_found_of wrap seen)
   -- a dead list has made no change, and its first entry can't win any more
-  pub dead_unchanged : (world : World) (list : Listed) (change : Change) → form.shape world → form.dead list world → Among change world.changes → change.list.identity ≢ list.identity
+  pub dead_unchanged : (world : World) (list : Listed) (change : Change) → form.shape world → form.dead list world → Among change world.changes → change.list ≢ list
   pub dead_first : (world : World) (list : Listed) (search : S) (since : ℕ) (entry : Entry) → form.shape world → form.dead list world → IsOffered form world list search since → IsFresh world list → slice_get list.entries 0 ≡ Some entry → world.words entry.target ≢ entry.from
   -- a change beside the lists is that of a list with a block, whose first entry took effect
   pub beside : (world : World) (list : Listed) (entry : Entry) → form.shape world → form.adds_beside world entry ≡ Some list → (0 < list.block) × Took world list 0
