@@ -1,13 +1,16 @@
 -- What a structure in normalized form owes, each law of one state and one step.
 use Rattle.std.specs.Prelude.{◌≡◌, ◌≢◌, ℕ, ◌^◌, ◌<◌, ◌≤◌, ◌==◌, ◌++◌, ◌∷◌, true, false, ◌⊎◌, List, [], length, slice_get, Some, IsTrue, All, AllPairs}
 use Rattle.lin_report.specs.declared.calls.Op.{Op}
+use Rattle.lin_report.specs.declared.calls.Outcome.{Outcome}
+use Rattle.lin_report.specs.declared.calls.Outcome.TheVariants.{Plain, ValueOf}
 use Rattle.lin_report.specs.Object.{object_of}
 use Rattle.lin_report.specs.Commands.{IsCommandOf, may_exhaust}
 use Rattle.step_memory.specs.declared.steps.Request.{Request}
 use Rattle.step_memory.specs.declared.steps.Request.TheVariants.{Load, Store, Exchange, Add}
 use Rattle.step_memory.specs.declared.steps.Seen.{Seen}
 use Rattle.word_fields.specs.Versioned.{versioned_bit, changed_word}
-use Rattle.node_arena.specs.MemoryMap.{block_place}
+use Rattle.node_arena.specs.declared.places.TheConstants.{NODE_VALUE}
+use Rattle.node_arena.specs.MemoryMap.{block_place, node_place}
 use Rattle.node_arena.specs.Opening.{opening_word}
 use Rattle.normal_traits.specs.declared.form.Found.{Found}
 use Rattle.normal_traits.specs.declared.form.Found.TheVariants as found
@@ -60,17 +63,22 @@ pub record IsGoodOffer {S W : Type 0} (form : NormalForm S W) (world : World) (b
   pub stores : All (IsGoodStore form block) offer.stores
   pub count : length offer.stores ≤ 20
 
+-- the value that an outcome names stands at a place that is never exchanged, so it stays
+abbrev pub IsFixed : {S W : Type 0} → NormalForm S W → Outcome → Type 0
+IsFixed form (Plain reply) = Unit {0}
+IsFixed form (ValueOf reference) = form.is_versioned (node_place reference NODE_VALUE) ≡ false
+
 -- what a fed search has learnt, by what it found
 abbrev pub FoundWell : {S W : Type 0} → NormalForm S W → World → Op → ℕ → S → Found → Type 0
 FoundWell form world op since search found.Going = form.asks search
 FoundWell form world op since search found.Ready = form.is_ready search
-FoundWell form world op since search (found.Answer outcome) = RightSince (object_of form.client) world op since outcome
+FoundWell form world op since search (found.Answer outcome) = RightSince (object_of form.client) world op since outcome × IsFixed form outcome
 FoundWell form world op since search found.Contended = Unit {0}
 
 -- what has come of a wrap-up, by what it says
 abbrev pub WrappedWell : {S W : Type 0} → NormalForm S W → World → Listed → ℕ → W → Wrapped → Type 0
 WrappedWell form world list stop wrap wrapped.Going = form.wraps wrap × form.follows wrap list stop world
-WrappedWell form world list stop wrap (wrapped.Done outcome) = ChangedBy world list outcome
+WrappedWell form world list stop wrap (wrapped.Done outcome) = ChangedBy world list outcome × IsFixed form outcome
 WrappedWell form world list stop wrap wrapped.Restart = form.dead list world
 
 -- why a search gave up

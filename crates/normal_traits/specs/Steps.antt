@@ -92,7 +92,7 @@ module _ {S W : Type 0} (form : NormalForm S W) where
     -- a step on a word that is none of the client's: of the engine, or of a block that isn't used yet
     elsewhere : {world : World} (place word : ℕ) → is_word world place ≡ false → IsStep world (put_word place word world)
     -- the clearing of a bit, where a list may have set it
-    clears : {world : World} (place : ℕ) → is_word world place ≡ true → form.is_listable place ≡ true → IsStep world (put_word place (cleared_word (world.words place)) world)
+    clears : {world : World} (place : ℕ) → is_word world place ≡ true → form.is_versioned place ≡ true → form.is_listable place ≡ true → IsStep world (put_word place (cleared_word (world.words place)) world)
     -- a request of a search
     searches : {world after : World} {seen : Seen} (search : S) (op : Op) (since : ℕ) → IsCommandOf form.client op → form.asks search → form.knows search op world since
         → Requested (form.request_of search) world after seen → IsStep world after

@@ -32,7 +32,7 @@ pub enum Wrapped {
 /// A structure as a generator and a wrap-up. Each function's answer is a definition of its arguments
 /// alone, and the laws say what the steps amount to (`specs/Laws.antt`).
 pub trait Normalized {
-    ghost use Rattle.std.specs.Prelude.{◌≡◌, ◌<◌, ◌^◌, IsTrue};
+    ghost use Rattle.std.specs.Prelude.{◌≡◌, ◌<◌, ◌^◌, IsTrue, length};
     ghost use Rattle.lin_report.specs.Commands.{is_command};
     ghost use Rattle.normal_traits.specs.NormalForm.{NormalForm};
     ghost use Rattle.normal_traits.specs.declared.form.Found.TheVariants as found;
@@ -79,6 +79,7 @@ pub trait Normalized {
         requires command { IsTrue (is_command form.client op) }
         requires block { block < 2 ^ 17 }
         ensures list { result.list.items ≡ (form.offer_of search.now op block).entries }
+        ensures some { 0 < length result.list.items }
         ensures stores { result.stores.items ≡ (form.offer_of search.now op block).stores };
 
     /// Starts the wrap-up of a list that stopped at this entry.
