@@ -1,6 +1,6 @@
 //! The steps of a search, and the list that it names.
-ghost use Rattle.std.specs.Prelude.{◌≡◌, ◌<◌, ◌^◌, true};
-ghost use Rattle.queue_laws.specs.Search.{begun, asked, fed, met_by_put, met_by_take, put_offer, take_offer, offered};
+ghost use Rattle.std.specs.Prelude.{◌≡◌, ◌<◌, ◌≤◌, ◌^◌, true};
+ghost use Rattle.queue_laws.specs.Search.{begun, asked, fed, met_by_put, met_by_take, put_offer, take_offer, block_for, offered};
 
 use crate::words::{is_modified, moved, next_place, node_of};
 use arrayvec::ArrayVec;
@@ -153,6 +153,14 @@ fn take_offer(head: u64, next: u64) -> Offer
     }
 }
 
+/// The block that a list uses: a put's alone, for its node.
+fn block_for(op: Op, block: u32) -> u32
+    ensures block { result ≡ block_for op block }
+    ensures none_higher { result ≤ block }
+{
+    if op.code == PUT { block } else { 0 }
+}
+
 /// What a ready search names.
 pub fn offered(search: QueueSearch, op: Op, block: u32) -> Offer
     requires { block < 2 ^ 17 }
@@ -160,8 +168,8 @@ pub fn offered(search: QueueSearch, op: Op, block: u32) -> Offer
     ensures stores { result.stores.items ≡ (offered search op block).stores }
 {
     match search {
-        QueueSearch::PutReady { tail, next } if op.code == PUT => {
-            put_offer(tail, next, op.value, block)
+        QueueSearch::PutReady { tail, next } => {
+            put_offer(tail, next, op.value, block_for(op, block))
         }
         QueueSearch::TakeReady { head, next } => take_offer(head, next),
         _ => Offer {

@@ -1,5 +1,5 @@
 -- Every allowed step keeps the shape of the queue.
-use Rattle.std.proofs.Common.{◌≡◌, ℕ, ◌^◌, ◌<◌, Bool, true, false, cond, eqb, List, [], ◌∷◌, refl, sym, ap, ◌∙◌, subst, inl, inr, ◌⊎◌, Option, Some, None, arith}
+use Rattle.std.proofs.Common.{◌≡◌, ℕ, ◌^◌, ◌<◌, Bool, true, false, eqb, List, [], ◌∷◌, refl, sym, ap, ◌∙◌, subst, inl, inr, ◌⊎◌, Option, Some, None, arith}
 use Rattle.std.specs.Prelude.{slice_get, All}
 use Rattle.std.proofs.lemmas.Bool.{true≢false, cond-true, eq-eqb, cases_eq, or_left}
 use Rattle.lin_report.specs.declared.calls.Op.{Op}
@@ -20,13 +20,13 @@ use Rattle.queue_laws.specs.declared.states.QueueSearch.{QueueSearch}
 use Rattle.queue_laws.specs.declared.states.QueueSearch.TheVariants.{PutTail, PutNext, PutHelp, PutReady, TakeHead, TakeTail, TakeNext, TakeHelp, TakeReady}
 use Rattle.queue_laws.specs.declared.states.QueueWrap.{QueueWrap}
 use Rattle.queue_laws.specs.declared.states.QueueWrap.TheVariants.{Over, Tail, Swing}
-use Rattle.queue_laws.specs.Search.{is_put, asked, IsReady, offered, put_offer, no_offer, moved_word, next_place}
+use Rattle.queue_laws.specs.Search.{is_put, asked, IsReady, offered, put_offer, moved_word, next_place}
 use Rattle.queue_laws.specs.Wrap.{wrap_asked}
-use Rattle.queue_laws.specs.Chain.{is_versioned, is_listable}
+use Rattle.queue_laws.specs.Chain.{is_versioned}
 use Rattle.queue_laws.specs.Shape.{IsQueue}
 use Rattle.queue_laws.specs.Knowledge.{WasTail, WasNext, Learnt, Knows, Follows}
 use Rattle.queue_laws.specs.Form.{queue_form}
-use Rattle.queue_laws.proofs.Places.{same_place, other_place, not_word, listable_versioned}
+use Rattle.queue_laws.proofs.Places.{same_place, other_place, not_word}
 use Rattle.queue_laws.proofs.Later.{Later, Went, went, later, some_entry}
 use Rattle.queue_laws.proofs.Shapes.{still, tail_swings}
 use Rattle.queue_laws.proofs.Takes.{take_entry, taken, take_keeps}
@@ -91,7 +91,7 @@ tried world list searched since entry offer listed = by_search searched offer.re
     by_search (PutReady tail next) ready knows entries =
         let put = puts_is list.call.op knows.serves in
         let is : offered (PutReady tail next) list.call.op list.block ≡ put_offer tail next list.call.op.value list.block =
-        cond-true (is_put list.call.op) (put_offer tail next list.call.op.value list.block) no_offer put in
+        ap (put_offer tail next list.call.op.value) (cond-true (is_put list.call.op) list.block 0 put) in
         puts_it tail next put knows.learnt (the_entry list.entries entry (put_entry tail next list.block) listed (entries ∙ ap (λ (o : Offered). o.entries) is)) is
     by_search (TakeReady head next) ready knows entries =
         takes_it head next (takes_is list.call.op knows.serves) knows.learnt (the_entry list.entries entry (take_entry head next) listed entries)
@@ -154,11 +154,7 @@ no_second world list searched since entry offer listed = by_search searched offe
     none (Some e) = false
 
     by_search : (searched : QueueSearch) → IsReady searched → list.entries ≡ (offered searched list.call.op list.block).entries → ⊥
-    by_search (PutReady tail next) ready entries = by_op (is_put list.call.op) entries
-      where
-        by_op : (put : Bool) → list.entries ≡ (cond put (put_offer tail next list.call.op.value list.block) no_offer).entries → ⊥
-        by_op true e = true≢false (ap (λ (es : List Entry). none (slice_get es 1)) (sym e) ∙ ap none listed)
-        by_op false e = true≢false (ap (λ (es : List Entry). none (slice_get es 1)) (sym e) ∙ ap none listed)
+    by_search (PutReady tail next) ready entries = true≢false (ap (λ (es : List Entry). none (slice_get es 1)) (sym entries) ∙ ap none listed)
     by_search (TakeReady head next) ready entries = true≢false (ap (λ (es : List Entry). none (slice_get es 1)) (sym entries) ∙ ap none listed)
     by_search PutTail ready entries = absurd ready
     by_search (PutNext tail) ready entries = absurd ready
@@ -176,9 +172,9 @@ written_keeps world place word queue none kept =
     (λ at some versioned. let same = other_place place word world.words at (not_word world place at none some) in (ap versioned_value same, ap versioned_version same))
     (λ at some plain. other_place place word world.words at (not_word world place at none some))
 
-cleared_keeps : (world : World) (place : ℕ) → IsQueue world → is_listable place ≡ true → Later world (put_word place (cleared_word (world.words place)) world) → IsQueue (put_word place (cleared_word (world.words place)) world)
-cleared_keeps world place queue listable kept =
-    still world (with_word place (cleared_word (world.words place)) world.words) queue kept (λ at some versioned. fields at (cases_eq at place)) (λ at some plain. elsewhere_same at plain)
+cleared_keeps : (world : World) (place : ℕ) → IsQueue world → is_versioned place ≡ true → Later world (put_word place (cleared_word (world.words place)) world) → IsQueue (put_word place (cleared_word (world.words place)) world)
+cleared_keeps world place queue versioned kept =
+    still world (with_word place (cleared_word (world.words place)) world.words) queue kept (λ at some is. fields at (cases_eq at place)) (λ at some plain. elsewhere_same at plain)
   where
     cleared : ℕ → ℕ
     cleared = with_word place (cleared_word (world.words place)) world.words
@@ -195,14 +191,14 @@ cleared_keeps world place queue listable kept =
 
     elsewhere_same : (at : ℕ) → is_versioned at ≡ false → with_word place (cleared_word (world.words place)) world.words at ≡ world.words at
     elsewhere_same at plain =
-        other_place place (cleared_word (world.words place)) world.words at (λ here. true≢false (sym (listable_versioned place listable) ∙ ap is_versioned (sym here) ∙ plain))
+        other_place place (cleared_word (world.words place)) world.words at (λ here. true≢false (sym versioned ∙ ap is_versioned (sym here) ∙ plain))
 
 -- ---- each step
 
 keeps : (world after : World) → IsQueue world → Later world after → IsStep queue_form world after → IsQueue after
 keeps world _ queue kept nothing = queue
 keeps world _ queue kept (elsewhere place word none) = written_keeps world place word queue none kept
-keeps world _ queue kept (clears place some listable) = cleared_keeps world place queue listable kept
+keeps world _ queue kept (clears place some versioned listable) = cleared_keeps world place queue versioned kept
 keeps world after queue kept (searches {seen = seen} searched op since command asks knows requested) =
     help_keeps world after seen (asked searched) queue kept (search_helps world searched knows.learnt) (went (asked searched) world after seen requested)
 keeps world after queue kept (wraps {seen = seen} wrap list stop command going follows requested) =

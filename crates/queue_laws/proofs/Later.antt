@@ -181,7 +181,7 @@ other_rises world written word none place some = inl (other_place written word w
 pub later : (world after : World) → IsStep queue_form world after → Later world after
 later world _ nothing = later_same world
 later world _ (elsewhere place word none) = kept_later world (put_word place word world) refl refl refl (λ at some v. other_rises world place word none at some)
-later world _ (clears place some listable) = kept_later world (put_word place (cleared_word (world.words place)) world) refl refl refl (λ at w v. cleared_rises world place at)
+later world _ (clears place some versioned listable) = kept_later world (put_word place (cleared_word (world.words place)) world) refl refl refl (λ at w v. cleared_rises world place at)
 later world after (searches {seen = seen} searched op since command asks knows requested) =
     went_later (asked searched) world after seen (asked_clear searched) (went (asked searched) world after seen requested)
 later world after (wraps {seen = seen} wrap list stop command going follows requested) =

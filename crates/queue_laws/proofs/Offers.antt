@@ -17,12 +17,11 @@ use Rattle.node_arena.proofs.PlaceLemmas.{node_place-reference_to}
 use Rattle.normal_traits.specs.declared.form.Found.{Found}
 use Rattle.normal_traits.specs.declared.form.Found.TheVariants.{Going, Ready, Answer, Contended}
 use Rattle.normal_traits.specs.declared.lists.Entry.{Entry}
-use Rattle.normal_traits.specs.NormalForm.{Offered}
 use Rattle.normal_traits.specs.World.{World}
 use Rattle.normal_traits.specs.Laws.{MayContend, IsGoodEntry, IsGoodStore, IsGoodOffer}
 use Rattle.queue_laws.specs.declared.states.QueueSearch.{QueueSearch}
 use Rattle.queue_laws.specs.declared.states.QueueSearch.TheVariants.{PutTail, PutNext, PutHelp, PutReady, TakeHead, TakeTail, TakeNext, TakeHelp, TakeReady}
-use Rattle.queue_laws.specs.Search.{is_put, fed, IsReady, offered, put_offer, take_offer, no_offer, next_place, moved_word}
+use Rattle.queue_laws.specs.Search.{is_put, fed, IsReady, offered, put_offer, take_offer, next_place, moved_word}
 use Rattle.queue_laws.specs.Chain.{node_block, is_listable}
 use Rattle.queue_laws.specs.Shape.{IsQueue}
 use Rattle.queue_laws.specs.Knowledge.{Learnt, Serves}
@@ -150,7 +149,7 @@ put_offers world tail next value block queue l fits small =
 
 pub offers : (world : World) (searched : QueueSearch) (op : Op) (block : ℕ) → IsCommandOf Queue op → IsQueue world → Serves searched op → Learnt searched world → IsReady searched → block < 2 ^ 17 → IsGoodOffer queue_form world block (offered searched op block)
 offers world (PutReady tail next) op block command queue serves l ready small =
-    subst (IsGoodOffer queue_form world block) (sym (cond-true (is_put op) (put_offer tail next op.value block) no_offer (puts_is op serves)))
+    subst (IsGoodOffer queue_form world block) (sym (ap (put_offer tail next op.value) (cond-true (is_put op) block 0 (puts_is op serves))))
     (put_offers world tail next op.value block queue l (omega (arith, command.value)) small)
 offers world (TakeReady head next) op block command queue serves l ready small = take_offers world head next block queue l
 offers world PutTail op block command queue serves l ready small = absurd ready
@@ -164,7 +163,7 @@ offers world (TakeHelp tail next) op block command queue serves l ready small = 
 -- only a put's list uses the block
 pub same_entries : (searched : QueueSearch) (op : Op) (block other : ℕ) → is_put op ≡ false → (offered searched op block).entries ≡ (offered searched op other).entries
 same_entries (PutReady tail next) op block other take =
-    ap (λ (o : Offered). o.entries) (cond-false (is_put op) (put_offer tail next op.value block) no_offer take ∙ sym (cond-false (is_put op) (put_offer tail next op.value other) no_offer take))
+    ap (λ b. (put_offer tail next op.value b).entries) (cond-false (is_put op) block 0 take ∙ sym (cond-false (is_put op) other 0 take))
 same_entries (TakeReady head next) op block other take = refl
 same_entries PutTail op block other take = refl
 same_entries (PutNext tail) op block other take = refl

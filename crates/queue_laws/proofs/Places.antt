@@ -95,11 +95,3 @@ value_not_versioned block =
     let low = node_place_behind (reference_to block 1) NODE_VALUE in
     let at = field_of_place block NODE_VALUE (omega arith) in
     rw (ne_eqb place 20 (λ e. omega (arith, low)), ne_eqb place 21 (λ e. omega (arith, low)), ne_eqb (field_at place) 14 (λ e. omega (arith, at)), le-leb 32 place low) refl
-
-pub listable_versioned : (place : ℕ) → is_listable place ≡ true → is_versioned place ≡ true
-listable_versioned place e = weaker (eqb place 20) (eqb place 21) (is_next place) e
-  where
-    weaker : (a b c : Bool) → (a || c) ≡ true → (a || b || c) ≡ true
-    weaker true b c e = refl
-    weaker false true c e = refl
-    weaker false false c e = e

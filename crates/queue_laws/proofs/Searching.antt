@@ -191,7 +191,7 @@ take_met world queue op since head tail serves began was was_tail order = by_nul
     by_null : (null : Bool) → eqb (versioned_value (world.words (next_place head))) 0 ≡ null
         → FedWell world op since (cond null (TakeNext head tail, Answer (Plain Empty)) (cond (eqb (versioned_value tail) (versioned_value head)) (TakeHelp tail (world.words (next_place head)), Going) (TakeReady head (world.words (next_place head)), Ready)))
     by_null true e =
-        (record { serves = serves; began = began; learnt = (was, was_tail, order) }, empty_loaded world queue head since op serves began was (eqb-true (versioned_value (world.words (next_place head))) 0 e))
+        (record { serves = serves; began = began; learnt = (was, was_tail, order) }, (empty_loaded world queue head since op serves began was (eqb-true (versioned_value (world.words (next_place head))) 0 e), tt))
     by_null false e = by_node (eqb-false (versioned_value (world.words (next_place head))) 0 e) (eqb (versioned_value tail) (versioned_value head)) refl
 
 head_met : (world : World) → IsQueue world → (op : Op) (since : ℕ) → op.code ≡ TAKE → since ≤ length world.changes → FedWell world op since (cond (is_modified (world.words HEAD)) (TakeHead, Contended) (TakeTail (world.words HEAD), Going))

@@ -26,7 +26,7 @@ use Rattle.queue_laws.specs.Chain.{puts, node_block, put_value, node_at, next_of
 use Rattle.queue_laws.specs.Shape.{kind_of, reply_at, IsListed, IsQueue}
 use Rattle.queue_laws.specs.Knowledge.{WasLinked, Follows, IsDead}
 use Rattle.queue_laws.specs.Form.{queue_form}
-use Rattle.queue_laws.proofs.Places.{apart_nodes, block_of_place}
+use Rattle.queue_laws.proofs.Places.{apart_nodes, block_of_place, value_not_versioned}
 use Rattle.queue_laws.proofs.Journal.{reached_within}
 use Rattle.queue_laws.proofs.Kept.{next_place_is, next_place_word, next_place_versioned}
 use Rattle.queue_laws.proofs.Keeps.{IsTried, tried, no_second}
@@ -49,7 +49,7 @@ abbrev WellWrapped : World → Listed → ℕ → QueueWrap × Wrapped → Type 
 WellWrapped world list stop result = WrappedWell queue_form world list stop result.0 result.1
 
 put_done : (world : World) (list : Listed) (stop : ℕ) → Among (record { list = list; reply = Done }) world.changes → WellWrapped world list stop done
-put_done world list stop change = record { reply = Done; change = change; told = refl }
+put_done world list stop change = (record { reply = Done; change = change; told = refl }, tt)
 
 -- two places of next words of the chain are one for one node alone
 same_next : (world : World) → IsQueue world → (i k : ℕ) → i ≤ puts world.changes → k ≤ puts world.changes → next_of world.changes i ≡ next_of world.changes k → i ≡ k
@@ -116,15 +116,17 @@ succeeded world queue list stop t = by_op (is_put list.call.op) refl
         let known = listed_of world queue list t in
         let reply : reply_at world.changes list (known.0 + 1) ≡ Value (put_value world.changes (known.0 + 1)) = cond-false (is_put list.call.op) Done (Value (put_value world.changes (known.0 + 1))) e in
         let block = node_block world.changes (known.0 + 1) in
-        let at : node_place (versioned_value t.entry.to) NODE_VALUE ≡ value_of world.changes (known.0 + 1) = ap (λ reference. node_place reference NODE_VALUE) known.2 in
-        record {
-          reply = Value (put_value world.changes (known.0 + 1));
-          change = subst (λ (r : Reply). Among (record { list = list; reply = r }) world.changes) reply known.3.change;
-          told = (
-            ap (λ place. world.used (block_at place)) at ∙ ap world.used (block_of_place block NODE_VALUE (omega arith)) ∙ queue.chain.used (known.0 + 1) known.1,
-            ap Value (ap world.words at ∙ queue.chain.valued known.0 (omega (arith, known.1))),
-          );
-        }
+        let at : node_place (versioned_value t.entry.to) NODE_VALUE ≡ value_of world.changes (known.0 + 1) = ap (λ reference. node_place reference NODE_VALUE) known.2 in (
+          record {
+            reply = Value (put_value world.changes (known.0 + 1));
+            change = subst (λ (r : Reply). Among (record { list = list; reply = r }) world.changes) reply known.3.change;
+            told = (
+              ap (λ place. world.used (block_at place)) at ∙ ap world.used (block_of_place block NODE_VALUE (omega arith)) ∙ queue.chain.used (known.0 + 1) known.1,
+              ap Value (ap world.words at ∙ queue.chain.valued known.0 (omega (arith, known.1))),
+            );
+          },
+          ap is_versioned at ∙ value_not_versioned block,
+        )
 
 -- the entry of a list that is offered stands at a client's versioned place
 entry_place : (world : World) → IsQueue world → (list : Listed) (entry : Entry) {offer : Offered} → IsTried world list entry offer → (is_word world entry.target ≡ true) × (is_versioned entry.target ≡ true)

@@ -84,6 +84,10 @@ IsReady _ = ⊥
 abbrev pub no_offer : Offered
 no_offer = record { entries = []; stores = [] }
 
+-- the block that a list uses: a put's alone, for its node
+abbrev pub block_for : Op → ℕ → ℕ
+block_for op block = if is_put op then block else 0
+
 -- node 1 of the block is linked behind the tail's node, with the value
 abbrev pub put_offer : ℕ → ℕ → ℕ → ℕ → Offered
 put_offer tail next value block =
@@ -98,6 +102,6 @@ take_offer head next = record { entries = record { target = HEAD; from = head; t
 
 -- what a ready search names
 abbrev pub offered : QueueSearch → Op → ℕ → Offered
-offered (PutReady tail next) op block = if is_put op then put_offer tail next op.value block else no_offer
+offered (PutReady tail next) op block = put_offer tail next op.value (block_for op block)
 offered (TakeReady head next) op block = take_offer head next
 offered _ op block = no_offer
