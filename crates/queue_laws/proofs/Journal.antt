@@ -13,7 +13,7 @@ use Rattle.normal_traits.specs.World.Maker.{By, Beside}
 use Rattle.normal_traits.specs.Steps.{IsFresh}
 use Rattle.queue_laws.specs.Search.{is_put}
 use Rattle.queue_laws.specs.Chain.{puts, takes, node_block}
-use Rattle.queue_laws.specs.Shape.{kind_of, IsChain, HasEnds, AreMade, reached, reply_at, MadeWell, IsKnown, IsJournal}
+use Rattle.queue_laws.specs.Shape.{kind_of, IsChain, HasEnds, AreMade, reached, reply_at, MadeWell, BroughtIn, IsJournal}
 use Rattle.queue_laws.proofs.Changes.{same_node_at, same_next_of}
 use Rattle.queue_laws.proofs.Later.{Later}
 
@@ -61,7 +61,7 @@ module _ (world after : World) (kept : Later world after) (tail : versioned_vers
   )
   made_stays won before low Beside made = tt
 
-  pub known_stays : HasEnds world → (won : Won) → IsKnown world won → IsKnown after won
+  pub known_stays : HasEnds world → (won : Won) → BroughtIn world won → BroughtIn after won
   known_stays ends won known =
       let low : known.before + 1 ≤ puts world.changes = omega (arith, known.within, reached_within world ends (kind_of won.maker)) in
       record {
@@ -81,7 +81,7 @@ module _ (world after : World) (kept : Later world after) (tail : versioned_vers
       }
 
   -- one more was won, for the first node that its kind had not reached
-  pub journal_grows : HasEnds world → IsJournal world → IsChain after → (item : Won) → after.journal ≡ item ∷ world.journal → (known : IsKnown after item)
+  pub journal_grows : HasEnds world → IsJournal world → IsChain after → (item : Won) → after.journal ≡ item ∷ world.journal → (known : BroughtIn after item)
       → known.before ≡ reached world (kind_of item.maker) → known.before + 1 ≤ puts after.changes → IsJournal after
   journal_grows ends journal chain item same known next within =
       record {
@@ -90,8 +90,8 @@ module _ (world after : World) (kept : Later world after) (tail : versioned_vers
             (AllPairs-cons (λ (a b : Won). a.cause ≢ b.cause) item world.journal (all_among (λ (b : Won). item.cause ≢ b.cause) world.journal differs) journal.causes_differ);
       }
     where
-      by_item : (won : Won) → (won ≡ item) ⊎ Among won world.journal → IsKnown after won
-      by_item won (inl new) = subst (IsKnown after) (sym new) known
+      by_item : (won : Won) → (won ≡ item) ⊎ Among won world.journal → BroughtIn after won
+      by_item won (inl new) = subst (BroughtIn after) (sym new) known
       by_item won (inr old) = known_stays ends won (journal.known won old)
 
       differs : (b : Won) → Among b world.journal → item.cause ≢ b.cause

@@ -16,7 +16,7 @@ use Rattle.normal_traits.specs.World.Maker.{By}
 use Rattle.normal_traits.specs.Steps.{IsFresh, IsExchanged, with_word, change_of}
 use Rattle.queue_laws.specs.Search.{is_put, next_place}
 use Rattle.queue_laws.specs.Chain.{puts, takes, node_block, put_value, node_at, next_of, value_of}
-use Rattle.queue_laws.specs.Shape.{kind_of, cause_of, reached, reply_at, IsChain, HasEnds, IsKnown, IsQueue}
+use Rattle.queue_laws.specs.Shape.{kind_of, cause_of, reached, reply_at, IsChain, HasEnds, BroughtIn, IsQueue}
 use Rattle.queue_laws.specs.Knowledge.{WasTail}
 use Rattle.queue_laws.proofs.Places.{same_place, other_place, behind_first, apart_nodes, apart_fields}
 use Rattle.queue_laws.proofs.Changes.{Extends, extends_more, puts-put, takes-put, block-put, same_node_at, same_next_of}
@@ -127,7 +127,7 @@ module _ (world : World) (queue : IsQueue world) (list : Listed) (tail next word
         cond-true (is_put list.call.op) Done (Value (put_value (change_of queue_object list world.changes ∷ world.changes) (versioned_version tail + 1))) put
         ∙ sym (ap (λ (r : List ℕ × Reply). r.1) (apply-put list.call.op (held_after queue_object world.changes) put))
 
-    known : IsKnown (taken world list (put_entry tail next list.block) word used) (item_of (By list 0) (put_entry tail next list.block) (cause_of world (By list 0) (put_entry tail next list.block)))
+    known : BroughtIn (taken world list (put_entry tail next list.block) word used) (item_of (By list 0) (put_entry tail next list.block) (cause_of world (By list 0) (put_entry tail next list.block)))
     known =
         let block : list.block ≡ node_block (change_of queue_object list world.changes ∷ world.changes) (versioned_version tail + 1) =
         sym new_block ∙ ap (λ k. node_block (change_of queue_object list world.changes ∷ world.changes) (k + 1)) (sym last) in

@@ -15,7 +15,7 @@ use Rattle.normal_traits.specs.World.Maker.{By}
 use Rattle.normal_traits.specs.Steps.{IsFresh, IsExchanged, with_word, change_of}
 use Rattle.queue_laws.specs.Search.{is_put, moved_word}
 use Rattle.queue_laws.specs.Chain.{puts, takes, node_block, put_value, node_at, next_of, value_of}
-use Rattle.queue_laws.specs.Shape.{kind_of, cause_of, reached, reply_at, HasEnds, IsKnown, IsQueue}
+use Rattle.queue_laws.specs.Shape.{kind_of, cause_of, reached, reply_at, HasEnds, BroughtIn, IsQueue}
 use Rattle.queue_laws.specs.Knowledge.{WasNext}
 use Rattle.queue_laws.proofs.Places.{other_place, behind_first}
 use Rattle.queue_laws.proofs.Changes.{puts-take, takes-take, block-take, value-take}
@@ -85,7 +85,7 @@ module _ (world : World) (queue : IsQueue world) (list : Listed) (head next word
   kind_is : kind_of (By list 0) ≡ 1
   kind_is = cond-false (is_put list.call.op) 0 1 take
 
-  known : IsKnown (taken world list (take_entry head next) word used) (item_of (By list 0) (take_entry head next) (cause_of world (By list 0) (take_entry head next)))
+  known : BroughtIn (taken world list (take_entry head next) word used) (item_of (By list 0) (take_entry head next) (cause_of world (By list 0) (take_entry head next)))
   known =
       let nodes = node_same world.changes (change_of queue_object list world.changes ∷ world.changes) unchanged in
       let named : versioned_value (moved_word head next) ≡ node_at world.changes (versioned_version head + 1) = to_value ∙ was.names in

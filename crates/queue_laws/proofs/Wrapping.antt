@@ -23,7 +23,7 @@ use Rattle.queue_laws.specs.declared.states.QueueWrap.TheVariants.{Over, Tail, S
 use Rattle.queue_laws.specs.Search.{is_put, next_place}
 use Rattle.queue_laws.specs.Wrap.{done, after_entry, wrap_begun, wrap_asked, wrap_fed, Wraps}
 use Rattle.queue_laws.specs.Chain.{puts, node_block, put_value, node_at, next_of, value_of, is_versioned}
-use Rattle.queue_laws.specs.Shape.{kind_of, reply_at, IsListed, IsQueue}
+use Rattle.queue_laws.specs.Shape.{kind_of, reply_at, MadeChange, IsQueue}
 use Rattle.queue_laws.specs.Knowledge.{WasLinked, Follows, IsDead}
 use Rattle.queue_laws.specs.Form.{queue_form}
 use Rattle.queue_laws.proofs.Places.{apart_nodes, block_of_place, value_not_versioned}
@@ -92,7 +92,7 @@ wrap_met world after seen (Swing tail to) list stop queue kept going follows w =
 -- a list that took effect made its change
 listed_of : (world : World) → IsQueue world → (list : Listed) → (t : Took world list 0)
     → (before : ℕ) × (before + 1 ≤ puts world.changes) × (versioned_value t.entry.to ≡ node_at world.changes (before + 1))
-    × IsListed world (record { place = t.entry.target; before = t.entry.from; after = t.entry.to; maker = By list 0; cause = t.cause }) list before
+    × MadeChange world (record { place = t.entry.target; before = t.entry.from; after = t.entry.to; maker = By list 0; cause = t.cause }) list before
 listed_of world queue list t =
     let item : Won = record { place = t.entry.target; before = t.entry.from; after = t.entry.to; maker = By list 0; cause = t.cause } in
     let known = queue.journal.known item t.won in

@@ -66,9 +66,11 @@ pub record Knows (search : QueueSearch) (op : Op) (world : World) (since : ℕ) 
   pub began : since ≤ length world.changes
   pub learnt : Learnt search world
 
--- the word that a search has just loaded, which may have its bit set
+-- the word that a search has just loaded and would list: the last next word, or the head
 abbrev pub Keeps : QueueSearch → Seen → ℕ → Type 0
-Keeps search seen word = seen.before ≡ word
+Keeps (PutNext tail) seen word = seen.before ≡ word
+Keeps TakeHead seen word = seen.before ≡ word
+Keeps _ seen word = ⊥
 
 -- the place and the word by which a put has linked its node
 pub record WasLinked (world : World) (target to : ℕ) : Type 0 where

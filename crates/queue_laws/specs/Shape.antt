@@ -65,16 +65,16 @@ abbrev pub reply_at : List Change → Listed → ℕ → Reply
 reply_at changes list k = if is_put list.call.op then Done else Value (put_value changes k)
 
 -- a list's exchange made its change; that of a put linked a node behind this one
-pub record IsListed (world : World) (won : Won) (list : Listed) (before : ℕ) : Type 0 where
+pub record MadeChange (world : World) (won : Won) (list : Listed) (before : ℕ) : Type 0 where
   pub change : Among (record { list = list; reply = reply_at world.changes list (before + 1) }) world.changes
   pub place : is_put list.call.op ≡ true → won.place ≡ next_of world.changes before
 
 abbrev pub MadeWell : World → Won → ℕ → Maker → Type 0
-MadeWell world won before (By list j) = (j ≡ 0) × IsListed world won list before
+MadeWell world won before (By list j) = (j ≡ 0) × MadeChange world won list before
 MadeWell world won before Beside = Unit {0}
 
 -- a won exchange brought in the node behind this one, for that node's sake
-pub record IsKnown (world : World) (won : Won) : Type 0 where
+pub record BroughtIn (world : World) (won : Won) : Type 0 where
   pub before : ℕ
   pub within : before < reached world (kind_of won.maker)
   pub node : versioned_value won.after ≡ node_at world.changes (before + 1)
@@ -83,7 +83,7 @@ pub record IsKnown (world : World) (won : Won) : Type 0 where
 
 -- each won exchange is known, and no two were made for one node in one kind
 pub record IsJournal (world : World) : Type 0 where
-  pub known : (won : Won) → Among won world.journal → IsKnown world won
+  pub known : (won : Won) → Among won world.journal → BroughtIn world won
   pub causes_differ : AllPairs (λ (a b : Won). a.cause ≢ b.cause) world.journal
 
 -- the words are those of a queue with these changes
