@@ -1,0 +1,7 @@
+-- The queue's laws, under the name that its `impl` cites.
+use Rattle.normal_traits.specs.Laws.{Laws}
+use Rattle.queue_laws.specs.Form.{queue_form}
+use Rattle.queue_laws.proofs.Laws.{laws}
+
+pub queue_laws : Laws queue_form
+queue_laws = laws

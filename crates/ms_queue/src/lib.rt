@@ -1,0 +1,13 @@
+//! The queue of Michael and Scott in normalized form: `put` links a node behind the last one, `take` moves
+//! the head, and the tail follows.
+#![tactic(auto)]
+
+pub use queue::MsQueue;
+pub use queue_laws::{QueueSearch, QueueWrap};
+
+pub mod queue;
+mod search;
+#[cfg(test)]
+mod tests;
+mod words;
+mod wrap;

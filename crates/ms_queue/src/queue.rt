@@ -1,0 +1,63 @@
+//! The queue as a structure in normalized form.
+
+use crate::search::{asked, begun, fed, offered};
+use crate::wrap::{wrap_asked, wrap_begun, wrap_fed};
+use lin_report::calls::PUT;
+use lin_report::{Client, Op};
+use normal_traits::{Found, List, Normalized, Offer, Wrapped};
+use queue_laws::{QueueSearch, QueueWrap};
+use step_memory::{Request, Seen};
+
+/// The queue. Its head and its tail stand at places 20 and 21, and block 0 has the first dummy node.
+pub struct MsQueue;
+
+impl Normalized for MsQueue {
+    ghost use Rattle.queue_laws.specs.Form.{queue_form};
+    ghost use Rattle.ms_queue.specs.ProvedLaws.{queue_laws};
+
+    type Search = QueueSearch;
+
+    type Wrap = QueueWrap;
+
+    const CLIENT: Client = Client::Queue;
+
+    ghost form = { queue_form };
+
+    fn needs_block(op: Op) -> bool {
+        op.code == PUT
+    }
+
+    fn begin(op: Op) -> QueueSearch {
+        begun(op)
+    }
+
+    fn request(search: &QueueSearch) -> Request {
+        asked(*search)
+    }
+
+    fn feed(search: &mut QueueSearch, seen: Seen) -> Found {
+        let (after, found) = fed(*search, seen);
+        *search = after;
+        found
+    }
+
+    fn offer(search: &QueueSearch, op: Op, block: u32) -> Offer {
+        offered(*search, op, block)
+    }
+
+    fn begin_wrap(op: Op, list: &List, stop: u32) -> (QueueWrap, Wrapped) {
+        wrap_begun(op, list, stop)
+    }
+
+    fn wrap_request(wrap: &QueueWrap) -> Request {
+        wrap_asked(*wrap)
+    }
+
+    fn feed_wrap(wrap: &mut QueueWrap, seen: Seen) -> Wrapped {
+        let (after, wrapped) = wrap_fed(*wrap, seen);
+        *wrap = after;
+        wrapped
+    }
+
+    ghost laws = { queue_laws };
+}

@@ -1,0 +1,180 @@
+//! The steps of a search, and the list that it names.
+ghost use Rattle.std.specs.Prelude.{◌≡◌, ◌<◌, ◌≤◌, ◌^◌, true};
+ghost use Rattle.queue_laws.specs.Search.{begun, asked, fed, met_by_put, met_by_take, put_offer, take_offer, block_for, offered};
+
+use crate::words::{is_modified, moved, next_place, node_of};
+use arrayvec::ArrayVec;
+use lin_report::calls::PUT;
+use lin_report::{Op, Outcome, Reply};
+use node_arena::places::{HEAD, NODE_NEXT, NODE_VALUE, TAIL};
+use node_arena::{node_place, reference_to};
+use normal_traits::{Entry, Found, Offer};
+use queue_laws::QueueSearch;
+use step_memory::{Request, Seen};
+use word_fields::VersionedWord;
+
+/// A search that begins.
+pub fn begun(op: Op) -> QueueSearch
+    ensures { result ≡ begun op }
+{
+    if op.code == PUT {
+        QueueSearch::PutTail
+    } else {
+        QueueSearch::TakeHead
+    }
+}
+
+/// The exchange that moves the tail to the node that the next word names.
+fn help(tail: u64, next: u64) -> Request
+    ensures { result ≡ asked (QueueSearch.PutHelp tail next) }
+{
+    Request::Exchange {
+        at: TAIL,
+        from: tail,
+        to: moved(tail, next),
+    }
+}
+
+/// What a search asks for.
+pub fn asked(search: QueueSearch) -> Request
+    ensures { result ≡ asked search }
+{
+    match search {
+        QueueSearch::PutTail | QueueSearch::PutReady { .. } | QueueSearch::TakeTail { .. } => {
+            Request::Load { at: TAIL }
+        }
+        QueueSearch::TakeHead | QueueSearch::TakeReady { .. } => Request::Load { at: HEAD },
+        QueueSearch::PutNext { tail } => Request::Load {
+            at: next_place(tail),
+        },
+        QueueSearch::TakeNext { head, .. } => Request::Load {
+            at: next_place(head),
+        },
+        QueueSearch::PutHelp { tail, next } | QueueSearch::TakeHelp { tail, next } => {
+            help(tail, next)
+        }
+    }
+}
+
+/// A put has loaded the next word of the tail's node.
+fn met_by_put(tail: u64, next: u64) -> (QueueSearch, Found)
+    ensures { result ≡ met_by_put tail next }
+{
+    if node_of(next) != 0 {
+        return (QueueSearch::PutHelp { tail, next }, Found::Going);
+    }
+    if is_modified(next) {
+        (QueueSearch::PutNext { tail }, Found::Contended)
+    } else {
+        (QueueSearch::PutReady { tail, next }, Found::Ready)
+    }
+}
+
+/// A take has loaded the next word of the head's node.
+fn met_by_take(head: u64, tail: u64, next: u64) -> (QueueSearch, Found)
+    ensures { result ≡ met_by_take head tail next }
+{
+    if node_of(next) == 0 {
+        let empty = Found::Answer(Outcome::Plain(Reply::Empty));
+        return (QueueSearch::TakeNext { head, tail }, empty);
+    }
+    if node_of(tail) == node_of(head) {
+        (QueueSearch::TakeHelp { tail, next }, Found::Going)
+    } else {
+        (QueueSearch::TakeReady { head, next }, Found::Ready)
+    }
+}
+
+/// A take has loaded the head.
+fn met_head(head: u64) -> (QueueSearch, Found)
+    ensures { result ≡ fed QueueSearch.TakeHead (record { before = head; won = true }) }
+{
+    if is_modified(head) {
+        (QueueSearch::TakeHead, Found::Contended)
+    } else {
+        (QueueSearch::TakeTail { head }, Found::Going)
+    }
+}
+
+/// What a search is after its step, and what it found.
+pub fn fed(search: QueueSearch, seen: Seen) -> (QueueSearch, Found)
+    ensures { result ≡ fed search seen }
+{
+    let before = seen.before;
+    match search {
+        QueueSearch::PutTail => (QueueSearch::PutNext { tail: before }, Found::Going),
+        QueueSearch::PutNext { tail } => met_by_put(tail, before),
+        QueueSearch::PutHelp { .. } if seen.won => (QueueSearch::PutTail, Found::Going),
+        QueueSearch::TakeHead => met_head(before),
+        QueueSearch::TakeTail { head } => {
+            let next = QueueSearch::TakeNext { head, tail: before };
+            (next, Found::Going)
+        }
+        QueueSearch::TakeNext { head, tail } => met_by_take(head, tail, before),
+        QueueSearch::TakeHelp { .. } if seen.won => (QueueSearch::TakeHead, Found::Going),
+        QueueSearch::PutHelp { .. } | QueueSearch::TakeHelp { .. } => (search, Found::Contended),
+        QueueSearch::PutReady { .. } | QueueSearch::TakeReady { .. } => (search, Found::Ready),
+    }
+}
+
+/// The offer of a put: node 1 of the block is linked behind the tail's node.
+fn put_offer(tail: u64, next: u64, value: u32, block: u32) -> Offer
+    requires { block < 2 ^ 17 }
+    ensures list { result.list.items ≡ (put_offer tail next value block).entries }
+    ensures stores { result.stores.items ≡ (put_offer tail next value block).stores }
+{
+    let node = reference_to(block, 1);
+    let mut list = ArrayVec::new();
+    list.push(Entry {
+        target: next_place(tail),
+        from: next,
+        to: VersionedWord::unpack(next).changed(node).pack(),
+    });
+    let mut stores = ArrayVec::new();
+    stores.push((node_place(node, NODE_VALUE), u64::from(value)));
+    stores.push((node_place(node, NODE_NEXT), 0));
+    Offer { list, stores }
+}
+
+/// The offer of a take: the head is moved to the node behind it.
+fn take_offer(head: u64, next: u64) -> Offer
+    ensures list { result.list.items ≡ (take_offer head next).entries }
+    ensures stores { result.stores.items ≡ (take_offer head next).stores }
+{
+    let mut list = ArrayVec::new();
+    list.push(Entry {
+        target: HEAD,
+        from: head,
+        to: moved(head, next),
+    });
+    Offer {
+        list,
+        stores: ArrayVec::new(),
+    }
+}
+
+/// The block that a list uses: a put's alone, for its node.
+fn block_for(op: Op, block: u32) -> u32
+    ensures block { result ≡ block_for op block }
+    ensures none_higher { result ≤ block }
+{
+    if op.code == PUT { block } else { 0 }
+}
+
+/// What a ready search names.
+pub fn offered(search: QueueSearch, op: Op, block: u32) -> Offer
+    requires { block < 2 ^ 17 }
+    ensures list { result.list.items ≡ (offered search op block).entries }
+    ensures stores { result.stores.items ≡ (offered search op block).stores }
+{
+    match search {
+        QueueSearch::PutReady { tail, next } => {
+            put_offer(tail, next, op.value, block_for(op, block))
+        }
+        QueueSearch::TakeReady { head, next } => take_offer(head, next),
+        _ => Offer {
+            list: ArrayVec::new(),
+            stores: ArrayVec::new(),
+        },
+    }
+}

@@ -1,0 +1,16 @@
+pub mod Places
+pub mod Changes
+pub mod Later
+pub mod Kept
+pub mod Journal
+pub mod History
+pub mod Chains
+pub mod Shapes
+pub mod Takes
+pub mod Puts
+pub mod Keeps
+pub mod Opening
+pub mod Searching
+pub mod Offers
+pub mod Wrapping
+pub mod Laws
