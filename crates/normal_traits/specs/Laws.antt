@@ -1,13 +1,16 @@
 -- What a structure in normalized form owes, each law of one state and one step.
 use Rattle.std.specs.Prelude.{◌≡◌, ◌≢◌, ℕ, ◌^◌, ◌<◌, ◌≤◌, ◌==◌, ◌++◌, ◌∷◌, true, false, ◌⊎◌, List, [], length, slice_get, Some, IsTrue, All, AllPairs}
 use Rattle.lin_report.specs.declared.calls.Op.{Op}
+use Rattle.lin_report.specs.declared.calls.Outcome.{Outcome}
+use Rattle.lin_report.specs.declared.calls.Outcome.TheVariants.{Plain, ValueOf}
 use Rattle.lin_report.specs.Object.{object_of}
 use Rattle.lin_report.specs.Commands.{IsCommandOf, may_exhaust}
 use Rattle.step_memory.specs.declared.steps.Request.{Request}
 use Rattle.step_memory.specs.declared.steps.Request.TheVariants.{Load, Store, Exchange, Add}
 use Rattle.step_memory.specs.declared.steps.Seen.{Seen}
 use Rattle.word_fields.specs.Versioned.{versioned_bit, changed_word}
-use Rattle.node_arena.specs.MemoryMap.{block_place}
+use Rattle.node_arena.specs.declared.places.TheConstants.{NODE_VALUE}
+use Rattle.node_arena.specs.MemoryMap.{block_place, node_place}
 use Rattle.node_arena.specs.Opening.{opening_word}
 use Rattle.normal_traits.specs.declared.form.Found.{Found}
 use Rattle.normal_traits.specs.declared.form.Found.TheVariants as found
@@ -60,17 +63,22 @@ pub record IsGoodOffer {S W : Type 0} (form : NormalForm S W) (world : World) (b
   pub stores : All (IsGoodStore form block) offer.stores
   pub count : length offer.stores ≤ 20
 
+-- the value that an outcome names stands at a place that is never exchanged, so it stays
+abbrev pub IsFixed : {S W : Type 0} → NormalForm S W → Outcome → Type 0
+IsFixed form (Plain reply) = Unit {0}
+IsFixed form (ValueOf reference) = form.is_versioned (node_place reference NODE_VALUE) ≡ false
+
 -- what a fed search has learnt, by what it found
 abbrev pub FoundWell : {S W : Type 0} → NormalForm S W → World → Op → ℕ → S → Found → Type 0
 FoundWell form world op since search found.Going = form.asks search
 FoundWell form world op since search found.Ready = form.is_ready search
-FoundWell form world op since search (found.Answer outcome) = RightSince (object_of form.client) world op since outcome
+FoundWell form world op since search (found.Answer outcome) = RightSince (object_of form.client) world op since outcome × IsFixed form outcome
 FoundWell form world op since search found.Contended = Unit {0}
 
 -- what has come of a wrap-up, by what it says
 abbrev pub WrappedWell : {S W : Type 0} → NormalForm S W → World → Listed → ℕ → W → Wrapped → Type 0
 WrappedWell form world list stop wrap wrapped.Going = form.wraps wrap × form.follows wrap list stop world
-WrappedWell form world list stop wrap (wrapped.Done outcome) = ChangedBy world list outcome
+WrappedWell form world list stop wrap (wrapped.Done outcome) = ChangedBy world list outcome × IsFixed form outcome
 WrappedWell form world list stop wrap wrapped.Restart = form.dead list world
 
 -- why a search gave up
@@ -115,7 +123,7 @@ pub record Laws {S W : Type 0} (form : NormalForm S W) : Type 0 where
   pub wrap_fed : (world after : World) (seen : Seen) (wrap : W) (list : Listed) (stop : ℕ) → IsCommandOf form.client list.call.op → form.shape world → form.wraps wrap → form.follows wrap list stop world → Requested form (form.wrap_request_of wrap) world after seen
       → WrappedWell form after list stop (form.feed_wrap_of wrap seen) (form.wrap_found_of wrap seen)
   -- a dead list has made no change, and its first entry can't win any more
-  pub dead_unchanged : (world : World) (list : Listed) (change : Change) → form.shape world → form.dead list world → Among change world.changes → change.list.identity ≢ list.identity
+  pub dead_unchanged : (world : World) (list : Listed) (change : Change) → form.shape world → form.dead list world → Among change world.changes → change.list ≢ list
   pub dead_first : (world : World) (list : Listed) (search : S) (since : ℕ) (entry : Entry) → form.shape world → form.dead list world → IsOffered form world list search since → IsFresh world list → slice_get list.entries 0 ≡ Some entry → world.words entry.target ≢ entry.from
   -- a change beside the lists is that of a list with a block, whose first entry took effect
   pub beside : (world : World) (list : Listed) (entry : Entry) → form.shape world → form.adds_beside world entry ≡ Some list → (0 < list.block) × Took world list 0

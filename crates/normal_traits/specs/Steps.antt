@@ -1,5 +1,5 @@
 -- What anyone may do to the world of a client: the allowed steps, and what each leaves.
-use Rattle.std.specs.Prelude.{◌≡◌, ◌≢◌, ℕ, ◌+◌, ◌<◌, ◌==◌, ◌||◌, if◌then◌else◌, Bool, true, false, List, ◌∷◌, slice_get, Option, Some, None, All}
+use Rattle.std.specs.Prelude.{◌≡◌, ◌≢◌, ℕ, ◌+◌, ◌^◌, ◌<◌, ◌==◌, ◌||◌, if◌then◌else◌, Bool, true, false, List, ◌∷◌, slice_get, Option, Some, None, All}
 use Rattle.lin_report.specs.declared.calls.Op.{Op}
 use Rattle.lin_report.specs.Object.{Object, object_of}
 use Rattle.lin_report.specs.Commands.{IsCommandOf}
@@ -70,11 +70,12 @@ module _ {S W : Type 0} (form : NormalForm S W) where
         journal = record { place = entry.target; before = entry.from; after = entry.to; maker = maker; cause = form.cause_of world maker entry } ∷ world.journal;
       }
 
-  -- a list of an offer that a ready search made for its call
+  -- a list of an offer that a ready search made for its call, whose block, if any, is one of the arena
   pub record IsOffered (world : World) (list : Listed) (search : S) (since : ℕ) : Type 0 where
     pub command : IsCommandOf form.client list.call.op
     pub knows : form.knows search list.call.op world since
     pub ready : form.is_ready search
+    pub small : list.block < 2 ^ 17
     pub entries : list.entries ≡ (form.offer_of search list.call.op list.block).entries
 
   -- what a request of a search or wrap-up beside its list does to the world, and what it sees
@@ -90,16 +91,16 @@ module _ {S W : Type 0} (form : NormalForm S W) where
     nothing : {world : World} → IsStep world world
     -- a step on a word that is none of the client's: of the engine, or of a block that isn't used yet
     elsewhere : {world : World} (place word : ℕ) → is_word world place ≡ false → IsStep world (put_word place word world)
-    -- the clearing of a bit
-    clears : {world : World} (place : ℕ) → is_word world place ≡ true → IsStep world (put_word place (cleared_word (world.words place)) world)
+    -- the clearing of a bit, where a list may have set it
+    clears : {world : World} (place : ℕ) → is_word world place ≡ true → form.is_versioned place ≡ true → form.is_listable place ≡ true → IsStep world (put_word place (cleared_word (world.words place)) world)
     -- a request of a search
     searches : {world after : World} {seen : Seen} (search : S) (op : Op) (since : ℕ) → IsCommandOf form.client op → form.asks search → form.knows search op world since
         → Requested (form.request_of search) world after seen → IsStep world after
     -- a request of a wrap-up
     wraps : {world after : World} {seen : Seen} (wrap : W) (list : Listed) (stop : ℕ) → IsCommandOf form.client list.call.op → form.wraps wrap → form.follows wrap list stop world
         → Requested (form.wrap_request_of wrap) world after seen → IsStep world after
-    -- the first entry of a list without a block wins
-    first : {world : World} (list : Listed) (search : S) (since : ℕ) (entry : Entry) (word : ℕ) → IsOffered world list search since → IsFresh world list → list.block ≡ 0
+    -- the first entry of a list without a block wins; its operation needs none
+    first : {world : World} (list : Listed) (search : S) (since : ℕ) (entry : Entry) (word : ℕ) → IsOffered world list search since → IsFresh world list → list.block ≡ 0 → form.needs_block list.call.op ≡ false
         → slice_get list.entries 0 ≡ Some entry → world.words entry.target ≡ entry.from → IsExchanged entry word
         → IsStep world (exchanged (By list 0) (listed_if (form.adds list 0) list) entry word world)
     -- the first entry of a list with a block wins, and the block, which was filled for it, is used from then on

@@ -1,0 +1,113 @@
+-- Places, words and the set of one key.
+use Rattle.std.proofs.Common.{◌≡◌, ◌≢◌, ℕ, ◌^◌, ◌<◌, Bool, true, false, not, ◌||◌, ◌&&◌, List, [], ◌∷◌, refl, sym, ap, ◌∙◌, inl, inr, arith}
+use Rattle.std.specs.Prelude.{◌==◌, if◌then◌else◌, All, nat_le}
+use Rattle.std.specs.FinSet as set
+use Rattle.std.specs.Ordering.{nat_cmp}
+use Rattle.std.specs.Cmp.{nat_cmp_total}
+use Rattle.std.proofs.lemmas.Bool.{eq-eqb, ne_eqb, le-leb}
+use Rattle.std.proofs.lemmas.List.Elements.{All-nil, All-cons}
+use Rattle.lin_report.specs.declared.calls.Op.{Op}
+use Rattle.lin_report.specs.declared.calls.Reply.{Reply}
+use Rattle.lin_report.specs.declared.calls.Reply.TheVariants.{Yes}
+use Rattle.lin_report.specs.declared.calls.TheConstants.{ADD, DEL}
+use Rattle.lin_report.specs.Object.{set_apply, yes_if}
+use Rattle.node_arena.specs.declared.places.TheConstants.{HEAD, TAIL, FIRST_WORDS}
+use Rattle.node_arena.specs.MemoryMap.{block_place}
+use Rattle.node_arena.proofs.PlaceLemmas.{block_place_behind, block_at-block_place, field_at-block_place, same_field}
+use Rattle.word_fields.specs.Versioned.{versioned_value, versioned_bit}
+use Rattle.word_fields.proofs.VersionedLemmas.{value-changed, bit-changed}
+use Rattle.normal_traits.specs.World.{World, Among, is_word, is_state}
+use Rattle.normal_traits.specs.Steps.{with_word}
+use Rattle.flagged_register.specs.Register.{FLAG, REGISTER, note_place, flag_value, flag_word, is_in, toggled, toggles}
+
+-- ---- lists
+
+pub all_among : {X : Type 0} (P : X → Type 0) (xs : List X) → ((x : X) → Among x xs → P x) → All P xs
+all_among P [] f = All-nil P
+all_among P (x ∷ xs) f = All-cons P x xs (f x (inl refl)) (all_among P xs (λ y a. f y (inr a)))
+
+-- ---- places
+
+pub at_same : (place word : ℕ) (words : ℕ → ℕ) → with_word place word words place ≡ word
+at_same place word words = ap (λ b. if b then word else words place) (eq-eqb place place refl)
+
+pub at_other : (place word : ℕ) (words : ℕ → ℕ) (at : ℕ) → at ≢ place → with_word place word words at ≡ words at
+at_other place word words at differs = ap (λ b. if b then word else words at) (ne_eqb at place differs)
+
+pub register_flag : REGISTER ≢ FLAG
+register_flag e = absurd (omega (arith, same_field 0 13 0 12 (omega arith) (omega arith) e))
+
+pub flag_register : FLAG ≢ REGISTER
+flag_register e = register_flag (sym e)
+
+pub note_flag : (block : ℕ) → note_place block ≢ FLAG
+note_flag block e = absurd (omega (arith, same_field block 27 0 12 (omega arith) (omega arith) e))
+
+pub note_register : (block : ℕ) → note_place block ≢ REGISTER
+note_register block e = absurd (omega (arith, same_field block 27 0 13 (omega arith) (omega arith) e))
+
+in_used : (a b c : Bool) → (a || b || (true && true && (c || true))) ≡ true
+in_used true b c = refl
+in_used false true c = refl
+in_used false false true = refl
+in_used false false false = refl
+
+pub word_of : (world : World) (block field : ℕ) → field < 32 → world.used block ≡ true → not (is_state field) ≡ true → is_word world (block_place block field) ≡ true
+word_of world block field small used plain =
+    let behind : nat_le FIRST_WORDS (block_place block field) ≡ true = le-leb FIRST_WORDS (block_place block field) (block_place_behind block field) in
+    rw (behind, block_at-block_place block field small, field_at-block_place block field small, used, plain) (in_used (block_place block field == HEAD) (block_place block field == TAIL) (block == 0))
+
+-- ---- words
+
+pub toggled_value : (register : ℕ) → (if is_in register then 0 else 1) < 2 ^ 24
+toggled_value register = by_test (is_in register)
+  where
+    by_test : (b : Bool) → (if b then 0 else 1) < 2 ^ 24
+    by_test true = omega arith
+    by_test false = omega arith
+
+pub is_in-toggled : (register : ℕ) → is_in (toggled register) ≡ not (is_in register)
+is_in-toggled register = ap (λ v. v == 1) (value-changed register (if is_in register then 0 else 1) (toggled_value register)) ∙ by_test (is_in register)
+  where
+    by_test : (b : Bool) → ((if b then 0 else 1) == 1) ≡ not b
+    by_test true = refl
+    by_test false = refl
+
+pub flag_value_below : (block : ℕ) → block < 2 ^ 17 → flag_value block < 2 ^ 24
+flag_value_below block small = omega arith
+
+pub flagged_value : (from block : ℕ) → block < 2 ^ 17 → versioned_value (flag_word from block) ≡ flag_value block
+flagged_value from block small = value-changed from (flag_value block) (flag_value_below block small)
+
+pub flagged_bit : (from block : ℕ) → block < 2 ^ 17 → versioned_bit (flag_word from block) ≡ 0
+flagged_bit from block small = bit-changed from (flag_value block) (flag_value_below block small)
+
+-- ---- the set
+
+-- what the operation leaves at key 0, and what it is told, by its two tests
+toggled_by : (a d r : Bool) (keys : set.FinSet nat_cmp) → (if a then not r else (if d then r else false)) ≡ true → set.contains keys 0 ≡ r
+    → let after : set.FinSet nat_cmp × Reply = if a then (set.insert keys 0, yes_if (not (set.contains keys 0))) else (if d then (set.remove keys 0, yes_if (set.contains keys 0)) else (keys, yes_if (set.contains keys 0))) in
+    (set.contains after.0 0 ≡ not r) × (after.1 ≡ Yes)
+toggled_by true d true keys e tells = absurd cc
+toggled_by true d false keys e tells = (set.contains-insert nat_cmp_total keys 0 0, ap (λ b. yes_if (not b)) tells)
+toggled_by false true true keys e tells = (set.contains-remove nat_cmp_total keys 0 0, ap yes_if tells)
+toggled_by false true false keys e tells = absurd cc
+toggled_by false false r keys e tells = absurd cc
+
+module _ (op : Op) (register : ℕ) (keys : set.FinSet nat_cmp) (key : op.key ≡ 0) (changes : toggles op register ≡ true) (tells : set.contains keys 0 ≡ is_in register) where
+  both : (set.contains (set_apply op keys).0 0 ≡ not (is_in register)) × ((set_apply op keys).1 ≡ Yes)
+  both = rw key (toggled_by (op.code == ADD) (op.code == DEL) (is_in register) keys changes tells)
+
+  pub tells-apply : set.contains (set_apply op keys).0 0 ≡ is_in (toggled register)
+  tells-apply = both.0 ∙ sym (is_in-toggled register)
+
+  pub yes-apply : (set_apply op keys).1 ≡ Yes
+  yes-apply = both.1
+
+  -- it doesn't leave the set as it was
+  pub changes-apply : (set_apply op keys).0 ≢ keys
+  changes-apply e = by_test (is_in register) (sym both.0 ∙ ap (λ s. set.contains s 0) e ∙ tells)
+    where
+      by_test : (b : Bool) → not b ≡ b → ⊥
+      by_test true e' = absurd cc
+      by_test false e' = absurd cc

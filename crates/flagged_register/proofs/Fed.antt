@@ -1,0 +1,189 @@
+-- What searches and wrap-ups ask, and what they have learnt when they are fed.
+use Rattle.std.proofs.Common.{◌≡◌, ◌≢◌, ℕ, ◌+◌, ◌/◌, ◌<◌, Bool, true, false, List, length, refl, sym, ap, subst, ◌∙◌, inl, inr, ◌⊎◌, arith}
+use Rattle.std.specs.Prelude.{◌==◌, if◌then◌else◌}
+use Rattle.std.proofs.lemmas.Bool.{eqb-true, eq-eqb, or_left, or_right}
+use Rattle.word_fields.specs.Versioned.{versioned_value, versioned_bit, versioned_version, cleared_word}
+use Rattle.word_fields.proofs.VersionedLemmas.{cleared-clear}
+use Rattle.lin_report.specs.declared.calls.Op.{Op}
+use Rattle.lin_report.specs.declared.calls.Reply.TheVariants.{Yes}
+use Rattle.lin_report.specs.declared.calls.Outcome.TheVariants.{Plain}
+use Rattle.lin_report.specs.declared.calls.Client.TheVariants.{Buckets}
+use Rattle.lin_report.specs.Object.{set_object, set_apply}
+use Rattle.lin_report.specs.Commands.{IsCommandOf}
+use Rattle.step_memory.specs.declared.steps.Request.TheVariants.{Load, Exchange}
+use Rattle.step_memory.specs.declared.steps.Seen.{Seen}
+use Rattle.normal_traits.specs.declared.form.Found.TheVariants as found
+use Rattle.normal_traits.specs.World.{Listed, Change, World, held_after, Observes, RightSince, is_word}
+use Rattle.normal_traits.specs.Steps.{Requested}
+use Rattle.normal_traits.specs.Laws.{AsksWell, FoundWell, WrappedWell}
+use Rattle.flagged_register.specs.Register.{FLAG, REGISTER, note_place, is_in, toggled, toggles, told, flag_of, Help, Search, request_of, request_of_help, feed_of, feed_help, found_of, after_flag, after_register, after_help, wrap_found_of}
+use Rattle.flagged_register.specs.Register.Help.{Reading, Changing, Clearing}
+use Rattle.flagged_register.specs.Register.Search.{AtFlag, AtRegister, Named, Helping}
+use Rattle.flagged_register.specs.Meanings.{Flagged, Made, Stands, Shape, IsUp, Helps, WasDown, Learnt, Knows, asks, flagged_form}
+use Rattle.flagged_register.proofs.Basics.{word_of, at_same, register_flag, toggled_value}
+use Rattle.flagged_register.proofs.Effects.{Effect}
+use Rattle.flagged_register.proofs.Later.{Later, later, flag_names, flag_clear, flagged_later, made_later, note_later}
+use Rattle.flagged_register.proofs.Steps.{Asked, asked, help_effect}
+use Rattle.flagged_register.proofs.Kept.{effect_keeps}
+use Rattle.flagged_register.proofs.Observed.{observed, first_all}
+
+-- ---- what is asked
+
+module _ (world : World) (shape : Shape world) where
+  flag_is_word : is_word world FLAG ≡ true
+  flag_is_word = word_of world 0 12 (omega arith) shape.opened refl
+
+  register_is_word : is_word world REGISTER ≡ true
+  register_is_word = word_of world 0 13 (omega arith) shape.opened refl
+
+  -- a word that was noted has its bit clear
+  noted_block : (list : Listed) (flag : ℕ) → Flagged world list → flag ≡ flag_of list.entries → versioned_value flag / 4 ≡ list.block
+  noted_block list flag flagged own = omega (arith, ap versioned_value own, flag_names world list shape flagged)
+
+  pub help_asks : (help : Help) (list : Listed) → Helps help world list → AsksWell flagged_form world (request_of_help help)
+  help_asks (Reading flag) list h =
+      subst (λ block. is_word world (note_place block) ≡ true) (sym (noted_block list flag h.0 h.1)) (word_of world list.block 27 (omega arith) (shape.flaggers list h.0).used refl)
+  help_asks (Changing flag noted) list h =
+      (register_is_word, or_right (REGISTER == FLAG) (REGISTER == REGISTER) (eq-eqb REGISTER REGISTER refl), λ listable. absurd (register_flag (eqb-true REGISTER FLAG listable)), (if is_in noted then 0 else 1, toggled_value noted, refl))
+  help_asks (Clearing flag) list h =
+      (flag_is_word, or_left (FLAG == FLAG) (FLAG == REGISTER) (eq-eqb FLAG FLAG refl), λ listable. ap versioned_bit h.1 ∙ flag_clear world list shape h.0, (0, omega arith, refl))
+
+  pub search_asks : (search : Search) (op : Op) (since : ℕ) → asks search → Knows search op world since → AsksWell flagged_form world (request_of search)
+  search_asks (AtFlag o) op since asking knows = flag_is_word
+  search_asks (AtRegister o flag) op since asking knows = register_is_word
+  search_asks (Named o flag register) op since asking knows = absurd asking
+  search_asks (Helping o help) op since asking knows = help_asks help knows.1.1.0 knows.1.1.1
+
+-- ---- what a help has learnt
+
+-- once the register isn't as it was noted, the change is made
+made_since : (world : World) (list : Listed) → Shape world → Flagged world list → world.words REGISTER ≢ world.words (note_place list.block) → Made world list
+made_since world list shape flagged differs = by_fate (shape.flaggers list flagged).fate
+  where
+    by_fate : Stands world list ⊎ Made world list → Made world list
+    by_fate (inl stands) = absurd (differs stands.register)
+    by_fate (inr made) = made
+
+module _ (world after : World) (seen : Seen) (list : Listed) (shape : Shape world) where
+  help_read : (flag : ℕ) → Helps (Reading flag) world list → Requested flagged_form (request_of_help (Reading flag)) world after seen → Helps (Changing flag seen.before) after list
+  help_read flag h r =
+      let a : (after ≡ world) × (seen.before ≡ world.words (note_place (versioned_value flag / 4))) = asked (Load (note_place (versioned_value flag / 4))) r in
+      subst (λ w. Helps (Changing flag seen.before) w list) (sym a.0) (h.0, h.1, a.1 ∙ ap (λ block. world.words (note_place block)) (noted_block world shape list flag h.0 h.1))
+
+  help_changed : (flag noted : ℕ) → Helps (Changing flag noted) world list → Requested flagged_form (request_of_help (Changing flag noted)) world after seen → Helps (Clearing flag) after list
+  help_changed flag noted h r = by_cases (asked (Exchange REGISTER noted (toggled noted)) r)
+    where
+      e : Effect world after
+      e = help_effect world after seen (Changing flag noted) list shape h r
+
+      l : Later world after
+      l = later world after shape e
+
+      by_cases : Asked (Exchange REGISTER noted (toggled noted)) world after seen → Helps (Clearing flag) after list
+      by_cases (inl lost) = subst (λ w. Helps (Clearing flag) w list) (sym lost.1) (h.0, h.1, made_since world list shape h.0 (λ same. lost.0 (same ∙ sym h.2)))
+      by_cases (inr w) =
+          let new : after.words REGISTER ≡ toggled noted = ap (λ (x : World). x.words REGISTER) w.2 ∙ at_same REGISTER (toggled noted) world.words in
+          let note : after.words (note_place list.block) ≡ noted = note_later world after shape l list h.0 ∙ sym h.2 in (
+            flagged_later world after shape l list h.0,
+            h.1,
+            made_since after list (effect_keeps world after shape e) (flagged_later world after shape l list h.0)
+                (λ same. absurd (omega (arith, w.1, ap versioned_version (sym new ∙ same ∙ note)))),
+          )
+
+  pub help_fed : (help : Help) → Helps help world list → Requested flagged_form (request_of_help help) world after seen → Helps (feed_help help seen) after list
+  help_fed (Reading flag) h r = help_read flag h r
+  help_fed (Changing flag noted) h r = help_changed flag noted h r
+  help_fed (Clearing flag) h r =
+      let l = later world after shape (help_effect world after seen (Clearing flag) list shape h r) in
+      (flagged_later world after shape l list h.0, h.1, made_later world after shape l list h.0 h.2)
+
+  pub wrap_fed_well : (help : Help) (stop : ℕ) → Helps help world list → Requested flagged_form (request_of_help help) world after seen → WrappedWell flagged_form after list stop (feed_help help seen) (wrap_found_of help seen)
+  wrap_fed_well (Reading flag) stop h r = (tt, help_fed (Reading flag) h r)
+  wrap_fed_well (Changing flag noted) stop h r = (tt, help_fed (Changing flag noted) h r)
+  wrap_fed_well (Clearing flag) stop h r = let made : Made after list = (help_fed (Clearing flag) h r).2 in (record { reply = Yes; change = made.change; told = refl }, tt)
+
+-- ---- what a search has learnt
+
+learnt_flag : (world : World) (o op : Op) (flag : ℕ) → Shape world → o ≡ op → flag ≡ world.words FLAG → Learnt (after_flag o flag) op world × asks (after_flag o flag)
+learnt_flag world o op flag shape same here = by_bit (versioned_bit flag == 0) refl
+  where
+    up_at : versioned_bit flag ≡ 0 → (versioned_value flag == 0) ≡ false → (versioned_value (world.words FLAG) ≡ 0) ⊎ IsUp world → Learnt (Helping o (Reading flag)) op world
+    up_at clear some (inl down) = let none = eq-eqb (versioned_value flag) 0 (ap versioned_value here ∙ down) in absurd cc
+    up_at clear some (inr up) = (same, (up.list, (up.flagged, sym (cleared-clear flag clear) ∙ ap cleared_word here ∙ up.flag)))
+
+    by_value : versioned_bit flag ≡ 0 → (b : Bool) → (versioned_value flag == 0) ≡ b
+        → Learnt (if b then AtRegister o flag else Helping o (Reading flag)) op world × asks (if b then AtRegister o flag else Helping o (Reading flag))
+    by_value clear true e = ((same, record { clear = clear; down = eqb-true (versioned_value flag) 0 e; seen = inl (sym here) }), tt)
+    by_value clear false e = (up_at clear e shape.flag, tt)
+
+    by_bit : (b : Bool) → (versioned_bit flag == 0) ≡ b
+        → Learnt (if b then (if versioned_value flag == 0 then AtRegister o flag else Helping o (Reading flag)) else AtFlag o) op world
+        × asks (if b then (if versioned_value flag == 0 then AtRegister o flag else Helping o (Reading flag)) else AtFlag o)
+    by_bit true e = by_value (eqb-true (versioned_bit flag) 0 e) (versioned_value flag == 0) refl
+    by_bit false e = (same, tt)
+
+right_now : (world : World) (op : Op) (since register : ℕ) → Shape world → IsCommandOf Buckets op → since < length world.changes + 1 → register ≡ world.words REGISTER → op.key ≡ 0 → toggles op register ≡ false
+    → RightSince set_object world op since (Plain (told op register))
+right_now world op since register shape command before here key same =
+    let held = held_after set_object world.changes in
+    let o : ((set_apply op held).0 ≡ held) × (told op register ≡ (set_apply op held).1) = observed op register held command key same (shape.tells ∙ ap is_in (sym here)) in
+    let all = first_all world.changes in
+    record {
+      count = length world.changes;
+      not_before = before;
+      made = omega arith;
+      observes = subst (λ (changes : List Change). Observes set_object op (held_after set_object changes)) (sym all) o.0;
+      told = subst (λ (changes : List Change). told op register ≡ (set_apply op (held_after set_object changes)).1) (sym all) o.1;
+    }
+
+learnt_register : (world : World) (o op : Op) (flag register since : ℕ) → Shape world → IsCommandOf Buckets op → since < length world.changes + 1 → o ≡ op → WasDown world flag → register ≡ world.words REGISTER
+    → Learnt (after_register o flag register) op world
+    × FoundWell flagged_form world op since (after_register o flag register) (if o.key == 0 then (if toggles o register then found.Ready else found.Answer (Plain (told o register))) else found.Going)
+learnt_register world o op flag register since shape command before same down here = by_key (o.key == 0) refl
+  where
+    key_of : (o.key == 0) ≡ true → op.key ≡ 0
+    key_of e = ap (λ (x : Op). x.key) (sym same) ∙ eqb-true o.key 0 e
+
+    by_toggles : op.key ≡ 0 → (b : Bool) → toggles o register ≡ b
+        → Learnt (if b then Named o flag register else AtFlag o) op world
+        × FoundWell flagged_form world op since (if b then Named o flag register else AtFlag o) (if b then found.Ready else found.Answer (Plain (told o register)))
+    by_toggles key true e =
+        ((same, record { down = down; key = key; toggles = subst (λ (x : Op). toggles x register ≡ true) same e; fits = omega (arith, here, shape.fits); same = λ unmoved. sym here }), tt)
+    by_toggles key false e = (
+      same,
+      (
+        subst (λ (x : Op). RightSince set_object world op since (Plain (told x register))) (sym same)
+            (right_now world op since register shape command before here key (subst (λ (x : Op). toggles x register ≡ false) same e)),
+        tt,
+      ),
+    )
+
+    by_key : (b : Bool) → (o.key == 0) ≡ b
+        → Learnt (if b then (if toggles o register then Named o flag register else AtFlag o) else AtFlag o) op world
+        × FoundWell flagged_form world op since (if b then (if toggles o register then Named o flag register else AtFlag o) else AtFlag o) (if b then (if toggles o register then found.Ready else found.Answer (Plain (told o register))) else found.Going)
+    by_key true e = by_toggles (key_of e) (toggles o register) refl
+    by_key false e = (same, tt)
+
+pub search_fed_well : (world after : World) (seen : Seen) (search : Search) (op : Op) (since : ℕ) → IsCommandOf Buckets op → Shape world → asks search → Knows search op world since → Requested flagged_form (request_of search) world after seen
+    → Knows (feed_of search seen) op after since × FoundWell flagged_form after op since (feed_of search seen) (found_of search seen)
+search_fed_well world after seen (AtFlag o) op since command shape asking knows r =
+    let a : (after ≡ world) × (seen.before ≡ world.words FLAG) = asked (Load FLAG) r in
+    let learnt = learnt_flag world o op seen.before shape knows.1 a.1 in
+    subst (λ w. Knows (after_flag o seen.before) op w since × FoundWell flagged_form w op since (after_flag o seen.before) found.Going) (sym a.0) ((knows.0, learnt.0), learnt.1)
+search_fed_well world after seen (AtRegister o flag) op since command shape asking knows r =
+    let a : (after ≡ world) × (seen.before ≡ world.words REGISTER) = asked (Load REGISTER) r in
+    let learnt = learnt_register world o op flag seen.before since shape command knows.0 knows.1.0 knows.1.1 a.1 in
+    subst (λ w. Knows (feed_of (AtRegister o flag) seen) op w since × FoundWell flagged_form w op since (feed_of (AtRegister o flag) seen) (found_of (AtRegister o flag) seen)) (sym a.0) ((knows.0, learnt.0), learnt.1)
+search_fed_well world after seen (Named o flag register) op since command shape asking knows r = absurd asking
+search_fed_well world after seen (Helping o help) op since command shape asking knows r = by_help help (knows.1.1.1) r
+  where
+    list : Listed
+    list = knows.1.1.0
+
+    counted : (h : Help) → Helps h world list → Requested flagged_form (request_of_help h) world after seen → since < length after.changes + 1
+    counted h helps r' = omega (arith, knows.0, (later world after shape (help_effect world after seen h list shape helps r')).count)
+
+    by_help : (h : Help) → Helps h world list → Requested flagged_form (request_of_help h) world after seen → Knows (after_help o h seen) op after since × asks (after_help o h seen)
+    by_help (Reading flag) helps r' = ((counted (Reading flag) helps r', (knows.1.0, (list, help_fed world after seen list shape (Reading flag) helps r'))), tt)
+    by_help (Changing flag noted) helps r' = ((counted (Changing flag noted) helps r', (knows.1.0, (list, help_fed world after seen list shape (Changing flag noted) helps r'))), tt)
+    by_help (Clearing flag) helps r' = ((counted (Clearing flag) helps r', knows.1.0), tt)

@@ -1,0 +1,151 @@
+-- What every effect keeps, and with it what searches and wrap-ups know.
+use Rattle.std.proofs.Common.{◌≡◌, ℕ, ◌+◌, ◌<◌, ◌≤◌, true, length, sym, ap, ◌∙◌, inl, inr, ◌⊎◌, arith}
+use Rattle.word_fields.specs.Versioned.{versioned_value, versioned_bit, versioned_version, changed_word, cleared_word}
+use Rattle.word_fields.proofs.VersionedLemmas.{version-cleared, value-cleared, cleared-clear}
+use Rattle.lin_report.specs.declared.calls.Op.{Op}
+use Rattle.normal_traits.specs.World.{Listed, Won, Change, World, Among}
+use Rattle.normal_traits.specs.Steps.{with_word}
+use Rattle.flagged_register.specs.Register.{FLAG, REGISTER, note_place, flag_value, flag_word, toggled, flag_of, Help, Search}
+use Rattle.flagged_register.specs.Register.Help.{Reading, Changing, Clearing}
+use Rattle.flagged_register.specs.Register.Search.{AtFlag, AtRegister, Named, Helping}
+use Rattle.flagged_register.specs.Meanings.{Flagged, Made, Shape, flag_won, Helps, WasDown, WasRead, Learnt, Knows}
+use Rattle.flagged_register.proofs.Basics.{at_same, at_other, register_flag, flag_register, note_flag, note_register, flagged_value, flagged_bit}
+use Rattle.flagged_register.proofs.Effects.{Effect}
+use Rattle.flagged_register.proofs.Effects.Effect.{quiet, sets, makes, clears}
+
+pub record Later (world after : World) : Type 0 where
+  pub journal : (won : Won) → Among won world.journal → Among won after.journal
+  pub changes : (change : Change) → Among change world.changes → Among change after.changes
+  pub count : length world.changes ≤ length after.changes
+  pub flag : (after.words FLAG ≡ world.words FLAG) ⊎ ((after.words FLAG ≡ cleared_word (world.words FLAG)) ⊎ (versioned_version (world.words FLAG) < versioned_version (after.words FLAG)))
+  pub register : versioned_version (world.words REGISTER) ≤ versioned_version (after.words REGISTER)
+  pub still : versioned_value (world.words FLAG) ≡ 0 → after.words REGISTER ≡ world.words REGISTER
+  pub notes : (block : ℕ) → world.used block ≡ true → after.words (note_place block) ≡ world.words (note_place block)
+
+-- ---- a list's flag
+
+-- the word of a flag, and its fields
+pub flag_is : (world : World) (list : Listed) (flagged : Flagged world list) → flag_of list.entries ≡ flag_word flagged.from list.block
+flag_is world list flagged = ap flag_of flagged.entries
+
+pub flag_names : (world : World) (list : Listed) → Shape world → Flagged world list → versioned_value (flag_of list.entries) ≡ flag_value list.block
+flag_names world list shape flagged = ap versioned_value (flag_is world list flagged) ∙ flagged_value flagged.from list.block (shape.flaggers list flagged).small
+
+pub flag_clear : (world : World) (list : Listed) → Shape world → Flagged world list → versioned_bit (flag_of list.entries) ≡ 0
+flag_clear world list shape flagged = ap versioned_bit (flag_is world list flagged) ∙ flagged_bit flagged.from list.block (shape.flaggers list flagged).small
+
+-- ---- every effect
+
+pub later : (world after : World) → Shape world → Effect world after → Later world after
+later world after shape (quiet words q) = record {
+  journal = λ won among. among;
+  changes = λ change among. among;
+  count = omega arith;
+  flag = elim q.flag [ inl same ↦ inl same | inr cleared ↦ inr (inl cleared) ];
+  register = omega (arith, ap versioned_version q.register);
+  still = λ down. q.register;
+  notes = q.notes;
+}
+later world after shape (sets list from word s) =
+    let word_version : versioned_version word ≡ versioned_version from + 1 = sym (version-cleared word) ∙ ap versioned_version s.exchanged.to ∙ s.exchanged.raised in
+    let new : with_word FLAG word world.words FLAG ≡ word = at_same FLAG word world.words in
+    let same : with_word FLAG word world.words REGISTER ≡ world.words REGISTER = at_other FLAG word world.words REGISTER register_flag in
+    record {
+      journal = λ won among. inr among;
+      changes = λ change among. among;
+      count = omega arith;
+      flag = inr (inr (omega (arith, word_version, ap versioned_version new, ap versioned_version s.here)));
+      register = omega (arith, ap versioned_version same);
+      still = λ down. same;
+      notes = λ block used. at_other FLAG word world.words (note_place block) (note_flag block);
+    }
+later world after shape (makes list m) =
+    let word = toggled (world.words REGISTER) in
+    let new : with_word REGISTER word world.words REGISTER ≡ word = at_same REGISTER word world.words in
+    record {
+      journal = λ won among. inr among;
+      changes = λ change among. inr among;
+      count = omega arith;
+      flag = inl (at_other REGISTER word world.words FLAG flag_register);
+      register = omega (arith, ap versioned_version new, m.raised);
+      still = λ down. absurd (omega (arith, down, sym (value-cleared (world.words FLAG)) ∙ ap versioned_value m.stands.flag ∙ flag_names world list shape m.flagged));
+      notes = λ block used. at_other REGISTER word world.words (note_place block) (note_register block);
+    }
+later world after shape (clears list flag c) =
+    let word = changed_word flag 0 in
+    let new : with_word FLAG word world.words FLAG ≡ word = at_same FLAG word world.words in
+    let same : with_word FLAG word world.words REGISTER ≡ world.words REGISTER = at_other FLAG word world.words REGISTER register_flag in
+    record {
+      journal = λ won among. inr among;
+      changes = λ change among. among;
+      count = omega arith;
+      flag = inr (inr (omega (arith, ap versioned_version new, c.raised, ap versioned_version c.here)));
+      register = omega (arith, ap versioned_version same);
+      still = λ down. same;
+      notes = λ block used. at_other FLAG word world.words (note_place block) (note_flag block);
+    }
+
+-- ---- what is kept
+
+module _ (world after : World) (shape : Shape world) (l : Later world after) where
+  pub flagged_later : (list : Listed) → Flagged world list → Flagged after list
+  flagged_later list flagged = record { from = flagged.from; entries = flagged.entries; won = l.journal (flag_won list flagged.from) flagged.won }
+
+  pub note_later : (list : Listed) → Flagged world list → after.words (note_place list.block) ≡ world.words (note_place list.block)
+  note_later list flagged = let f = shape.flaggers list flagged in l.notes list.block f.used
+
+  pub made_later : (list : Listed) → Flagged world list → Made world list → Made after list
+  made_later list flagged made = record {
+    change = l.changes _ made.change;
+    passed = omega (arith, made.passed, l.register, ap versioned_version (note_later list flagged));
+  }
+
+  pub helps_later : (help : Help) (list : Listed) → Helps help world list → Helps help after list
+  helps_later (Reading flag) list h = (flagged_later list h.0, h.1)
+  helps_later (Changing flag noted) list h = (flagged_later list h.0, h.1, h.2 ∙ sym (note_later list h.0))
+  helps_later (Clearing flag) list h = (flagged_later list h.0, h.1, made_later list h.0 h.2)
+
+  -- the flag's version never falls
+  pub flag_rises : versioned_version (world.words FLAG) ≤ versioned_version (after.words FLAG)
+  flag_rises = elim l.flag [
+    | inl same ↦ omega (arith, ap versioned_version same)
+    | inr (inl cleared) ↦ omega (arith, ap versioned_version cleared, version-cleared (world.words FLAG))
+    | inr (inr above) ↦ omega (arith, above)
+  ]
+
+  -- a clear word stays at the flag, or the flag gets past it
+  pub seen_later : (flag : ℕ) → versioned_bit flag ≡ 0 → world.words FLAG ≡ flag → (after.words FLAG ≡ flag) ⊎ (versioned_version flag < versioned_version (after.words FLAG))
+  seen_later flag clear here = elim l.flag [
+    | inl same ↦ inl (same ∙ here)
+    | inr (inl cleared) ↦ inl (cleared ∙ ap cleared_word here ∙ cleared-clear flag clear)
+    | inr (inr above) ↦ inr (omega (arith, above, ap versioned_version here))
+  ]
+
+  pub down_later : (flag : ℕ) → WasDown world flag → WasDown after flag
+  down_later flag was = record { clear = was.clear; down = was.down; seen = by_cases was.seen }
+    where
+      by_cases : (world.words FLAG ≡ flag) ⊎ (versioned_version flag < versioned_version (world.words FLAG)) → (after.words FLAG ≡ flag) ⊎ (versioned_version flag < versioned_version (after.words FLAG))
+      by_cases (inl here) = seen_later flag was.clear here
+      by_cases (inr past) = inr (omega (arith, past, flag_rises))
+
+  pub read_later : (op : Op) (flag register : ℕ) → WasRead world op flag register → WasRead after op flag register
+  read_later op flag register was = record {
+    down = down_later flag was.down;
+    key = was.key;
+    toggles = was.toggles;
+    fits = was.fits;
+    same = λ here. by_cases here was.down.seen;
+  }
+    where
+      by_cases : after.words FLAG ≡ flag → (world.words FLAG ≡ flag) ⊎ (versioned_version flag < versioned_version (world.words FLAG)) → after.words REGISTER ≡ register
+      by_cases here (inl stood) = l.still (ap versioned_value stood ∙ was.down.down) ∙ was.same stood
+      by_cases here (inr past) = absurd (omega (arith, past, flag_rises, ap versioned_version here))
+
+  pub learnt_later : (search : Search) (op : Op) → Learnt search op world → Learnt search op after
+  learnt_later (AtFlag o) op learnt = learnt
+  learnt_later (AtRegister o flag) op learnt = (learnt.0, down_later flag learnt.1)
+  learnt_later (Named o flag register) op learnt = (learnt.0, read_later op flag register learnt.1)
+  learnt_later (Helping o help) op learnt = (learnt.0, (learnt.1.0, helps_later help learnt.1.0 learnt.1.1))
+
+  pub knows_later : (search : Search) (op : Op) (since : ℕ) → Knows search op world since → Knows search op after since
+  knows_later search op since knows = (omega (arith, knows.0, l.count), learnt_later search op knows.1)

@@ -1,0 +1,135 @@
+-- A set of at most the key 0: one register word says whether the key is in it. A call that changes the set
+-- sets the flag word by its list; the flag names the list's block, in which the offer noted the register
+-- as the call had read it. Whoever reads the flag changes the register from what is noted, and then takes
+-- the flag away, both by exchanges beside the lists.
+use Rattle.std.specs.Prelude.{ℕ, ◌+◌, ◌*◌, ◌/◌, ◌==◌, not, if◌then◌else◌, Bool, false, List, [], ◌∷◌}
+use Rattle.lin_report.specs.declared.calls.Op.{Op}
+use Rattle.lin_report.specs.declared.calls.Reply.{Reply}
+use Rattle.lin_report.specs.declared.calls.Reply.TheVariants.{Yes, No}
+use Rattle.lin_report.specs.declared.calls.Outcome.TheVariants.{Plain}
+use Rattle.lin_report.specs.declared.calls.TheConstants.{ADD, DEL, HAS}
+use Rattle.lin_report.specs.Object.{yes_if}
+use Rattle.step_memory.specs.declared.steps.Request.{Request}
+use Rattle.step_memory.specs.declared.steps.Request.TheVariants.{Load, Exchange}
+use Rattle.step_memory.specs.declared.steps.Seen.{Seen}
+use Rattle.word_fields.specs.Versioned.{versioned_value, versioned_bit, changed_word}
+use Rattle.node_arena.specs.MemoryMap.{block_place}
+use Rattle.normal_traits.specs.declared.form.Found.{Found}
+use Rattle.normal_traits.specs.declared.form.Found.TheVariants as found
+use Rattle.normal_traits.specs.declared.form.Wrapped.{Wrapped}
+use Rattle.normal_traits.specs.declared.form.Wrapped.TheVariants as wrapped
+use Rattle.normal_traits.specs.declared.lists.Entry.{Entry}
+use Rattle.normal_traits.specs.NormalForm.{Offered}
+
+-- the two words of the structure, and the word of a block in which its call notes the register
+abbrev pub FLAG : ℕ
+FLAG = block_place 0 12
+
+abbrev pub REGISTER : ℕ
+REGISTER = block_place 0 13
+
+abbrev pub note_place : ℕ → ℕ
+note_place block = block_place block 27
+
+-- the value of a flag that names a block; the value of a flag that is down is 0
+abbrev pub flag_value : ℕ → ℕ
+flag_value block = 4 * block + 1
+
+abbrev pub flag_word : ℕ → ℕ → ℕ
+flag_word from block = changed_word from (flag_value block)
+
+-- whether the register says that the key is in the set
+abbrev pub is_in : ℕ → Bool
+is_in register = versioned_value register == 1
+
+-- the register after a change
+abbrev pub toggled : ℕ → ℕ
+toggled register = changed_word register (if is_in register then 0 else 1)
+
+-- whether an operation changes the set, by its register
+abbrev pub toggles : Op → ℕ → Bool
+toggles op register = if op.code == ADD then not (is_in register) else (if op.code == DEL then is_in register else false)
+
+-- what an operation that doesn't is told
+abbrev pub told : Op → ℕ → Reply
+told op register = if op.code == HAS then yes_if (is_in register) else No
+
+-- help of a flag, by its word: the note is read, the register is changed from it, the flag is taken away
+pub data Help : Type 0 where
+  Reading : ℕ → Help
+  Changing : ℕ → ℕ → Help
+  Clearing : ℕ → Help
+
+-- a search reads the flag and helps it, or reads the register; a key other than 0 it looks for without end
+pub data Search : Type 0 where
+  AtFlag : Op → Search
+  AtRegister : Op → ℕ → Search
+  Named : Op → ℕ → ℕ → Search
+  Helping : Op → Help → Search
+
+abbrev pub begin_of : Op → Search
+begin_of op = AtFlag op
+
+abbrev pub request_of_help : Help → Request
+request_of_help (Reading flag) = Load (note_place (versioned_value flag / 4))
+request_of_help (Changing flag noted) = Exchange REGISTER noted (toggled noted)
+request_of_help (Clearing flag) = Exchange FLAG flag (changed_word flag 0)
+
+abbrev pub feed_help : Help → Seen → Help
+feed_help (Reading flag) seen = Changing flag seen.before
+feed_help (Changing flag noted) seen = Clearing flag
+feed_help (Clearing flag) seen = Clearing flag
+
+abbrev pub request_of : Search → Request
+request_of (AtFlag op) = Load FLAG
+request_of (AtRegister op flag) = Load REGISTER
+request_of (Named op flag register) = Load FLAG
+request_of (Helping op help) = request_of_help help
+
+-- what is done with a flag: one that is set by a list that isn't decided yet is read again
+abbrev pub after_flag : Op → ℕ → Search
+after_flag op flag = if versioned_bit flag == 0 then (if versioned_value flag == 0 then AtRegister op flag else Helping op (Reading flag)) else AtFlag op
+
+abbrev pub after_register : Op → ℕ → ℕ → Search
+after_register op flag register = if op.key == 0 then (if toggles op register then Named op flag register else AtFlag op) else AtFlag op
+
+abbrev pub after_help : Op → Help → Seen → Search
+after_help op (Clearing flag) seen = AtFlag op
+after_help op help seen = Helping op (feed_help help seen)
+
+abbrev pub feed_of : Search → Seen → Search
+feed_of (AtFlag op) seen = after_flag op seen.before
+feed_of (AtRegister op flag) seen = after_register op flag seen.before
+feed_of (Named op flag register) seen = Named op flag register
+feed_of (Helping op help) seen = after_help op help seen
+
+abbrev pub found_of : Search → Seen → Found
+found_of (AtFlag op) seen = found.Going
+found_of (AtRegister op flag) seen =
+    if op.key == 0 then (if toggles op seen.before then found.Ready else found.Answer (Plain (told op seen.before))) else found.Going
+found_of (Named op flag register) seen = found.Going
+found_of (Helping op help) seen = found.Going
+
+-- the entry that sets the flag for a block
+abbrev pub flag_entry : ℕ → ℕ → Entry
+flag_entry from block = record { target = FLAG; from = from; to = flag_word from block }
+
+abbrev pub offer_of : Search → Op → ℕ → Offered
+offer_of (Named o flag register) op block = record { entries = flag_entry flag block ∷ []; stores = (note_place block, register) ∷ [] }
+offer_of _ op block = record { entries = []; stores = [] }
+
+-- the word to which a list's first entry sets the flag
+abbrev pub flag_of : List Entry → ℕ
+flag_of [] = 0
+flag_of (entry ∷ entries) = entry.to
+
+-- a wrap-up helps the flag of its own list
+abbrev pub begin_wrap_of : Op → List Entry → ℕ → Help
+begin_wrap_of op entries stop = Reading (flag_of entries)
+
+abbrev pub wrap_begun_of : Op → List Entry → ℕ → Wrapped
+wrap_begun_of op entries stop = if stop == 0 then wrapped.Restart else wrapped.Going
+
+abbrev pub wrap_found_of : Help → Seen → Wrapped
+wrap_found_of (Clearing flag) seen = wrapped.Done (Plain Yes)
+wrap_found_of _ seen = wrapped.Going
