@@ -13,12 +13,12 @@ use Rattle.lin_report.specs.declared.calls.TheConstants.{ADD, DEL}
 use Rattle.lin_report.specs.Object.{set_apply, yes_if}
 use Rattle.node_arena.specs.declared.places.TheConstants.{HEAD, TAIL, FIRST_WORDS}
 use Rattle.node_arena.specs.MemoryMap.{block_place}
-use Rattle.node_arena.proofs.PlaceLemmas.{block_place_behind, block_at-block_place, field_at-block_place, same_field}
+use Rattle.node_arena.proofs.PlaceLemmas.{block_place_behind, block_at-block_place, field_at-block_place, same_field, same_block}
 use Rattle.word_fields.specs.Versioned.{versioned_value, versioned_bit}
 use Rattle.word_fields.proofs.VersionedLemmas.{value-changed, bit-changed}
 use Rattle.normal_traits.specs.World.{World, Among, is_word, is_state}
 use Rattle.normal_traits.specs.Steps.{with_word}
-use Rattle.flagged_register.specs.Register.{FLAG, REGISTER, note_place, flag_value, flag_word, is_in, toggled, toggles}
+use Rattle.flagged_register.specs.Register.{FLAG, REGISTER, note_place, flag_value, flag_word, is_in, toggled, toggles, decided, decided_value, decision_place}
 
 -- ---- lists
 
@@ -46,6 +46,18 @@ note_flag block e = absurd (omega (arith, same_field block 27 0 12 (omega arith)
 pub note_register : (block : ℕ) → note_place block ≢ REGISTER
 note_register block e = absurd (omega (arith, same_field block 27 0 13 (omega arith) (omega arith) e))
 
+pub decision_flag : (block : ℕ) → decision_place block ≢ FLAG
+decision_flag block e = absurd (omega (arith, same_field block 28 0 12 (omega arith) (omega arith) e))
+
+pub decision_register : (block : ℕ) → decision_place block ≢ REGISTER
+decision_register block e = absurd (omega (arith, same_field block 28 0 13 (omega arith) (omega arith) e))
+
+pub note_decision : (block other : ℕ) → note_place block ≢ decision_place other
+note_decision block other e = absurd (omega (arith, same_field block 27 other 28 (omega arith) (omega arith) e))
+
+pub same_decision : (block other : ℕ) → decision_place block ≡ decision_place other → block ≡ other
+same_decision block other e = same_block block 28 other 28 (omega arith) (omega arith) e
+
 in_used : (a b c : Bool) → (a || b || (true && true && (c || true))) ≡ true
 in_used true b c = refl
 in_used false true c = refl
@@ -72,6 +84,29 @@ is_in-toggled register = ap (λ v. v == 1) (value-changed register (if is_in reg
     by_test : (b : Bool) → ((if b then 0 else 1) == 1) ≡ not b
     by_test true = refl
     by_test false = refl
+
+-- ---- decisions
+
+pub decided_value_below : (made : Bool) → decided_value made < 2 ^ 24
+decided_value_below true = omega arith
+decided_value_below false = omega arith
+
+pub decided_is : (made : Bool) → versioned_value (decided made) ≡ decided_value made
+decided_is made = value-changed 0 (decided_value made) (decided_value_below made)
+
+value_0 : versioned_value 0 ≡ 0
+unfolding versioned_value
+value_0 = omega arith
+
+pub decided_some : (made : Bool) → decided made ≢ 0
+decided_some made e = by_made made (sym (decided_is made) ∙ ap versioned_value e ∙ value_0)
+  where
+    by_made : (m : Bool) → decided_value m ≡ 0 → ⊥
+    by_made true e' = omega (arith, e')
+    by_made false e' = omega (arith, e')
+
+pub decided_once : decided true ≢ decided false
+decided_once e = absurd (omega (arith, decided_is true, decided_is false, ap versioned_value e))
 
 pub flag_value_below : (block : ℕ) → block < 2 ^ 17 → flag_value block < 2 ^ 24
 flag_value_below block small = omega arith

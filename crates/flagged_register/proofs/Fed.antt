@@ -1,8 +1,11 @@
 -- What searches and wrap-ups ask, and what they have learnt when they are fed.
-use Rattle.std.proofs.Common.{◌≡◌, ◌≢◌, ℕ, ◌+◌, ◌/◌, ◌<◌, Bool, true, false, List, length, refl, sym, ap, subst, ◌∙◌, inl, inr, ◌⊎◌, arith}
+use Rattle.std.proofs.Common.{◌||◌, ◌≡◌, ◌≢◌, ℕ, ◌+◌, ◌/◌, ◌<◌, Bool, true, false, List, length, refl, sym, ap, subst, ◌∙◌, inl, inr, ◌⊎◌, arith, not}
 use Rattle.std.specs.Prelude.{◌==◌, if◌then◌else◌}
 use Rattle.std.proofs.lemmas.Bool.{eqb-true, eq-eqb, or_left, or_right}
-use Rattle.word_fields.specs.Versioned.{versioned_value, versioned_bit, versioned_version, cleared_word}
+use Rattle.node_arena.specs.MemoryMap.{field_at}
+use Rattle.node_arena.proofs.PlaceLemmas.{field_at-block_place}
+use Rattle.lin_report.specs.declared.calls.TheConstants.{HAS}
+use Rattle.word_fields.specs.Versioned.{versioned_value, versioned_bit, versioned_version, cleared_word, changed_word}
 use Rattle.word_fields.proofs.VersionedLemmas.{cleared-clear}
 use Rattle.lin_report.specs.declared.calls.Op.{Op}
 use Rattle.lin_report.specs.declared.calls.Reply.TheVariants.{Yes}
@@ -16,14 +19,14 @@ use Rattle.normal_traits.specs.declared.form.Found.TheVariants as found
 use Rattle.normal_traits.specs.World.{Listed, Change, World, held_after, Observes, RightSince, is_word}
 use Rattle.normal_traits.specs.Steps.{Requested}
 use Rattle.normal_traits.specs.Laws.{AsksWell, FoundWell, WrappedWell}
-use Rattle.flagged_register.specs.Register.{FLAG, REGISTER, note_place, is_in, toggled, toggles, told, flag_of, Help, Search, request_of, request_of_help, feed_of, feed_help, found_of, after_flag, after_register, after_help, wrap_found_of}
-use Rattle.flagged_register.specs.Register.Help.{Reading, Changing, Clearing}
+use Rattle.flagged_register.specs.Register.{FLAG, REGISTER, note_place, is_in, toggled, toggles, told, flag_of, Help, Search, request_of, request_of_help, feed_of, feed_help, found_of, after_flag, after_register, after_help, wrap_found_of, decision_place, decided, decided_value}
+use Rattle.flagged_register.specs.Register.Help.{Deciding, Checking, Reading, Changing, Clearing}
 use Rattle.flagged_register.specs.Register.Search.{AtFlag, AtRegister, Named, Helping}
-use Rattle.flagged_register.specs.Meanings.{Flagged, Made, Stands, Shape, IsUp, Helps, WasDown, Learnt, Knows, asks, flagged_form}
-use Rattle.flagged_register.proofs.Basics.{word_of, at_same, register_flag, toggled_value}
+use Rattle.flagged_register.specs.Meanings.{Flagged, Made, Stands, Shape, IsUp, Helps, WasDown, Learnt, Knows, asks, flagged_form, IsGone}
+use Rattle.flagged_register.proofs.Basics.{word_of, at_same, register_flag, toggled_value, decided_some, decision_flag, decided_is, decided_once, decided_value_below}
 use Rattle.flagged_register.proofs.Effects.{Effect}
-use Rattle.flagged_register.proofs.Later.{Later, later, flag_names, flag_clear, flagged_later, made_later, note_later}
-use Rattle.flagged_register.proofs.Steps.{Asked, asked, help_effect}
+use Rattle.flagged_register.proofs.Later.{helps_later, decided_later, Later, later, flag_clear, flagged_later, note_later}
+use Rattle.flagged_register.proofs.Steps.{named_block, Asked, asked, help_effect}
 use Rattle.flagged_register.proofs.Kept.{effect_keeps}
 use Rattle.flagged_register.proofs.Observed.{observed, first_all}
 
@@ -36,17 +39,30 @@ module _ (world : World) (shape : Shape world) where
   register_is_word : is_word world REGISTER ≡ true
   register_is_word = word_of world 0 13 (omega arith) shape.opened refl
 
-  -- a word that was noted has its bit clear
-  noted_block : (list : Listed) (flag : ℕ) → Flagged world list → flag ≡ flag_of list.entries → versioned_value flag / 4 ≡ list.block
-  noted_block list flag flagged own = omega (arith, ap versioned_value own, flag_names world list shape flagged)
+  is_versioned_decision : (block : ℕ) → flagged_form.is_versioned (decision_place block) ≡ true
+  is_versioned_decision block =
+      or_right (decision_place block == FLAG || decision_place block == REGISTER) (field_at (decision_place block) == 28) (ap (λ field. field == 28) (field_at-block_place block 28 (omega arith)))
+
+  clearing_asks : (flag : ℕ) (list : Listed) → Flagged world list → flag ≡ flag_of list.entries → AsksWell flagged_form world (Exchange FLAG flag (changed_word flag 0))
+  clearing_asks flag list flagged own =
+      (flag_is_word, or_left (FLAG == FLAG || FLAG == REGISTER) (field_at FLAG == 28) (or_left (FLAG == FLAG) (FLAG == REGISTER) (eq-eqb FLAG FLAG refl)), λ listable. ap versioned_bit own ∙ flag_clear world list shape flagged, (0, omega arith, refl))
 
   pub help_asks : (help : Help) (list : Listed) → Helps help world list → AsksWell flagged_form world (request_of_help help)
+  help_asks (Deciding flag make) list h =
+      subst (λ block. AsksWell flagged_form world (Exchange (decision_place block) 0 (decided make))) (sym (named_block world list flag shape h.0 h.1)) (
+        word_of world list.block 28 (omega arith) (shape.flaggers list h.0).used refl,
+        is_versioned_decision list.block,
+        λ listable. absurd (decision_flag list.block (eqb-true (decision_place list.block) FLAG listable)),
+        (decided_value make, decided_value_below make, refl),
+      )
+  help_asks (Checking flag) list h =
+      subst (λ block. is_word world (decision_place block) ≡ true) (sym (named_block world list flag shape h.0 h.1)) (word_of world list.block 28 (omega arith) (shape.flaggers list h.0).used refl)
   help_asks (Reading flag) list h =
-      subst (λ block. is_word world (note_place block) ≡ true) (sym (noted_block list flag h.0 h.1)) (word_of world list.block 27 (omega arith) (shape.flaggers list h.0).used refl)
+      subst (λ block. is_word world (note_place block) ≡ true) (sym (named_block world list flag shape h.0 h.1)) (word_of world list.block 27 (omega arith) (shape.flaggers list h.0).used refl)
   help_asks (Changing flag noted) list h =
-      (register_is_word, or_right (REGISTER == FLAG) (REGISTER == REGISTER) (eq-eqb REGISTER REGISTER refl), λ listable. absurd (register_flag (eqb-true REGISTER FLAG listable)), (if is_in noted then 0 else 1, toggled_value noted, refl))
-  help_asks (Clearing flag) list h =
-      (flag_is_word, or_left (FLAG == FLAG) (FLAG == REGISTER) (eq-eqb FLAG FLAG refl), λ listable. ap versioned_bit h.1 ∙ flag_clear world list shape h.0, (0, omega arith, refl))
+      (register_is_word, or_left (REGISTER == FLAG || REGISTER == REGISTER) (field_at REGISTER == 28) (or_right (REGISTER == FLAG) (REGISTER == REGISTER) (eq-eqb REGISTER REGISTER refl)), λ listable. absurd (register_flag (eqb-true REGISTER FLAG listable)), (if is_in noted then 0 else 1, toggled_value noted, refl))
+  help_asks (Clearing flag true) list h = clearing_asks flag list h.0 h.1
+  help_asks (Clearing flag false) list h = clearing_asks flag list h.0 h.1
 
   pub search_asks : (search : Search) (op : Op) (since : ℕ) → asks search → Knows search op world since → AsksWell flagged_form world (request_of search)
   search_asks (AtFlag o) op since asking knows = flag_is_word
@@ -56,21 +72,49 @@ module _ (world : World) (shape : Shape world) where
 
 -- ---- what a help has learnt
 
--- once the register isn't as it was noted, the change is made
-made_since : (world : World) (list : Listed) → Shape world → Flagged world list → world.words REGISTER ≢ world.words (note_place list.block) → Made world list
-made_since world list shape flagged differs = by_fate (shape.flaggers list flagged).fate
+-- once the register isn't as it was noted, and the change isn't given up, it is made
+made_since : (world : World) (list : Listed) → Shape world → Flagged world list → world.words (decision_place list.block) ≡ decided true → world.words REGISTER ≢ world.words (note_place list.block) → Made world list
+made_since world list shape flagged agreed differs = by_fate (shape.flaggers list flagged).fate
   where
-    by_fate : Stands world list ⊎ Made world list → Made world list
+    by_fate : Stands world list ⊎ (Made world list ⊎ IsGone world list) → Made world list
     by_fate (inl stands) = absurd (differs stands.register)
-    by_fate (inr made) = made
+    by_fate (inr (inl made)) = made
+    by_fate (inr (inr gone)) = absurd (decided_once (sym agreed ∙ gone))
 
 module _ (world after : World) (seen : Seen) (list : Listed) (shape : Shape world) where
+  help_decided : (flag : ℕ) (make : Bool) → Helps (Deciding flag make) world list → Requested flagged_form (request_of_help (Deciding flag make)) world after seen → Helps (Checking flag) after list
+  help_decided flag make h r = by_cases (subst (λ block. Asked (Exchange (decision_place block) 0 (decided make)) world after seen) (named_block world list flag shape h.0 h.1) (asked (Exchange (decision_place (versioned_value flag / 4)) 0 (decided make)) r))
+    where
+      l : Later world after
+      l = later world after shape (help_effect world after seen (Deciding flag make) list shape h r)
+
+      by_cases : Asked (Exchange (decision_place list.block) 0 (decided make)) world after seen → Helps (Checking flag) after list
+      by_cases (inl lost) = subst (λ w. Helps (Checking flag) w list) (sym lost.1) (h.0, h.1, lost.0)
+      by_cases (inr w) =
+          let new : after.words (decision_place list.block) ≡ decided make = ap (λ (x : World). x.words (decision_place list.block)) w.2 ∙ at_same (decision_place list.block) (decided make) world.words in
+          (flagged_later world after shape l list h.0, h.1, λ e. decided_some make (sym new ∙ e))
+
+  -- what was decided is what its word says
+  help_checked : (flag : ℕ) → Helps (Checking flag) world list → Requested flagged_form (request_of_help (Checking flag)) world after seen → Helps (feed_help (Checking flag) seen) after list
+  help_checked flag h r =
+      let a : (after ≡ world) × (seen.before ≡ world.words (decision_place (versioned_value flag / 4))) = asked (Load (decision_place (versioned_value flag / 4))) r in
+      let here : seen.before ≡ world.words (decision_place list.block) = a.1 ∙ ap (λ block. world.words (decision_place block)) (named_block world list flag shape h.0 h.1) in
+      subst (λ w. Helps (feed_help (Checking flag) seen) w list) (sym a.0) (by_test here (versioned_value seen.before == 1) refl (shape.flaggers list h.0).decision)
+    where
+      by_test : seen.before ≡ world.words (decision_place list.block) → (b : Bool) → (versioned_value seen.before == 1) ≡ b
+          → (world.words (decision_place list.block) ≡ 0) ⊎ ((world.words (decision_place list.block) ≡ decided true) ⊎ IsGone world list) → Helps (if b then Reading flag else Clearing flag false) world list
+      by_test here b e (inl none) = absurd (h.2 none)
+      by_test here true e (inr (inl agreed)) = (h.0, h.1, agreed)
+      by_test here true e (inr (inr gone)) = absurd (omega (arith, eqb-true (versioned_value seen.before) 1 e, ap versioned_value (here ∙ gone), decided_is false))
+      by_test here false e (inr (inl agreed)) = let one = eq-eqb (versioned_value seen.before) 1 (ap versioned_value (here ∙ agreed) ∙ decided_is true) in absurd cc
+      by_test here false e (inr (inr gone)) = (h.0, h.1, gone)
+
   help_read : (flag : ℕ) → Helps (Reading flag) world list → Requested flagged_form (request_of_help (Reading flag)) world after seen → Helps (Changing flag seen.before) after list
   help_read flag h r =
       let a : (after ≡ world) × (seen.before ≡ world.words (note_place (versioned_value flag / 4))) = asked (Load (note_place (versioned_value flag / 4))) r in
-      subst (λ w. Helps (Changing flag seen.before) w list) (sym a.0) (h.0, h.1, a.1 ∙ ap (λ block. world.words (note_place block)) (noted_block world shape list flag h.0 h.1))
+      subst (λ w. Helps (Changing flag seen.before) w list) (sym a.0) (h.0, h.1, h.2, a.1 ∙ ap (λ block. world.words (note_place block)) (named_block world list flag shape h.0 h.1))
 
-  help_changed : (flag noted : ℕ) → Helps (Changing flag noted) world list → Requested flagged_form (request_of_help (Changing flag noted)) world after seen → Helps (Clearing flag) after list
+  help_changed : (flag noted : ℕ) → Helps (Changing flag noted) world list → Requested flagged_form (request_of_help (Changing flag noted)) world after seen → Helps (Clearing flag true) after list
   help_changed flag noted h r = by_cases (asked (Exchange REGISTER noted (toggled noted)) r)
     where
       e : Effect world after
@@ -79,46 +123,50 @@ module _ (world after : World) (seen : Seen) (list : Listed) (shape : Shape worl
       l : Later world after
       l = later world after shape e
 
-      by_cases : Asked (Exchange REGISTER noted (toggled noted)) world after seen → Helps (Clearing flag) after list
-      by_cases (inl lost) = subst (λ w. Helps (Clearing flag) w list) (sym lost.1) (h.0, h.1, made_since world list shape h.0 (λ same. lost.0 (same ∙ sym h.2)))
+      by_cases : Asked (Exchange REGISTER noted (toggled noted)) world after seen → Helps (Clearing flag true) after list
+      by_cases (inl lost) = subst (λ w. Helps (Clearing flag true) w list) (sym lost.1) (h.0, h.1, made_since world list shape h.0 h.2 (λ same. lost.0 (same ∙ sym h.3)))
       by_cases (inr w) =
           let new : after.words REGISTER ≡ toggled noted = ap (λ (x : World). x.words REGISTER) w.2 ∙ at_same REGISTER (toggled noted) world.words in
-          let note : after.words (note_place list.block) ≡ noted = note_later world after shape l list h.0 ∙ sym h.2 in (
+          let note : after.words (note_place list.block) ≡ noted = note_later world after shape l list h.0 ∙ sym h.3 in (
             flagged_later world after shape l list h.0,
             h.1,
-            made_since after list (effect_keeps world after shape e) (flagged_later world after shape l list h.0)
+            made_since after list (effect_keeps world after shape e) (flagged_later world after shape l list h.0) (decided_later world after shape l list true h.0 h.2)
                 (λ same. absurd (omega (arith, w.1, ap versioned_version (sym new ∙ same ∙ note)))),
           )
 
   pub help_fed : (help : Help) → Helps help world list → Requested flagged_form (request_of_help help) world after seen → Helps (feed_help help seen) after list
+  help_fed (Deciding flag make) h r = help_decided flag make h r
+  help_fed (Checking flag) h r = help_checked flag h r
   help_fed (Reading flag) h r = help_read flag h r
   help_fed (Changing flag noted) h r = help_changed flag noted h r
-  help_fed (Clearing flag) h r =
-      let l = later world after shape (help_effect world after seen (Clearing flag) list shape h r) in
-      (flagged_later world after shape l list h.0, h.1, made_later world after shape l list h.0 h.2)
+  help_fed (Clearing flag made) h r = helps_later world after shape (later world after shape (help_effect world after seen (Clearing flag made) list shape h r)) (Clearing flag made) list h
 
   pub wrap_fed_well : (help : Help) (stop : ℕ) → Helps help world list → Requested flagged_form (request_of_help help) world after seen → WrappedWell flagged_form after list stop (feed_help help seen) (wrap_found_of help seen)
+  wrap_fed_well (Deciding flag make) stop h r = (tt, help_fed (Deciding flag make) h r)
+  wrap_fed_well (Checking flag) stop h r = (tt, help_fed (Checking flag) h r)
   wrap_fed_well (Reading flag) stop h r = (tt, help_fed (Reading flag) h r)
   wrap_fed_well (Changing flag noted) stop h r = (tt, help_fed (Changing flag noted) h r)
-  wrap_fed_well (Clearing flag) stop h r = let made : Made after list = (help_fed (Clearing flag) h r).2 in (record { reply = Yes; change = made.change; told = refl }, tt)
+  wrap_fed_well (Clearing flag false) stop h r =
+      let gone : Helps (Clearing flag false) after list = help_fed (Clearing flag false) h r in record { from = gone.0.from; entries = gone.0.entries; fate = inr (gone.0, gone.2) }
+  wrap_fed_well (Clearing flag true) stop h r = let made : Made after list = (help_fed (Clearing flag true) h r).2 in (record { reply = Yes; change = made.change; told = refl }, tt)
 
 -- ---- what a search has learnt
 
 learnt_flag : (world : World) (o op : Op) (flag : ℕ) → Shape world → o ≡ op → flag ≡ world.words FLAG → Learnt (after_flag o flag) op world × asks (after_flag o flag)
 learnt_flag world o op flag shape same here = by_bit (versioned_bit flag == 0) refl
   where
-    up_at : versioned_bit flag ≡ 0 → (versioned_value flag == 0) ≡ false → (versioned_value (world.words FLAG) ≡ 0) ⊎ IsUp world → Learnt (Helping o (Reading flag)) op world
+    up_at : versioned_bit flag ≡ 0 → (versioned_value flag == 0) ≡ false → (versioned_value (world.words FLAG) ≡ 0) ⊎ IsUp world → Learnt (Helping o (Deciding flag (not (o.code == HAS)))) op world
     up_at clear some (inl down) = let none = eq-eqb (versioned_value flag) 0 (ap versioned_value here ∙ down) in absurd cc
     up_at clear some (inr up) = (same, (up.list, (up.flagged, sym (cleared-clear flag clear) ∙ ap cleared_word here ∙ up.flag)))
 
     by_value : versioned_bit flag ≡ 0 → (b : Bool) → (versioned_value flag == 0) ≡ b
-        → Learnt (if b then AtRegister o flag else Helping o (Reading flag)) op world × asks (if b then AtRegister o flag else Helping o (Reading flag))
+        → Learnt (if b then AtRegister o flag else Helping o (Deciding flag (not (o.code == HAS)))) op world × asks (if b then AtRegister o flag else Helping o (Deciding flag (not (o.code == HAS))))
     by_value clear true e = ((same, record { clear = clear; down = eqb-true (versioned_value flag) 0 e; seen = inl (sym here) }), tt)
     by_value clear false e = (up_at clear e shape.flag, tt)
 
     by_bit : (b : Bool) → (versioned_bit flag == 0) ≡ b
-        → Learnt (if b then (if versioned_value flag == 0 then AtRegister o flag else Helping o (Reading flag)) else AtFlag o) op world
-        × asks (if b then (if versioned_value flag == 0 then AtRegister o flag else Helping o (Reading flag)) else AtFlag o)
+        → Learnt (if b then (if versioned_value flag == 0 then AtRegister o flag else Helping o (Deciding flag (not (o.code == HAS)))) else AtFlag o) op world
+        × asks (if b then (if versioned_value flag == 0 then AtRegister o flag else Helping o (Deciding flag (not (o.code == HAS)))) else AtFlag o)
     by_bit true e = by_value (eqb-true (versioned_bit flag) 0 e) (versioned_value flag == 0) refl
     by_bit false e = (same, tt)
 
@@ -184,6 +232,8 @@ search_fed_well world after seen (Helping o help) op since command shape asking 
     counted h helps r' = omega (arith, knows.0, (later world after shape (help_effect world after seen h list shape helps r')).count)
 
     by_help : (h : Help) → Helps h world list → Requested flagged_form (request_of_help h) world after seen → Knows (after_help o h seen) op after since × asks (after_help o h seen)
+    by_help (Deciding flag make) helps r' = ((counted (Deciding flag make) helps r', (knows.1.0, (list, help_fed world after seen list shape (Deciding flag make) helps r'))), tt)
+    by_help (Checking flag) helps r' = ((counted (Checking flag) helps r', (knows.1.0, (list, help_fed world after seen list shape (Checking flag) helps r'))), tt)
     by_help (Reading flag) helps r' = ((counted (Reading flag) helps r', (knows.1.0, (list, help_fed world after seen list shape (Reading flag) helps r'))), tt)
     by_help (Changing flag noted) helps r' = ((counted (Changing flag noted) helps r', (knows.1.0, (list, help_fed world after seen list shape (Changing flag noted) helps r'))), tt)
-    by_help (Clearing flag) helps r' = ((counted (Clearing flag) helps r', knows.1.0), tt)
+    by_help (Clearing flag made) helps r' = ((counted (Clearing flag made) helps r', knows.1.0), tt)

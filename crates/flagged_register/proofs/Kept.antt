@@ -2,7 +2,7 @@
 use Rattle.std.proofs.Common.{◌≡◌, ◌≢◌, ℕ, zero, suc, ◌<◌, Bool, true, false, List, ◌∷◌, refl, sym, ap, subst, ◌∙◌, inl, inr, ◌⊎◌, arith}
 use Rattle.std.specs.Prelude.{◌==◌, if◌then◌else◌, All}
 use Rattle.std.specs.FinSet as set
-use Rattle.std.proofs.lemmas.Bool.{eq-eqb, or_left, or_right}
+use Rattle.std.proofs.lemmas.Bool.{cases_eq, eq-eqb, or_left, or_right}
 use Rattle.std.proofs.lemmas.List.Kept.{AllPairs-cons}
 use Rattle.word_fields.specs.Versioned.{versioned_value, versioned_bit, versioned_version, changed_word, cleared_word}
 use Rattle.word_fields.proofs.VersionedLemmas.{value-cleared, bit-cleared, cleared-clear, value-changed, bit-changed, changed_below}
@@ -11,12 +11,12 @@ use Rattle.lin_report.specs.declared.calls.Reply.{Reply}
 use Rattle.normal_traits.specs.World.{Listed, Maker, Cause, Won, Change, World, Among, held_after}
 use Rattle.normal_traits.specs.World.Maker.{By, Beside}
 use Rattle.normal_traits.specs.Steps.{change_of}
-use Rattle.flagged_register.specs.Register.{FLAG, REGISTER, note_place, flag_value, is_in, toggled, toggles, flag_of}
-use Rattle.flagged_register.specs.Meanings.{Flagged, Made, Stands, IsFlagger, Shape, IsBy, IsOver, IsSpent, flag_won, cause_here}
-use Rattle.flagged_register.proofs.Basics.{all_among, at_same, at_other, register_flag, flag_register, note_flag, flagged_value, toggled_value, tells-apply, yes-apply, changes-apply}
-use Rattle.flagged_register.proofs.Effects.{Effect, Quiet, Sets, Makes, Clears, flag_set, change_made, flag_cleared, made_won, cleared_won}
-use Rattle.flagged_register.proofs.Effects.Effect.{quiet, sets, makes, clears}
-use Rattle.flagged_register.proofs.Later.{Later, later, flag_names, flag_clear, flagged_later, note_later, made_later}
+use Rattle.flagged_register.specs.Register.{FLAG, REGISTER, note_place, flag_value, is_in, toggled, toggles, flag_of, decided, decision_place}
+use Rattle.flagged_register.specs.Meanings.{Flagged, Made, Stands, IsFlagger, Shape, IsBy, IsOver, IsSpent, flag_won, cause_here, IsGone}
+use Rattle.flagged_register.proofs.Basics.{all_among, at_same, at_other, register_flag, flag_register, note_flag, flagged_value, toggled_value, tells-apply, yes-apply, changes-apply, decision_flag, decided_some, decision_register, decided_once, same_decision}
+use Rattle.flagged_register.proofs.Effects.{Effect, Quiet, Sets, Makes, Clears, flag_set, change_made, flag_cleared, made_won, cleared_won, Decides, change_decided, decided_won}
+use Rattle.flagged_register.proofs.Effects.Effect.{quiet, sets, makes, decides, clears}
+use Rattle.flagged_register.proofs.Later.{Later, later, flag_names, flag_clear, flagged_later, note_later, made_later, decided_later}
 
 -- ---- lists that set the flag, before and after
 
@@ -55,7 +55,8 @@ spent_later world after l grows flags cause spent = record { used = grows cause.
     over zero o = tt
     over (suc zero) o = omega (arith, o, l.register, ap versioned_version (l.notes cause.block spent.used))
     over (suc (suc zero)) o = λ e. o (flags cause.block spent.used e)
-    over (suc (suc (suc kind))) o = absurd o
+    over (suc (suc (suc zero))) o = λ e. o (sym (l.decisions cause.block spent.used o) ∙ e)
+    over (suc (suc (suc (suc kind)))) o = absurd o
 
 -- a cause that isn't spent differs from all before it
 differs : (world : World) → Shape world → (cause : Cause) → ¬ IsSpent world cause → All (λ (b : Won). cause ≢ b.cause) world.journal
@@ -74,6 +75,10 @@ module _ (world : World) (shape : Shape world) where
 
   up_value : (list : Listed) → Flagged world list → cleared_word (world.words FLAG) ≡ flag_of list.entries → versioned_value (world.words FLAG) ≡ flag_value list.block
   up_value list flagged up = sym (value-cleared (world.words FLAG)) ∙ ap versioned_value up ∙ flag_names world list shape flagged
+
+-- a decision that is open or taken
+abbrev IsDecision : ℕ → Type 0
+IsDecision word = (word ≡ 0) ⊎ ((word ≡ decided true) ⊎ (word ≡ decided false))
 
 -- ---- a quiet step
 
@@ -102,6 +107,7 @@ quiet_kept world words shape q = record {
   fits = omega (arith, shape.fits, q.register);
   flagged = λ change among. flagged_later world after shape l change.list (shape.flagged change among);
   passed = λ change among. omega (arith, shape.passed change among, ap versioned_version q.register, ap versioned_version (note_later world after shape l change.list (shape.flagged change among)));
+  agreed = λ change among. decided_later world after shape l change.list true (shape.flagged change among) (shape.agreed change among);
   effective = shape.effective;
   one_list = shape.one_list;
   one_block = shape.one_block;
@@ -122,14 +128,19 @@ quiet_kept world words shape q = record {
     back list flagged = flagged_from after world list (λ item among. among) flagged
 
     flagger : (list : Listed) → Flagged world list → IsFlagger after list
-    flagger list flagged = let f = shape.flaggers list flagged in record { some = f.some; small = f.small; used = f.used; key = f.key; fate = fate f.fate }
+    flagger list flagged = let f = shape.flaggers list flagged in record { some = f.some; small = f.small; used = f.used; key = f.key; fate = fate f.fate; decision = subst IsDecision (sym same) f.decision }
       where
-        fate : Stands world list ⊎ Made world list → Stands after list ⊎ Made after list
-        fate (inr made) = inr (made_later world after shape l list flagged made)
+        same : words (decision_place list.block) ≡ world.words (decision_place list.block)
+        same = q.decisions list.block (shape.flaggers list flagged).used
+
+        fate : Stands world list ⊎ (Made world list ⊎ IsGone world list) → Stands after list ⊎ (Made after list ⊎ IsGone after list)
+        fate (inr (inr gone)) = inr (inr (same ∙ gone))
+        fate (inr (inl made)) = inr (inl (made_later world after shape l list flagged made))
         fate (inl stands) = inl (record {
           flag = quiet_cleared world words q ∙ stands.flag;
           register = q.register ∙ stands.register ∙ sym (note_later world after shape l list flagged);
           toggles = subst (λ r. toggles list.call.op r ≡ true) (sym q.register) stands.toggles;
+          not_gone = λ gone. stands.not_gone (sym same ∙ gone);
         })
 
 -- ---- a flag is set
@@ -147,6 +158,7 @@ sets_kept world list from word shape s = record {
   fits = omega (arith, shape.fits, register);
   flagged = λ change among. flagged_later world after shape l change.list (shape.flagged change among);
   passed = λ change among. omega (arith, shape.passed change among, ap versioned_version register, ap versioned_version (note_later world after shape l change.list (shape.flagged change among)));
+  agreed = λ change among. decided_later world after shape l change.list true (shape.flagged change among) (shape.agreed change among);
   effective = shape.effective;
   one_list = shape.one_list;
   one_block = shape.one_block;
@@ -182,6 +194,9 @@ sets_kept world list from word shape s = record {
     item_by item (inl e) = subst (λ (w : Won). IsBy w w.maker) (sym e) (refl, s.entries)
     item_by item (inr among) = shape.items item among
 
+    undecided : after.words (decision_place list.block) ≡ 0
+    undecided = at_other FLAG word world.words (decision_place list.block) (decision_flag list.block) ∙ s.undecided
+
     own : IsFlagger after list
     own = record {
       some = s.some;
@@ -192,15 +207,21 @@ sets_kept world list from word shape s = record {
         flag = up;
         register = register ∙ s.noted ∙ sym (at_other FLAG word world.words (note_place list.block) (note_flag list.block));
         toggles = subst (λ r. toggles list.call.op r ≡ true) (sym register) s.toggles;
+        not_gone = λ gone. decided_some false (sym gone ∙ undecided);
       });
+      decision = inl undecided;
     }
 
     flagger : (other : Listed) → (other ≡ list) ⊎ Flagged world other → IsFlagger after other
     flagger other (inl e) = subst (IsFlagger after) (sym e) own
-    flagger other (inr flagged) = let f = shape.flaggers other flagged in record { some = f.some; small = f.small; used = grows other.block f.used; key = f.key; fate = fate f.fate }
+    flagger other (inr flagged) = let f = shape.flaggers other flagged in record { some = f.some; small = f.small; used = grows other.block f.used; key = f.key; fate = fate f.fate; decision = subst IsDecision (sym same) f.decision }
       where
-        fate : Stands world other ⊎ Made world other → Stands after other ⊎ Made after other
-        fate (inr made) = inr (made_later world after shape l other flagged made)
+        same : after.words (decision_place other.block) ≡ world.words (decision_place other.block)
+        same = at_other FLAG word world.words (decision_place other.block) (decision_flag other.block)
+
+        fate : Stands world other ⊎ (Made world other ⊎ IsGone world other) → Stands after other ⊎ (Made after other ⊎ IsGone after other)
+        fate (inr (inr gone)) = inr (inr (same ∙ gone))
+        fate (inr (inl made)) = inr (inl (made_later world after shape l other flagged made))
         fate (inl stands) = absurd (omega (arith, up_value world shape other flagged stands.flag, ap versioned_value s.here, s.down))
 
     same_identity : (a b : Listed) → (a ≡ list) ⊎ Flagged world a → (b ≡ list) ⊎ Flagged world b → a.identity ≡ b.identity → a ≡ b
@@ -239,6 +260,7 @@ makes_kept world list shape m = record {
   fits = omega (arith, register, changed_below (world.words REGISTER) (if is_in (world.words REGISTER) then 0 else 1) (toggled_value (world.words REGISTER)));
   flagged = λ change among. flagged change among;
   passed = λ change among. passed change among;
+  agreed = λ change among. agreed change among;
   effective = (changes-apply list.call.op (world.words REGISTER) held key m.stands.toggles shape.tells, shape.effective);
   one_list = AllPairs-cons (λ (a b : Change). a.list.identity ≢ b.list.identity) new world.changes
       (all_among (λ (b : Change). list.identity ≢ b.list.identity) world.changes (λ b among e. unmade b among (shape.same_identity list b.list m.flagged (shape.flagged b among) e))) shape.one_list;
@@ -272,10 +294,14 @@ makes_kept world list shape m = record {
     own_passed : versioned_version (after.words (note_place list.block)) < versioned_version (after.words REGISTER)
     own_passed = omega (arith, ap versioned_version register, m.raised, ap versioned_version (note_later world after shape l list m.flagged), ap versioned_version m.stands.register)
 
+    own_agreed : after.words (decision_place list.block) ≡ decided true
+    own_agreed = decided_later world after shape l list true m.flagged m.agreed
+
     own : Made after list
     own = record {
       change = inl (ap (λ (reply : Reply). record { list = list; reply = reply }) (sym (yes-apply list.call.op (world.words REGISTER) held key m.stands.toggles shape.tells)));
       passed = own_passed;
+      agreed = own_agreed;
     }
 
     before : (other : Listed) → Flagged after other → Flagged world other
@@ -289,11 +315,15 @@ makes_kept world list shape m = record {
     item_by item (inr among) = shape.items item among
 
     flagger : (other : Listed) → Flagged world other → IsFlagger after other
-    flagger other flagged' = let f = shape.flaggers other flagged' in record { some = f.some; small = f.small; used = f.used; key = f.key; fate = inr (fate f.fate) }
+    flagger other flagged' = let f = shape.flaggers other flagged' in record { some = f.some; small = f.small; used = f.used; key = f.key; fate = inr (fate f.fate); decision = subst IsDecision (sym same) f.decision }
       where
-        fate : Stands world other ⊎ Made world other → Made after other
-        fate (inr made) = made_later world after shape l other flagged' made
-        fate (inl stands) = subst (Made after) (one_up world shape list other m.flagged flagged' m.stands.flag stands.flag) own
+        same : after.words (decision_place other.block) ≡ world.words (decision_place other.block)
+        same = at_other REGISTER (toggled (world.words REGISTER)) world.words (decision_place other.block) (decision_register other.block)
+
+        fate : Stands world other ⊎ (Made world other ⊎ IsGone world other) → Made after other ⊎ IsGone after other
+        fate (inr (inr gone)) = inr (same ∙ gone)
+        fate (inr (inl made)) = inl (made_later world after shape l other flagged' made)
+        fate (inl stands) = inl (subst (Made after) (one_up world shape list other m.flagged flagged' m.stands.flag stands.flag) own)
 
     flagged : (change : Change) → Among change after.changes → Flagged after change.list
     flagged change (inl e) = subst (λ (c : Change). Flagged after c.list) (sym e) (flagged_later world after shape l list m.flagged)
@@ -302,6 +332,10 @@ makes_kept world list shape m = record {
     passed : (change : Change) → Among change after.changes → versioned_version (after.words (note_place change.list.block)) < versioned_version (after.words REGISTER)
     passed change (inl e) = subst (λ (c : Change). versioned_version (after.words (note_place c.list.block)) < versioned_version (after.words REGISTER)) (sym e) own_passed
     passed change (inr among) = omega (arith, shape.passed change among, l.register, ap versioned_version (note_later world after shape l change.list (shape.flagged change among)))
+
+    agreed : (change : Change) → Among change after.changes → after.words (decision_place change.list.block) ≡ decided true
+    agreed change (inl e) = subst (λ (c : Change). after.words (decision_place c.list.block) ≡ decided true) (sym e) own_agreed
+    agreed change (inr among) = decided_later world after shape l change.list true (shape.flagged change among) (shape.agreed change among)
 
     spent : (item : Won) → Among item after.journal → IsSpent after item.cause
     spent item (inl e) = subst (λ (w : Won). IsSpent after w.cause) (sym e) (record { used = (shape.flaggers list m.flagged).used; over = own_passed })
@@ -322,6 +356,7 @@ clears_kept world list flag shape c = record {
   fits = omega (arith, shape.fits, register);
   flagged = λ change among. flagged_later world after shape l change.list (shape.flagged change among);
   passed = λ change among. omega (arith, shape.passed change among, ap versioned_version register, ap versioned_version (note_later world after shape l change.list (shape.flagged change among)));
+  agreed = λ change among. decided_later world after shape l change.list true (shape.flagged change among) (shape.agreed change among);
   effective = shape.effective;
   one_list = shape.one_list;
   one_block = shape.one_block;
@@ -352,18 +387,121 @@ clears_kept world list flag shape c = record {
     item_by item (inr among) = shape.items item among
 
     flagger : (other : Listed) → Flagged world other → IsFlagger after other
-    flagger other flagged = let f = shape.flaggers other flagged in record { some = f.some; small = f.small; used = f.used; key = f.key; fate = inr (fate f.fate) }
+    flagger other flagged = let f = shape.flaggers other flagged in record { some = f.some; small = f.small; used = f.used; key = f.key; fate = inr (fate f.fate); decision = subst IsDecision (sym same) f.decision }
       where
-        fate : Stands world other ⊎ Made world other → Made after other
-        fate (inr made) = made_later world after shape l other flagged made
-        fate (inl stands) = absurd (not_both world shape list (subst (Stands world) (one_up world shape other list flagged c.flagged stands.flag up) stands) c.made.passed)
+        same : after.words (decision_place other.block) ≡ world.words (decision_place other.block)
+        same = at_other FLAG (changed_word flag 0) world.words (decision_place other.block) (decision_flag other.block)
+
+        ended : Stands world list → Made world list ⊎ IsGone world list → ⊥
+        ended stands (inl made) = not_both world shape list stands made.passed
+        ended stands (inr gone) = stands.not_gone gone
+
+        fate : Stands world other ⊎ (Made world other ⊎ IsGone world other) → Made after other ⊎ IsGone after other
+        fate (inr (inr gone)) = inr (same ∙ gone)
+        fate (inr (inl made)) = inl (made_later world after shape l other flagged made)
+        fate (inl stands) = absurd (ended (subst (Stands world) (one_up world shape other list flagged c.flagged stands.flag up) stands) c.ends)
 
     spent : (item : Won) → Among item after.journal → IsSpent after item.cause
     spent item (inl e) = subst (λ (w : Won). IsSpent after w.cause) (sym e) (record { used = (shape.flaggers list c.flagged).used; over = λ e'. absurd (omega (arith, e', down)) })
     spent item (inr among) = spent_later world after l (λ block used. used) (λ block used e'. absurd (omega (arith, e', down))) item.cause (shape.spent item among)
 
+-- ---- a decision is taken
+
+decides_kept : (world : World) (list : Listed) (made : Bool) → Shape world → Decides world list → Shape (change_decided list made world)
+decides_kept world list made shape d = record {
+  opened = shape.opened;
+  items = λ item among. item_by item among;
+  flaggers = λ other flagged. flagger other (before other flagged);
+  same_identity = λ a b fa fb. shape.same_identity a b (before a fa) (before b fb);
+  same_block = λ a b fa fb. shape.same_block a b (before a fa) (before b fb);
+  flag = elim shape.flag [
+    | inl down ↦ inl (ap versioned_value flag ∙ down)
+    | inr up ↦ inr (record { list = up.list; flagged = flagged_later world after shape l up.list up.flagged; flag = ap cleared_word flag ∙ up.flag })
+  ];
+  tells = shape.tells ∙ ap is_in (sym register);
+  clear = ap versioned_bit register ∙ shape.clear;
+  fits = omega (arith, shape.fits, register);
+  flagged = λ change among. flagged_later world after shape l change.list (shape.flagged change among);
+  passed = λ change among. omega (arith, shape.passed change among, ap versioned_version register, ap versioned_version (note_later world after shape l change.list (shape.flagged change among)));
+  agreed = λ change among. decided_later world after shape l change.list true (shape.flagged change among) (shape.agreed change among);
+  effective = shape.effective;
+  one_list = shape.one_list;
+  one_block = shape.one_block;
+  spent = λ item among. spent item among;
+  causes_differ = AllPairs-cons (λ (a b : Won). a.cause ≢ b.cause) (decided_won list made) world.journal (differs world shape (cause_here list.block 3) (λ spent'. spent'.over d.undecided)) shape.causes_differ;
+}
+  where
+    after : World
+    after = change_decided list made world
+
+    l : Later world after
+    l = later world after shape (decides list made d)
+
+    flag : after.words FLAG ≡ world.words FLAG
+    flag = at_other (decision_place list.block) (decided made) world.words FLAG (λ e. decision_flag list.block (sym e))
+
+    register : after.words REGISTER ≡ world.words REGISTER
+    register = at_other (decision_place list.block) (decided made) world.words REGISTER (λ e. decision_register list.block (sym e))
+
+    own : after.words (decision_place list.block) ≡ decided made
+    own = at_same (decision_place list.block) (decided made) world.words
+
+    before : (other : Listed) → Flagged after other → Flagged world other
+    before other flagged = record { from = flagged.from; entries = flagged.entries; won = older other flagged.from (decided_won list made) world.journal refl flagged.won }
+
+    item_by : (item : Won) → Among item after.journal → IsBy item item.maker
+    item_by item (inl e) = subst (λ (w : Won). IsBy w w.maker) (sym e) tt
+    item_by item (inr among) = shape.items item among
+
+    stands_later : (other : Listed) → Flagged world other → Stands world other → ¬ IsGone after other → Stands after other
+    stands_later other flagged stands not_gone = record {
+      flag = ap cleared_word flag ∙ stands.flag;
+      register = register ∙ stands.register ∙ sym (note_later world after shape l other flagged);
+      toggles = subst (λ r. toggles other.call.op r ≡ true) (sym register) stands.toggles;
+      not_gone = not_gone;
+    }
+
+    -- the list itself
+    own_fate : Stands world list ⊎ (Made world list ⊎ IsGone world list) → Stands after list ⊎ (Made after list ⊎ IsGone after list)
+    own_fate (inr (inr gone)) = absurd (decided_some false (sym gone ∙ d.undecided))
+    own_fate (inr (inl done)) = absurd (decided_some true (sym done.agreed ∙ d.undecided))
+    own_fate (inl stands) = by_made made own
+      where
+        by_made : (m : Bool) → after.words (decision_place list.block) ≡ decided m → Stands after list ⊎ (Made after list ⊎ IsGone after list)
+        by_made true e = inl (stands_later list d.flagged stands (λ gone. decided_once (sym e ∙ gone)))
+        by_made false e = inr (inr e)
+
+    own_decision : (m : Bool) → after.words (decision_place list.block) ≡ decided m → IsDecision (after.words (decision_place list.block))
+    own_decision true e = inr (inl e)
+    own_decision false e = inr (inr e)
+
+    own_flagger : IsFlagger after list
+    own_flagger = let f = shape.flaggers list d.flagged in record { some = f.some; small = f.small; used = f.used; key = f.key; fate = own_fate f.fate; decision = own_decision made own }
+
+    other_flagger : (other : Listed) → Flagged world other → other.block ≢ list.block → IsFlagger after other
+    other_flagger other flagged apart = let f = shape.flaggers other flagged in record { some = f.some; small = f.small; used = f.used; key = f.key; fate = fate f.fate; decision = subst IsDecision (sym same) f.decision }
+      where
+        same : after.words (decision_place other.block) ≡ world.words (decision_place other.block)
+        same = at_other (decision_place list.block) (decided made) world.words (decision_place other.block) (λ e. apart (same_decision other.block list.block e))
+
+        fate : Stands world other ⊎ (Made world other ⊎ IsGone world other) → Stands after other ⊎ (Made after other ⊎ IsGone after other)
+        fate (inr (inr gone)) = inr (inr (same ∙ gone))
+        fate (inr (inl done)) = inr (inl (made_later world after shape l other flagged done))
+        fate (inl stands) = inl (stands_later other flagged stands (λ gone. stands.not_gone (sym same ∙ gone)))
+
+    flagger : (other : Listed) → Flagged world other → IsFlagger after other
+    flagger other flagged = elim (cases_eq other.block list.block) [
+      | inl e ↦ subst (IsFlagger after) (shape.same_block list other d.flagged flagged (sym e)) own_flagger
+      | inr apart ↦ other_flagger other flagged apart
+    ]
+
+    spent : (item : Won) → Among item after.journal → IsSpent after item.cause
+    spent item (inl e) = subst (λ (w : Won). IsSpent after w.cause) (sym e) (record { used = (shape.flaggers list d.flagged).used; over = λ e'. decided_some made (sym own ∙ e') })
+    spent item (inr among) = spent_later world after l (λ block used. used) (λ block used e. sym (ap versioned_value flag) ∙ e) item.cause (shape.spent item among)
+
 pub effect_keeps : (world after : World) → Shape world → Effect world after → Shape after
 effect_keeps world after shape (quiet words q) = quiet_kept world words shape q
 effect_keeps world after shape (sets list from word s) = sets_kept world list from word shape s
 effect_keeps world after shape (makes list m) = makes_kept world list shape m
+effect_keeps world after shape (decides list made d) = decides_kept world list made shape d
 effect_keeps world after shape (clears list flag c) = clears_kept world list flag shape c

@@ -1,17 +1,17 @@
 -- What every effect keeps, and with it what searches and wrap-ups know.
-use Rattle.std.proofs.Common.{◌≡◌, ℕ, ◌+◌, ◌<◌, ◌≤◌, true, length, sym, ap, ◌∙◌, inl, inr, ◌⊎◌, arith}
+use Rattle.std.proofs.Common.{◌≡◌, ◌≢◌, ℕ, ◌+◌, ◌<◌, ◌≤◌, true, false, length, sym, ap, ◌∙◌, inl, inr, ◌⊎◌, arith, Bool}
 use Rattle.word_fields.specs.Versioned.{versioned_value, versioned_bit, versioned_version, changed_word, cleared_word}
 use Rattle.word_fields.proofs.VersionedLemmas.{version-cleared, value-cleared, cleared-clear}
 use Rattle.lin_report.specs.declared.calls.Op.{Op}
 use Rattle.normal_traits.specs.World.{Listed, Won, Change, World, Among}
 use Rattle.normal_traits.specs.Steps.{with_word}
-use Rattle.flagged_register.specs.Register.{FLAG, REGISTER, note_place, flag_value, flag_word, toggled, flag_of, Help, Search}
-use Rattle.flagged_register.specs.Register.Help.{Reading, Changing, Clearing}
+use Rattle.flagged_register.specs.Register.{FLAG, REGISTER, note_place, flag_value, flag_word, toggled, flag_of, Help, Search, decision_place, decided}
+use Rattle.flagged_register.specs.Register.Help.{Deciding, Checking, Reading, Changing, Clearing}
 use Rattle.flagged_register.specs.Register.Search.{AtFlag, AtRegister, Named, Helping}
 use Rattle.flagged_register.specs.Meanings.{Flagged, Made, Shape, flag_won, Helps, WasDown, WasRead, Learnt, Knows}
-use Rattle.flagged_register.proofs.Basics.{at_same, at_other, register_flag, flag_register, note_flag, note_register, flagged_value, flagged_bit}
+use Rattle.flagged_register.proofs.Basics.{at_same, at_other, register_flag, flag_register, note_flag, note_register, flagged_value, flagged_bit, decision_flag, decided_some, decision_register, note_decision, same_decision}
 use Rattle.flagged_register.proofs.Effects.{Effect}
-use Rattle.flagged_register.proofs.Effects.Effect.{quiet, sets, makes, clears}
+use Rattle.flagged_register.proofs.Effects.Effect.{quiet, sets, makes, decides, clears}
 
 pub record Later (world after : World) : Type 0 where
   pub journal : (won : Won) → Among won world.journal → Among won after.journal
@@ -21,6 +21,7 @@ pub record Later (world after : World) : Type 0 where
   pub register : versioned_version (world.words REGISTER) ≤ versioned_version (after.words REGISTER)
   pub still : versioned_value (world.words FLAG) ≡ 0 → after.words REGISTER ≡ world.words REGISTER
   pub notes : (block : ℕ) → world.used block ≡ true → after.words (note_place block) ≡ world.words (note_place block)
+  pub decisions : (block : ℕ) → world.used block ≡ true → world.words (decision_place block) ≢ 0 → after.words (decision_place block) ≡ world.words (decision_place block)
 
 -- ---- a list's flag
 
@@ -45,6 +46,7 @@ later world after shape (quiet words q) = record {
   register = omega (arith, ap versioned_version q.register);
   still = λ down. q.register;
   notes = q.notes;
+  decisions = λ block used some. q.decisions block used;
 }
 later world after shape (sets list from word s) =
     let word_version : versioned_version word ≡ versioned_version from + 1 = sym (version-cleared word) ∙ ap versioned_version s.exchanged.to ∙ s.exchanged.raised in
@@ -58,6 +60,7 @@ later world after shape (sets list from word s) =
       register = omega (arith, ap versioned_version same);
       still = λ down. same;
       notes = λ block used. at_other FLAG word world.words (note_place block) (note_flag block);
+      decisions = λ block used some. at_other FLAG word world.words (decision_place block) (decision_flag block);
     }
 later world after shape (makes list m) =
     let word = toggled (world.words REGISTER) in
@@ -70,6 +73,21 @@ later world after shape (makes list m) =
       register = omega (arith, ap versioned_version new, m.raised);
       still = λ down. absurd (omega (arith, down, sym (value-cleared (world.words FLAG)) ∙ ap versioned_value m.stands.flag ∙ flag_names world list shape m.flagged));
       notes = λ block used. at_other REGISTER word world.words (note_place block) (note_register block);
+      decisions = λ block used some. at_other REGISTER word world.words (decision_place block) (decision_register block);
+    }
+later world after shape (decides list made d) =
+    let place = decision_place list.block in
+    let same : with_word place (decided made) world.words REGISTER ≡ world.words REGISTER = at_other place (decided made) world.words REGISTER (λ e. decision_register list.block (sym e)) in
+    record {
+      journal = λ won among. inr among;
+      changes = λ change among. among;
+      count = omega arith;
+      flag = inl (at_other place (decided made) world.words FLAG (λ e. decision_flag list.block (sym e)));
+      register = omega (arith, ap versioned_version same);
+      still = λ down. same;
+      notes = λ block used. at_other place (decided made) world.words (note_place block) (note_decision block list.block);
+      decisions = λ block used some. at_other place (decided made) world.words (decision_place block)
+          (λ e. some (ap (λ b. world.words (decision_place b)) (same_decision block list.block e) ∙ d.undecided));
     }
 later world after shape (clears list flag c) =
     let word = changed_word flag 0 in
@@ -83,6 +101,7 @@ later world after shape (clears list flag c) =
       register = omega (arith, ap versioned_version same);
       still = λ down. same;
       notes = λ block used. at_other FLAG word world.words (note_place block) (note_flag block);
+      decisions = λ block used some. at_other FLAG word world.words (decision_place block) (decision_flag block);
     }
 
 -- ---- what is kept
@@ -94,16 +113,23 @@ module _ (world after : World) (shape : Shape world) (l : Later world after) whe
   pub note_later : (list : Listed) → Flagged world list → after.words (note_place list.block) ≡ world.words (note_place list.block)
   note_later list flagged = let f = shape.flaggers list flagged in l.notes list.block f.used
 
+  pub decided_later : (list : Listed) (made : Bool) → Flagged world list → world.words (decision_place list.block) ≡ decided made → after.words (decision_place list.block) ≡ decided made
+  decided_later list made flagged agreed = l.decisions list.block (shape.flaggers list flagged).used (λ e. decided_some made (sym agreed ∙ e)) ∙ agreed
+
   pub made_later : (list : Listed) → Flagged world list → Made world list → Made after list
   made_later list flagged made = record {
     change = l.changes _ made.change;
     passed = omega (arith, made.passed, l.register, ap versioned_version (note_later list flagged));
+    agreed = decided_later list true flagged made.agreed;
   }
 
   pub helps_later : (help : Help) (list : Listed) → Helps help world list → Helps help after list
-  helps_later (Reading flag) list h = (flagged_later list h.0, h.1)
-  helps_later (Changing flag noted) list h = (flagged_later list h.0, h.1, h.2 ∙ sym (note_later list h.0))
-  helps_later (Clearing flag) list h = (flagged_later list h.0, h.1, made_later list h.0 h.2)
+  helps_later (Deciding flag make) list h = (flagged_later list h.0, h.1)
+  helps_later (Checking flag) list h = (flagged_later list h.0, h.1, λ e. h.2 (sym (l.decisions list.block (shape.flaggers list h.0).used h.2) ∙ e))
+  helps_later (Reading flag) list h = (flagged_later list h.0, h.1, decided_later list true h.0 h.2)
+  helps_later (Changing flag noted) list h = (flagged_later list h.0, h.1, decided_later list true h.0 h.2, h.3 ∙ sym (note_later list h.0))
+  helps_later (Clearing flag true) list h = (flagged_later list h.0, h.1, made_later list h.0 h.2)
+  helps_later (Clearing flag false) list h = (flagged_later list h.0, h.1, decided_later list false h.0 h.2)
 
   -- the flag's version never falls
   pub flag_rises : versioned_version (world.words FLAG) ≤ versioned_version (after.words FLAG)

@@ -1,8 +1,9 @@
 -- Each allowed step has one of the four effects.
-use Rattle.std.proofs.Common.{◌≡◌, ◌≢◌, ℕ, ◌+◌, ◌/◌, ◌<◌, true, false, not, List, [], ◌∷◌, Option, refl, sym, ap, subst, ◌∙◌, inl, inr, ◌⊎◌, arith}
+use Rattle.std.proofs.Common.{◌≡◌, ◌≢◌, ℕ, ◌+◌, ◌/◌, ◌<◌, true, false, not, List, [], ◌∷◌, Option, refl, sym, ap, subst, ◌∙◌, inl, inr, ◌⊎◌, arith, Bool}
 use Rattle.std.specs.Prelude.{◌==◌, if◌then◌else◌, slice_get, Some, None}
 use Rattle.std.proofs.lemmas.Bool.{eq-eqb, ne_eqb, eqb-true}
-use Rattle.node_arena.specs.MemoryMap.{block_place}
+use Rattle.node_arena.specs.MemoryMap.{block_place, block_at}
+use Rattle.node_arena.proofs.PlaceLemmas.{block_at-block_place}
 use Rattle.word_fields.specs.Versioned.{versioned_value, versioned_version, changed_word, cleared_word}
 use Rattle.word_fields.proofs.VersionedLemmas.{value-cleared}
 use Rattle.lin_report.specs.declared.calls.Op.{Op}
@@ -16,13 +17,13 @@ use Rattle.normal_traits.specs.World.Maker.{By, Beside}
 use Rattle.normal_traits.specs.Steps.{with_word, put_word, with_change, IsExchanged, IsFresh, IsFilled, IsOffered, Requested, IsStep, exchanged, using_block}
 use Rattle.normal_traits.specs.Steps.Requested.{loaded, lost, won}
 use Rattle.normal_traits.specs.Steps.IsStep.{nothing, elsewhere, clears, searches, wraps, first, first_of_block, second}
-use Rattle.flagged_register.specs.Register.{FLAG, REGISTER, note_place, flag_value, toggled, toggles, flag_entry, flag_of, offer_of, Help, Search, request_of, request_of_help}
-use Rattle.flagged_register.specs.Register.Help.{Reading, Changing, Clearing}
+use Rattle.flagged_register.specs.Register.{FLAG, REGISTER, note_place, flag_value, toggled, toggles, flag_entry, flag_of, offer_of, Help, Search, request_of, request_of_help, decision_place, decided}
+use Rattle.flagged_register.specs.Register.Help.{Deciding, Checking, Reading, Changing, Clearing}
 use Rattle.flagged_register.specs.Register.Search.{AtFlag, AtRegister, Named, Helping}
-use Rattle.flagged_register.specs.Meanings.{Flagged, Made, Stands, Shape, flagged_block, cause_here, cause_of, flagger, adds_beside, Helps, WasRead, Knows, flagged_form, asks}
-use Rattle.flagged_register.proofs.Basics.{at_same, at_other, register_flag, flag_register, note_flag, word_of}
-use Rattle.flagged_register.proofs.Effects.{Effect, Sets, change_made, flag_cleared}
-use Rattle.flagged_register.proofs.Effects.Effect.{quiet, sets, makes}
+use Rattle.flagged_register.specs.Meanings.{Flagged, Made, Stands, Shape, flagged_block, cause_here, cause_of, flagger, adds_beside, Helps, WasRead, Knows, flagged_form, asks, IsGone}
+use Rattle.flagged_register.proofs.Basics.{at_same, at_other, register_flag, flag_register, note_flag, word_of, decision_flag, decided_once, decision_register}
+use Rattle.flagged_register.proofs.Effects.{Effect, Sets, change_made, flag_cleared, change_decided}
+use Rattle.flagged_register.proofs.Effects.Effect.{quiet, sets, makes, decides}
 use Rattle.flagged_register.proofs.Journal.{took_of, flagger_is}
 use Rattle.flagged_register.proofs.Later.{flag_names}
 
@@ -57,7 +58,7 @@ asked (Store at value) r = elim r [ ]
 asked (Add at by) r = elim r [ ]
 
 unchanged : (world : World) → Effect world world
-unchanged world = quiet world.words (record { flag = inl refl; register = refl; notes = λ block used. refl })
+unchanged world = quiet world.words (record { flag = inl refl; register = refl; notes = λ block used. refl; decisions = λ block used. refl })
 
 -- ---- the exchange of the register
 
@@ -85,21 +86,22 @@ module _ (world : World) (list : Listed) (shape : Shape world) (flagged : Flagge
 
   own_cause : (from to : ℕ) → cause_of world Beside (entry_here REGISTER from to) ≡ cause_here list.block 1
   own_cause from to =
-      ap (λ b. if b then cause_here (flagged_block (world.words FLAG)) 1 else cause_here (flagged_block from) 2) (eq-eqb REGISTER REGISTER refl)
+      ap (λ b. if b then cause_here (flagged_block (world.words FLAG)) 1 else (if REGISTER == FLAG then cause_here (flagged_block from) 2 else cause_here (block_at REGISTER) 3)) (eq-eqb REGISTER REGISTER refl)
       ∙ ap (λ block. cause_here block 1) up_block
 
-pub make_effect : (world after : World) (list : Listed) (noted : ℕ) → Shape world → Flagged world list → noted ≡ world.words (note_place list.block) → HasWon world after REGISTER noted (toggled noted) → Effect world after
-make_effect world after list noted shape flagged own w = by_fate (shape.flaggers list flagged).fate
+pub make_effect : (world after : World) (list : Listed) (noted : ℕ) → Shape world → Flagged world list → world.words (decision_place list.block) ≡ decided true → noted ≡ world.words (note_place list.block) → HasWon world after REGISTER noted (toggled noted) → Effect world after
+make_effect world after list noted shape flagged agreed own w = by_fate (shape.flaggers list flagged).fate
   where
-    by_fate : Stands world list ⊎ Made world list → Effect world after
-    by_fate (inr made) = absurd (omega (arith, made.passed, ap versioned_version (w.0 ∙ own)))
+    by_fate : Stands world list ⊎ (Made world list ⊎ IsGone world list) → Effect world after
+    by_fate (inr (inr gone)) = absurd (decided_once (sym agreed ∙ gone))
+    by_fate (inr (inl made)) = absurd (omega (arith, made.passed, ap versioned_version (w.0 ∙ own)))
     by_fate (inl stands) =
         let e : after ≡ change_made list world =
         w.2 ∙ ap (λ added. with_made world noted added (cause_of world Beside (entry_here REGISTER noted (toggled noted)))) (adds_own world list shape flagged stands.flag noted (toggled noted))
         ∙ ap (with_made world noted (Some list)) (own_cause world list shape flagged stands.flag noted (toggled noted))
         ∙ ap (λ register. with_made world register (Some list) (cause_here list.block 1)) (sym w.0) in
         let raised : versioned_version (toggled (world.words REGISTER)) ≡ versioned_version (world.words REGISTER) + 1 = subst (λ r. versioned_version (toggled r) ≡ versioned_version r + 1) (sym w.0) w.1 in
-        subst (Effect world) (sym e) (makes list (record { flagged = flagged; stands = stands; raised = raised }))
+        subst (Effect world) (sym e) (makes list (record { flagged = flagged; stands = stands; agreed = agreed; raised = raised }))
 
 -- ---- the exchange of the flag
 
@@ -112,30 +114,71 @@ with_cleared world flag added cause =
       journal = record { place = FLAG; before = flag; after = changed_word flag 0; maker = Beside; cause = cause } ∷ world.journal;
     }
 
-pub clear_effect : (world after : World) (list : Listed) (flag : ℕ) → Shape world → Flagged world list → flag ≡ flag_of list.entries → Made world list → HasWon world after FLAG flag (changed_word flag 0) → Effect world after
-clear_effect world after list flag shape flagged own made w =
+pub clear_effect : (world after : World) (list : Listed) (flag : ℕ) → Shape world → Flagged world list → flag ≡ flag_of list.entries → Made world list ⊎ IsGone world list → HasWon world after FLAG flag (changed_word flag 0) → Effect world after
+clear_effect world after list flag shape flagged own ends w =
     let test : (FLAG == REGISTER) ≡ false = ne_eqb FLAG REGISTER flag_register in
     let adds : adds_beside world (entry_here FLAG flag (changed_word flag 0)) ≡ None = ap (λ b. if b then flagger (flagged_block (world.words FLAG)) world.journal else None) test in
     let value : versioned_value flag ≡ flag_value list.block = ap versioned_value own ∙ flag_names world list shape flagged in
     let block : flagged_block flag ≡ list.block = omega (arith, value) in
     let cause : cause_of world Beside (entry_here FLAG flag (changed_word flag 0)) ≡ cause_here list.block 2 =
-    ap (λ b. if b then cause_here (flagged_block (world.words FLAG)) 1 else cause_here (flagged_block flag) 2) test ∙ ap (λ b. cause_here b 2) block in
+    ap (λ b. if b then cause_here (flagged_block (world.words FLAG)) 1 else (if FLAG == FLAG then cause_here (flagged_block flag) 2 else cause_here (block_at FLAG) 3)) test
+    ∙ ap (λ b. if b then cause_here (flagged_block flag) 2 else cause_here (block_at FLAG) 3) (eq-eqb FLAG FLAG refl) ∙ ap (λ b. cause_here b 2) block in
     let e : after ≡ flag_cleared list flag world =
     w.2 ∙ ap (λ added. with_cleared world flag added (cause_of world Beside (entry_here FLAG flag (changed_word flag 0)))) adds ∙ ap (with_cleared world flag None) cause in
-    subst (Effect world) (sym e) (Effect.clears list flag (record { flagged = flagged; made = made; own = own; here = w.0; raised = w.1 }))
+    subst (Effect world) (sym e) (Effect.clears list flag (record { flagged = flagged; ends = ends; own = own; here = w.0; raised = w.1 }))
+
+-- ---- the exchange of a decision
+
+abbrev with_decided : World → ℕ → Bool → Option Listed → Cause → World
+with_decided world place made added cause =
+    record {
+      words = with_word place (decided made) world.words;
+      changes = with_change set_object added world.changes;
+      used = world.used;
+      journal = record { place = place; before = 0; after = decided made; maker = Beside; cause = cause } ∷ world.journal;
+    }
+
+pub decide_effect : (world after : World) (list : Listed) (made : Bool) → Shape world → Flagged world list → HasWon world after (decision_place list.block) 0 (decided made) → Effect world after
+decide_effect world after list made shape flagged w =
+    let place = decision_place list.block in
+    let not_register : (place == REGISTER) ≡ false = ne_eqb place REGISTER (decision_register list.block) in
+    let not_flag : (place == FLAG) ≡ false = ne_eqb place FLAG (decision_flag list.block) in
+    let adds : adds_beside world (entry_here place 0 (decided made)) ≡ None = ap (λ b. if b then flagger (flagged_block (world.words FLAG)) world.journal else None) not_register in
+    let cause : cause_of world Beside (entry_here place 0 (decided made)) ≡ cause_here list.block 3 =
+    ap (λ b. if b then cause_here (flagged_block (world.words FLAG)) 1 else (if place == FLAG then cause_here (flagged_block 0) 2 else cause_here (block_at place) 3)) not_register
+    ∙ ap (λ b. if b then cause_here (flagged_block 0) 2 else cause_here (block_at place) 3) not_flag ∙ ap (λ b. cause_here b 3) (block_at-block_place list.block 28 (omega arith)) in
+    let e : after ≡ change_decided list made world =
+    w.2 ∙ ap (λ added. with_decided world place made added (cause_of world Beside (entry_here place 0 (decided made)))) adds ∙ ap (with_decided world place made None) cause in
+    subst (Effect world) (sym e) (decides list made (record { flagged = flagged; undecided = w.0 }))
+
+-- ---- the requests of a help
+
+-- the block that its flag names is the list's
+pub named_block : (world : World) (list : Listed) (flag : ℕ) → Shape world → Flagged world list → flag ≡ flag_of list.entries → versioned_value flag / 4 ≡ list.block
+named_block world list flag shape flagged own = omega (arith, ap versioned_value own, flag_names world list shape flagged)
 
 pub help_effect : (world after : World) (seen : Seen) (help : Help) (list : Listed) → Shape world → Helps help world list → Requested flagged_form (request_of_help help) world after seen → Effect world after
+help_effect world after seen (Deciding flag make) list shape h r = by_cases (asked (Exchange (decision_place (versioned_value flag / 4)) 0 (decided make)) r)
+  where
+    by_cases : Asked (Exchange (decision_place (versioned_value flag / 4)) 0 (decided make)) world after seen → Effect world after
+    by_cases (inl l) = subst (Effect world) (sym l.1) (unchanged world)
+    by_cases (inr w) = decide_effect world after list make shape h.0 (subst (λ block. HasWon world after (decision_place block) 0 (decided make)) (named_block world list flag shape h.0 h.1) w)
+help_effect world after seen (Checking flag) list shape h r = subst (Effect world) (sym (asked (Load (decision_place (versioned_value flag / 4))) r).0) (unchanged world)
 help_effect world after seen (Reading flag) list shape h r = subst (Effect world) (sym (asked (Load (note_place (versioned_value flag / 4))) r).0) (unchanged world)
 help_effect world after seen (Changing flag noted) list shape h r = by_cases (asked (Exchange REGISTER noted (toggled noted)) r)
   where
     by_cases : Asked (Exchange REGISTER noted (toggled noted)) world after seen → Effect world after
     by_cases (inl l) = subst (Effect world) (sym l.1) (unchanged world)
-    by_cases (inr w) = make_effect world after list noted shape h.0 h.2 w
-help_effect world after seen (Clearing flag) list shape h r = by_cases (asked (Exchange FLAG flag (changed_word flag 0)) r)
+    by_cases (inr w) = make_effect world after list noted shape h.0 h.2 h.3 w
+help_effect world after seen (Clearing flag made) list shape h r = by_cases (asked (Exchange FLAG flag (changed_word flag 0)) r)
   where
     by_cases : Asked (Exchange FLAG flag (changed_word flag 0)) world after seen → Effect world after
     by_cases (inl l) = subst (Effect world) (sym l.1) (unchanged world)
-    by_cases (inr w) = clear_effect world after list flag shape h.0 h.1 h.2 w
+    by_cases (inr w) = by_made made h w
+      where
+        by_made : (m : Bool) → Helps (Clearing flag m) world list → HasWon world after FLAG flag (changed_word flag 0) → Effect world after
+        by_made true h' w' = clear_effect world after list flag shape h'.0 h'.1 (inl h'.2) w'
+        by_made false h' w' = clear_effect world after list flag shape h'.0 h'.1 (inr h'.2) w'
 
 -- ---- the setting of a flag
 
@@ -168,6 +211,7 @@ flag_effect world list (Named op flag register) since entry word offered fresh s
     let here' : world.words FLAG ≡ flag = subst (λ (e : Entry). world.words e.target ≡ e.from) is here in
     let same : world.words REGISTER ≡ register = read.same here' in
     let noted : world.words (note_place list.block) ≡ register = filled.stored 0 (0, 0) (omega arith) in
+    let undecided : world.words (decision_place list.block) ≡ 0 = filled.stored 1 (0, 0) (omega arith) in
     let s : Sets world list flag word = record {
       entries = offered.entries;
       some = some;
@@ -178,6 +222,7 @@ flag_effect world list (Named op flag register) since entry word offered fresh s
       down = read.down.down;
       here = here';
       noted = same ∙ sym noted;
+      undecided = undecided;
       exchanged = subst (λ (e : Entry). IsExchanged e word) is exchanged;
       fresh = λ other equal flagged. fresh other 0 equal (took_of world other flagged);
     } in
@@ -198,6 +243,7 @@ elsewhere_effect world place word shape is = quiet (with_word place word world.w
   flag = inl (at_other place word world.words FLAG (differs 0 12 (omega arith) shape.opened refl));
   register = at_other place word world.words REGISTER (differs 0 13 (omega arith) shape.opened refl);
   notes = λ block used. at_other place word world.words (note_place block) (differs block 27 (omega arith) used refl);
+  decisions = λ block used. at_other place word world.words (decision_place block) (differs block 28 (omega arith) used refl);
 })
   where
     differs : (block field : ℕ) → field < 32 → world.used block ≡ true → not (is_state field) ≡ true → block_place block field ≢ place
@@ -208,6 +254,7 @@ clears_effect world place e = subst (λ p. Effect world (put_word p (cleared_wor
   flag = inr (at_same FLAG (cleared_word (world.words FLAG)) world.words);
   register = at_other FLAG (cleared_word (world.words FLAG)) world.words REGISTER register_flag;
   notes = λ block used. at_other FLAG (cleared_word (world.words FLAG)) world.words (note_place block) (note_flag block);
+  decisions = λ block used. at_other FLAG (cleared_word (world.words FLAG)) world.words (decision_place block) (decision_flag block);
 }))
 
 search_effect : (world after : World) (seen : Seen) (search : Search) (op : Op) (since : ℕ) → Shape world → asks search → Knows search op world since → Requested flagged_form (request_of search) world after seen → Effect world after

@@ -12,22 +12,24 @@ use Rattle.lin_report.specs.declared.calls.Client.TheVariants.{Buckets}
 use Rattle.lin_report.specs.Object.{set_object}
 use Rattle.lin_report.specs.Commands.{may_exhaust}
 use Rattle.node_arena.specs.Opening.{opening_word}
+use Rattle.node_arena.specs.MemoryMap.{field_at}
+use Rattle.node_arena.proofs.PlaceLemmas.{field_at-block_place}
 use Rattle.step_memory.specs.declared.steps.Seen.{Seen}
 use Rattle.normal_traits.specs.declared.form.Found.TheVariants as found
 use Rattle.normal_traits.specs.declared.form.Wrapped.TheVariants as wrapped
 use Rattle.normal_traits.specs.declared.lists.Entry.{Entry}
 use Rattle.normal_traits.specs.World.{Listed, Won, Cause, Change, World, Among, Took, Failed, Stopped, Observes, held_after}
-use Rattle.normal_traits.specs.Steps.{IsOffered}
+use Rattle.normal_traits.specs.Steps.{IsOffered, IsFresh}
 use Rattle.normal_traits.specs.Laws.{Laws, opening_world, IsGoodEntry, IsGoodStore, IsGoodOffer, WrappedWell}
-use Rattle.flagged_register.specs.Register.{FLAG, REGISTER, note_place, flag_value, toggles, told, flag_entry, flag_of, offer_of, found_of, begin_wrap_of, wrap_begun_of, Search}
-use Rattle.flagged_register.specs.Register.Help.{Reading}
+use Rattle.flagged_register.specs.Register.{FLAG, REGISTER, note_place, flag_value, toggles, told, flag_entry, flag_of, offer_of, found_of, begin_wrap_of, wrap_begun_of, Search, decision_place}
+use Rattle.flagged_register.specs.Register.Help.{Deciding}
 use Rattle.flagged_register.specs.Register.Search.{AtFlag, AtRegister, Named, Helping}
-use Rattle.flagged_register.specs.Meanings.{Flagged, Shape, IsOver, IsSpent, EachChanges, flagged_block, flagger, adds_beside, WasRead, Knows, Dead, is_ready, flagged_form}
-use Rattle.flagged_register.proofs.Basics.{all_among, word_of, flag_value_below, note_register, note_flag}
-use Rattle.flagged_register.proofs.Effects.{Effect, made_won, cleared_won}
-use Rattle.flagged_register.proofs.Effects.Effect.{quiet, sets, makes, clears}
+use Rattle.flagged_register.specs.Meanings.{Flagged, Shape, IsOver, IsSpent, EachChanges, flagged_block, flagger, adds_beside, WasRead, Knows, Dead, is_ready, flagged_form, IsGone}
+use Rattle.flagged_register.proofs.Basics.{all_among, word_of, flag_value_below, note_register, note_flag, decided_once}
+use Rattle.flagged_register.proofs.Effects.{Effect, made_won, cleared_won, decided_won}
+use Rattle.flagged_register.proofs.Effects.Effect.{quiet, sets, makes, decides, clears}
 use Rattle.flagged_register.proofs.Journal.{took_of, flagged_of, flagger_flagged}
-use Rattle.flagged_register.proofs.Later.{later, helps_later, knows_later, flag_rises}
+use Rattle.flagged_register.proofs.Later.{decided_later, later, helps_later, knows_later, flag_rises, flagged_later}
 use Rattle.flagged_register.proofs.Steps.{effect_of}
 use Rattle.flagged_register.proofs.Kept.{effect_keeps, flagged_from, older, newly}
 use Rattle.flagged_register.proofs.Observed.{listed}
@@ -60,6 +62,7 @@ opens = record {
   fits = omega (arith, opened_0 REGISTER);
   flagged = λ change among. absurd among;
   passed = λ change among. absurd among;
+  agreed = λ change among. absurd among;
   effective = tt;
   one_list = λ i j d lt below. absurd (omega (arith, below));
   one_block = λ i j d lt below. absurd (omega (arith, below));
@@ -80,7 +83,8 @@ bounded world cause spent = (spent.used, by_kind cause.kind spent.over)
     by_kind zero over = omega arith
     by_kind (suc zero) over = omega arith
     by_kind (suc (suc zero)) over = omega arith
-    by_kind (suc (suc (suc kind))) over = absurd over
+    by_kind (suc (suc (suc zero))) over = omega arith
+    by_kind (suc (suc (suc (suc kind)))) over = absurd over
 
 -- ---- offers
 
@@ -99,7 +103,7 @@ lists world (Helping o help) op since knows ready = absurd ready
 good_entry : (world : World) (op : Op) (flag register block : ℕ) → Shape world → WasRead world op flag register → block < 2 ^ 17 → IsGoodEntry flagged_form world (flag_entry flag block)
 good_entry world op flag register block shape read small = record {
   word = word_of world 0 12 (omega arith) shape.opened refl;
-  versioned = or_left (FLAG == FLAG) (FLAG == REGISTER) (eq-eqb FLAG FLAG refl);
+  versioned = or_left (FLAG == FLAG || FLAG == REGISTER) (field_at FLAG == 28) (or_left (FLAG == FLAG) (FLAG == REGISTER) (eq-eqb FLAG FLAG refl));
   listable = eq-eqb FLAG FLAG refl;
   clear = read.down.clear;
   seen = λ clear. read.down.seen;
@@ -122,8 +126,22 @@ good_store block register fits = record {
     register_not : (note_place block == REGISTER) ≡ false
     register_not = ne_eqb (note_place block) REGISTER (note_register block)
 
-    apart : (note_place block == FLAG || note_place block == REGISTER) ≡ true → ⊥
-    apart e = let none : (note_place block == FLAG || note_place block == REGISTER) ≡ false = rw (flag_not, register_not) refl in absurd cc
+    field_not : (field_at (note_place block) == 28) ≡ false
+    field_not = ap (λ field. field == 28) (field_at-block_place block 27 (omega arith))
+
+    apart : (note_place block == FLAG || note_place block == REGISTER || field_at (note_place block) == 28) ≡ true → ⊥
+    apart e = let none : (note_place block == FLAG || note_place block == REGISTER || field_at (note_place block) == 28) ≡ false = rw (flag_not, register_not, field_not) refl in absurd cc
+
+-- a decision is open at first
+good_decision : (block : ℕ) → IsGoodStore flagged_form block (decision_place block, 0)
+good_decision block = record {
+  field = 28;
+  behind = omega arith;
+  within = omega arith;
+  place = refl;
+  word = omega arith;
+  versioned = λ e. omega arith;
+}
 
 offers : (world : World) (search : Search) (op : Op) (since block : ℕ) → Shape world → Knows search op world since → is_ready search → block < 2 ^ 17 → IsGoodOffer flagged_form world block (offer_of search op block)
 offers world (AtFlag o) op since block shape knows ready small = absurd ready
@@ -133,7 +151,8 @@ offers world (Named o flag register) op since block shape knows ready small = re
   few = omega arith;
   entries = All-cons (IsGoodEntry flagged_form world) (flag_entry flag block) [] (good_entry world op flag register block shape knows.1.1 small) (All-nil (IsGoodEntry flagged_form world));
   apart = λ i j d lt below. absurd (omega (arith, lt, below));
-  stores = All-cons (IsGoodStore flagged_form block) (note_place block, register) [] (good_store block register knows.1.1.fits) (All-nil (IsGoodStore flagged_form block));
+  stores = All-cons (IsGoodStore flagged_form block) (note_place block, register) ((decision_place block, 0) ∷ []) (good_store block register knows.1.1.fits)
+      (All-cons (IsGoodStore flagged_form block) (decision_place block, 0) [] (good_decision block) (All-nil (IsGoodStore flagged_form block)));
   count = omega arith;
 }
 offers world (Helping o help) op since block shape knows ready small = absurd ready
@@ -166,8 +185,7 @@ failed_dead : (world : World) (list : Listed) (from : ℕ) → list.entries ≡ 
 failed_dead world list from entries failed = record {
   from = from;
   entries = entries;
-  passed = subst (λ (e : Entry). versioned_version e.from < versioned_version (world.words e.target)) (first_is list from failed.entry entries failed.listed) failed.passed;
-  lost = λ flagged. failed.lost (took_of world list flagged);
+  fate = inl (subst (λ (e : Entry). versioned_version e.from < versioned_version (world.words e.target)) (first_is list from failed.entry entries failed.listed) failed.passed, λ flagged. failed.lost (took_of world list flagged));
 }
 
 wrap_begun : (world : World) (list : Listed) (search : Search) (since stop : ℕ) → Shape world → IsOffered flagged_form world list search since → Stopped world list stop
@@ -177,7 +195,7 @@ wrap_begun world list search since stop shape offered stopped = by_stop (stop ==
     first : (from : ℕ) × (list.entries ≡ flag_entry from list.block ∷ [])
     first = offered_entries world list search since offered
 
-    by_stop : (b : Bool) → (stop == 0) ≡ b → WrappedWell flagged_form world list stop (Reading (flag_of list.entries)) (if b then wrapped.Restart else wrapped.Going)
+    by_stop : (b : Bool) → (stop == 0) ≡ b → WrappedWell flagged_form world list stop (Deciding (flag_of list.entries) true) (if b then wrapped.Restart else wrapped.Going)
     by_stop true e =
         let none : stop ≡ 0 = eqb-true stop 0 e in
         failed_dead world list first.0 first.1 (subst (Failed world list) none (stopped.failed (omega (arith, none, ap length first.1))))
@@ -194,30 +212,47 @@ first_or [] other = other
 first_or (entry ∷ entries) other = entry
 
 -- after no effect has a list newly set a flag whose first word was passed
-dead_later : (world after : World) (list : Listed) → Shape world → Dead list world → Effect world after → Dead list after
-dead_later world after list shape dead e = record { from = dead.from; entries = dead.entries; passed = omega (arith, dead.passed, flag_rises world after shape (later world after shape e)); lost = lost after e }
+lost_later : (world : World) (list : Listed) (from : ℕ) → list.entries ≡ flag_entry from list.block ∷ [] → versioned_version from < versioned_version (world.words FLAG) → ¬ Flagged world list → (next : World) → Effect world next → ¬ Flagged next list
+lost_later world list from entries passed lost next (quiet words q) = λ flagged. lost (flagged_from next world list (λ item among. among) flagged)
+lost_later world list from entries passed lost next (sets other from' word s) = λ flagged. by_list (newly world other from' word list flagged)
   where
-    lost : (next : World) → Effect world next → ¬ Flagged next list
-    lost next (quiet words q) = λ flagged. dead.lost (flagged_from next world list (λ item among. among) flagged)
-    lost next (sets other from word s) = λ flagged. by_list (newly world other from word list flagged)
-      where
-        by_list : (list ≡ other) ⊎ Flagged world list → ⊥
-        by_list (inr flagged) = dead.lost flagged
-        by_list (inl one) =
-            let to_entry : List Entry → Entry = λ es. first_or es (flag_entry from other.block) in
-            let same : flag_entry dead.from list.block ≡ flag_entry from other.block = ap to_entry (sym dead.entries ∙ ap (λ (x : Listed). x.entries) one ∙ s.entries) in
-            omega (arith, dead.passed, ap (λ (e : Entry). versioned_version e.from) same, ap versioned_version s.here)
-    lost next (makes other m) = λ flagged. dead.lost (record { from = flagged.from; entries = flagged.entries; won = older list flagged.from (made_won other (world.words REGISTER)) world.journal refl flagged.won })
-    lost next (clears other flag c) = λ flagged. dead.lost (record { from = flagged.from; entries = flagged.entries; won = older list flagged.from (cleared_won other flag) world.journal refl flagged.won })
+    by_list : (list ≡ other) ⊎ Flagged world list → ⊥
+    by_list (inr flagged) = lost flagged
+    by_list (inl one) =
+        let to_entry : List Entry → Entry = λ es. first_or es (flag_entry from' other.block) in
+        let same : flag_entry from list.block ≡ flag_entry from' other.block = ap to_entry (sym entries ∙ ap (λ (x : Listed). x.entries) one ∙ s.entries) in
+        omega (arith, passed, ap (λ (e : Entry). versioned_version e.from) same, ap versioned_version s.here)
+lost_later world list from entries passed lost next (makes other m) =
+    λ flagged. lost (record { from = flagged.from; entries = flagged.entries; won = older list flagged.from (made_won other (world.words REGISTER)) world.journal refl flagged.won })
+lost_later world list from entries passed lost next (decides other made d) =
+    λ flagged. lost (record { from = flagged.from; entries = flagged.entries; won = older list flagged.from (decided_won other made) world.journal refl flagged.won })
+lost_later world list from entries passed lost next (clears other flag c) =
+    λ flagged. lost (record { from = flagged.from; entries = flagged.entries; won = older list flagged.from (cleared_won other flag) world.journal refl flagged.won })
 
-dead_first : (world : World) (list : Listed) (search : Search) (since : ℕ) (entry : Entry) → Dead list world → IsOffered flagged_form world list search since → slice_get list.entries 0 ≡ Some entry → world.words entry.target ≢ entry.from
-dead_first world list search since entry dead offered listed' e =
-    let is : entry ≡ flag_entry dead.from list.block = first_is list dead.from entry dead.entries listed' in
-    let here : world.words FLAG ≡ dead.from = subst (λ (x : Entry). world.words x.target ≡ x.from) is e in
-    omega (arith, dead.passed, ap versioned_version here)
+dead_later : (world after : World) (list : Listed) → Shape world → Dead list world → Effect world after → Dead list after
+dead_later world after list shape dead e = record { from = dead.from; entries = dead.entries; fate = by_fate dead.fate }
+  where
+    by_fate : ((versioned_version dead.from < versioned_version (world.words FLAG)) × (¬ Flagged world list)) ⊎ (Flagged world list × IsGone world list)
+        → ((versioned_version dead.from < versioned_version (after.words FLAG)) × (¬ Flagged after list)) ⊎ (Flagged after list × IsGone after list)
+    by_fate (inl lost) = inl (omega (arith, lost.0, flag_rises world after shape (later world after shape e)), lost_later world list dead.from dead.entries lost.0 lost.1 after e)
+    by_fate (inr gone) = let l = later world after shape e in inr (flagged_later world after shape l list gone.0, decided_later world after shape l list false gone.0 gone.1)
+
+dead_first : (world : World) (list : Listed) (search : Search) (since : ℕ) (entry : Entry) → Dead list world → IsOffered flagged_form world list search since → IsFresh world list → slice_get list.entries 0 ≡ Some entry → world.words entry.target ≢ entry.from
+dead_first world list search since entry dead offered fresh listed' = λ e. by_fate e dead.fate
+  where
+    by_fate : world.words entry.target ≡ entry.from → ((versioned_version dead.from < versioned_version (world.words FLAG)) × (¬ Flagged world list)) ⊎ (Flagged world list × IsGone world list) → ⊥
+    by_fate e (inl lost) =
+        let is : entry ≡ flag_entry dead.from list.block = first_is list dead.from entry dead.entries listed' in
+        let here : world.words FLAG ≡ dead.from = subst (λ (x : Entry). world.words x.target ≡ x.from) is e in
+        omega (arith, lost.0, ap versioned_version here)
+    by_fate e (inr gone) = fresh list 0 refl (took_of world list gone.0)
 
 dead_unchanged : (world : World) (list : Listed) (change : Change) → Shape world → Dead list world → Among change world.changes → change.list ≢ list
-dead_unchanged world list change shape dead among e = dead.lost (subst (Flagged world) e (shape.flagged change among))
+dead_unchanged world list change shape dead among e = by_fate dead.fate
+  where
+    by_fate : ((versioned_version dead.from < versioned_version (world.words FLAG)) × (¬ Flagged world list)) ⊎ (Flagged world list × IsGone world list) → ⊥
+    by_fate (inl lost) = lost.1 (subst (Flagged world) e (shape.flagged change among))
+    by_fate (inr gone) = decided_once (sym (shape.agreed change among) ∙ ap (λ (x : Listed). world.words (decision_place x.block)) e ∙ gone.1)
 
 -- ---- changes beside the lists
 
@@ -252,6 +287,6 @@ flagged_laws = record {
   wrap_begun = λ world list search since stop shape offered stopped. wrap_begun world list search since stop shape offered stopped;
   wrap_fed = λ world after seen help list stop command shape asking follows r. wrap_fed_well world after seen list shape help stop follows r;
   dead_unchanged = λ world list change shape dead among. dead_unchanged world list change shape dead among;
-  dead_first = λ world list search since entry shape dead offered fresh listed'. dead_first world list search since entry dead offered listed';
+  dead_first = λ world list search since entry shape dead offered fresh listed'. dead_first world list search since entry dead offered fresh listed';
   beside = λ world list entry shape e. beside world list entry shape e;
 }

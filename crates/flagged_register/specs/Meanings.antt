@@ -7,12 +7,13 @@ use Rattle.lin_report.specs.declared.calls.Reply.TheVariants.{Yes}
 use Rattle.lin_report.specs.declared.calls.TheConstants.{ADD, DEL}
 use Rattle.lin_report.specs.Object.{set_object}
 use Rattle.word_fields.specs.Versioned.{versioned_value, versioned_bit, versioned_version, cleared_word}
+use Rattle.node_arena.specs.MemoryMap.{block_at, field_at}
 use Rattle.normal_traits.specs.declared.lists.Entry.{Entry}
 use Rattle.normal_traits.specs.World.{Listed, Maker, Cause, Won, Change, World, Among, held_after, Observes}
 use Rattle.normal_traits.specs.World.Maker.{By, Beside}
 use Rattle.normal_traits.specs.NormalForm.{NormalForm}
-use Rattle.flagged_register.specs.Register.{FLAG, REGISTER, note_place, flag_value, flag_word, is_in, toggles, flag_entry, flag_of, Help, Search, begin_of, request_of, feed_of, found_of, offer_of, request_of_help, feed_help, begin_wrap_of, wrap_begun_of, wrap_found_of}
-use Rattle.flagged_register.specs.Register.Help.{Reading, Changing, Clearing}
+use Rattle.flagged_register.specs.Register.{FLAG, REGISTER, note_place, decision_place, decided, flag_value, flag_word, is_in, toggles, flag_entry, flag_of, Help, Search, begin_of, request_of, feed_of, found_of, offer_of, request_of_help, feed_help, begin_wrap_of, wrap_begun_of, wrap_found_of}
+use Rattle.flagged_register.specs.Register.Help.{Deciding, Checking, Reading, Changing, Clearing}
 use Rattle.flagged_register.specs.Register.Search.{AtFlag, AtRegister, Named, Helping}
 
 -- ---- who makes a change, and why
@@ -24,11 +25,11 @@ flagged_block flag = versioned_value flag / 4
 abbrev pub cause_here : ℕ → ℕ → Cause
 cause_here block kind = record { block = block; kind = kind }
 
--- the block of the flag's list, with 0 for the flag, 1 for its change and 2 for its end
+-- the block of the flag's list, with 0 for the flag, 1 for its change, 2 for its end and 3 for the decision
 abbrev pub cause_of : World → Maker → Entry → Cause
 cause_of world (By list j) entry = cause_here list.block 0
 cause_of world Beside entry =
-    if entry.target == REGISTER then cause_here (flagged_block (world.words FLAG)) 1 else cause_here (flagged_block entry.from) 2
+    if entry.target == REGISTER then cause_here (flagged_block (world.words FLAG)) 1 else (if entry.target == FLAG then cause_here (flagged_block entry.from) 2 else cause_here (block_at entry.target) 3)
 
 -- the list with this block that set a flag
 abbrev pub flagger_or : ℕ → Maker → Option Listed → Option Listed
@@ -59,12 +60,18 @@ pub record Flagged (world : World) (list : Listed) : Type 0 where
 pub record Made (world : World) (list : Listed) : Type 0 where
   pub change : Among (record { list = list; reply = Yes }) world.changes
   pub passed : versioned_version (world.words (note_place list.block)) < versioned_version (world.words REGISTER)
+  pub agreed : world.words (decision_place list.block) ≡ decided true
+
+-- its change was given up
+abbrev pub IsGone : World → Listed → Type 0
+IsGone world list = world.words (decision_place list.block) ≡ decided false
 
 -- its flag is up, and the register is as it noted it
 pub record Stands (world : World) (list : Listed) : Type 0 where
   pub flag : cleared_word (world.words FLAG) ≡ flag_of list.entries
   pub register : world.words REGISTER ≡ world.words (note_place list.block)
   pub toggles : toggles list.call.op (world.words REGISTER) ≡ true
+  pub not_gone : ¬ IsGone world list
 
 -- what is so of each list that set the flag
 pub record IsFlagger (world : World) (list : Listed) : Type 0 where
@@ -72,7 +79,8 @@ pub record IsFlagger (world : World) (list : Listed) : Type 0 where
   pub small : list.block < 2 ^ 17
   pub used : world.used list.block ≡ true
   pub key : list.call.op.key ≡ 0
-  pub fate : Stands world list ⊎ Made world list
+  pub fate : Stands world list ⊎ (Made world list ⊎ IsGone world list)
+  pub decision : (world.words (decision_place list.block) ≡ 0) ⊎ ((world.words (decision_place list.block) ≡ decided true) ⊎ IsGone world list)
 
 -- an item of the journal that a list made is the setting of a flag
 abbrev pub IsBy : Won → Maker → Type 0
@@ -84,7 +92,8 @@ abbrev pub IsOver : World → ℕ → ℕ → Type 0
 IsOver world block zero = Unit {0}
 IsOver world block (suc zero) = versioned_version (world.words (note_place block)) < versioned_version (world.words REGISTER)
 IsOver world block (suc (suc zero)) = versioned_value (world.words FLAG) ≢ flag_value block
-IsOver world block (suc (suc (suc kind))) = ⊥
+IsOver world block (suc (suc (suc zero))) = world.words (decision_place block) ≢ 0
+IsOver world block (suc (suc (suc (suc kind)))) = ⊥
 
 pub record IsSpent (world : World) (cause : Cause) : Type 0 where
   pub used : world.used cause.block ≡ true
@@ -113,6 +122,7 @@ pub record Shape (world : World) : Type 0 where
   pub fits : world.words REGISTER < 2 ^ 64
   pub flagged : (change : Change) → Among change world.changes → Flagged world change.list
   pub passed : (change : Change) → Among change world.changes → versioned_version (world.words (note_place change.list.block)) < versioned_version (world.words REGISTER)
+  pub agreed : (change : Change) → Among change world.changes → world.words (decision_place change.list.block) ≡ decided true
   pub effective : EachChanges world.changes
   pub one_list : AllPairs (λ (a b : Change). a.list.identity ≢ b.list.identity) world.changes
   pub one_block : AllPairs (λ (a b : Change). 0 < a.list.block → a.list.block ≢ b.list.block) world.changes
@@ -123,9 +133,13 @@ pub record Shape (world : World) : Type 0 where
 
 -- the help of a list's flag
 abbrev pub Helps : Help → World → Listed → Type 0
-Helps (Reading flag) world list = Flagged world list × (flag ≡ flag_of list.entries)
-Helps (Changing flag noted) world list = Flagged world list × (flag ≡ flag_of list.entries) × (noted ≡ world.words (note_place list.block))
-Helps (Clearing flag) world list = Flagged world list × (flag ≡ flag_of list.entries) × Made world list
+Helps (Deciding flag make) world list = Flagged world list × (flag ≡ flag_of list.entries)
+Helps (Checking flag) world list = Flagged world list × (flag ≡ flag_of list.entries) × (world.words (decision_place list.block) ≢ 0)
+Helps (Reading flag) world list = Flagged world list × (flag ≡ flag_of list.entries) × (world.words (decision_place list.block) ≡ decided true)
+Helps (Changing flag noted) world list =
+    Flagged world list × (flag ≡ flag_of list.entries) × (world.words (decision_place list.block) ≡ decided true) × (noted ≡ world.words (note_place list.block))
+Helps (Clearing flag true) world list = Flagged world list × (flag ≡ flag_of list.entries) × Made world list
+Helps (Clearing flag false) world list = Flagged world list × (flag ≡ flag_of list.entries) × IsGone world list
 
 -- the flag was read when it was down
 pub record WasDown (world : World) (flag : ℕ) : Type 0 where
@@ -150,12 +164,11 @@ Learnt (Helping o help) op world = (o ≡ op) × ((list : Listed) × Helps help 
 abbrev pub Knows : Search → Op → World → ℕ → Type 0
 Knows search op world since = (since < length world.changes + 1) × Learnt search op world
 
--- the list's one entry was lost for ever
+-- the list's one entry was lost for ever, or its flag was set and then its change given up
 pub record Dead (list : Listed) (world : World) : Type 0 where
   pub from : ℕ
   pub entries : list.entries ≡ flag_entry from list.block ∷ []
-  pub passed : versioned_version from < versioned_version (world.words FLAG)
-  pub lost : ¬ Flagged world list
+  pub fate : ((versioned_version from < versioned_version (world.words FLAG)) × (¬ Flagged world list)) ⊎ (Flagged world list × IsGone world list)
 
 -- ---- the normalized form
 
@@ -187,7 +200,7 @@ flagged_form = record {
   keeps = λ search seen word. ⊥;
   is_forced = λ search seen. ⊥;
   may_list = λ op. op.code == ADD || op.code == DEL;
-  is_versioned = λ place. place == FLAG || place == REGISTER;
+  is_versioned = λ place. place == FLAG || place == REGISTER || field_at place == 28;
   is_listable = λ place. place == FLAG;
   shape = Shape;
   adds = λ list j. false;

@@ -1,5 +1,5 @@
-//! A register of one key with a flag, the smallest client whose changes are made beside the lists: a list
-//! sets the flag, and whoever comes by makes the flag's change and takes the flag away.
+//! A register of one key with a flag, a small client whose changes are made beside the lists: a list sets
+//! the flag, and whoever comes by makes the flag's change, or gives it up, and takes the flag away.
 #![tactic(auto)]
 
 ghost use Rattle.normal_traits.specs.Laws.{Laws};
