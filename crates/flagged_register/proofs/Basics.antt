@@ -1,16 +1,16 @@
 -- Places, words and the set of one key.
-use Rattle.std.proofs.Common.{◌≡◌, ◌≢◌, ℕ, ◌^◌, ◌<◌, Bool, true, false, not, ◌||◌, ◌&&◌, List, [], ◌∷◌, refl, sym, ap, ◌∙◌, inl, inr, arith}
+use Rattle.std.proofs.Common.{◌≡◌, ◌≢◌, ℕ, ◌^◌, ◌<◌, Bool, true, false, not, ◌||◌, ◌&&◌, List, [], ◌∷◌, refl, sym, ap, ◌∙◌, inl, inr, arith, None, is_some, Some, subst}
 use Rattle.std.specs.Prelude.{◌==◌, if◌then◌else◌, All, nat_le}
-use Rattle.std.specs.FinSet as set
+use Rattle.std.specs.FinMap as map
 use Rattle.std.specs.Ordering.{nat_cmp}
 use Rattle.std.specs.Cmp.{nat_cmp_total}
 use Rattle.std.proofs.lemmas.Bool.{eq-eqb, ne_eqb, le-leb}
 use Rattle.std.proofs.lemmas.List.Elements.{All-nil, All-cons}
 use Rattle.lin_report.specs.declared.calls.Op.{Op}
 use Rattle.lin_report.specs.declared.calls.Reply.{Reply}
-use Rattle.lin_report.specs.declared.calls.Reply.TheVariants.{Yes}
-use Rattle.lin_report.specs.declared.calls.TheConstants.{ADD, DEL}
-use Rattle.lin_report.specs.Object.{set_apply, yes_if}
+use Rattle.lin_report.specs.declared.calls.Reply.TheVariants.{Yes, No}
+use Rattle.lin_report.specs.declared.calls.TheConstants.{SET, REM}
+use Rattle.lin_report.specs.Object.{map_apply, set_absent, value_or_absent, yes_if}
 use Rattle.node_arena.specs.declared.places.TheConstants.{HEAD, TAIL, FIRST_WORDS}
 use Rattle.node_arena.specs.MemoryMap.{block_place}
 use Rattle.node_arena.proofs.PlaceLemmas.{block_place_behind, block_at-block_place, field_at-block_place, same_field, same_block}
@@ -18,7 +18,7 @@ use Rattle.word_fields.specs.Versioned.{versioned_value, versioned_bit}
 use Rattle.word_fields.proofs.VersionedLemmas.{value-changed, bit-changed}
 use Rattle.normal_traits.specs.World.{World, Among, is_word, is_state}
 use Rattle.normal_traits.specs.Steps.{with_word}
-use Rattle.flagged_register.specs.Register.{FLAG, REGISTER, note_place, flag_value, flag_word, is_in, toggled, toggles, decided, decided_value, decision_place}
+use Rattle.flagged_register.specs.Register.{FLAG, REGISTER, note_place, flag_value, flag_word, is_in, toggles, decided, decided_value, decision_place, toggled_value, value_at}
 
 -- ---- lists
 
@@ -35,25 +35,34 @@ pub at_other : (place word : ℕ) (words : ℕ → ℕ) (at : ℕ) → at ≢ pl
 at_other place word words at differs = ap (λ b. if b then word else words at) (ne_eqb at place differs)
 
 pub register_flag : REGISTER ≢ FLAG
-register_flag e = absurd (omega (arith, same_field 0 13 0 12 (omega arith) (omega arith) e))
+register_flag e = absurd (omega (arith, same_field 0 14 0 16 (omega arith) (omega arith) e))
 
 pub flag_register : FLAG ≢ REGISTER
 flag_register e = register_flag (sym e)
 
 pub note_flag : (block : ℕ) → note_place block ≢ FLAG
-note_flag block e = absurd (omega (arith, same_field block 27 0 12 (omega arith) (omega arith) e))
+note_flag block e = absurd (omega (arith, same_field block 27 0 16 (omega arith) (omega arith) e))
 
 pub note_register : (block : ℕ) → note_place block ≢ REGISTER
-note_register block e = absurd (omega (arith, same_field block 27 0 13 (omega arith) (omega arith) e))
+note_register block e = absurd (omega (arith, same_field block 27 0 14 (omega arith) (omega arith) e))
 
 pub decision_flag : (block : ℕ) → decision_place block ≢ FLAG
-decision_flag block e = absurd (omega (arith, same_field block 28 0 12 (omega arith) (omega arith) e))
+decision_flag block e = absurd (omega (arith, same_field block 28 0 16 (omega arith) (omega arith) e))
 
 pub decision_register : (block : ℕ) → decision_place block ≢ REGISTER
-decision_register block e = absurd (omega (arith, same_field block 28 0 13 (omega arith) (omega arith) e))
+decision_register block e = absurd (omega (arith, same_field block 28 0 14 (omega arith) (omega arith) e))
 
 pub note_decision : (block other : ℕ) → note_place block ≢ decision_place other
 note_decision block other e = absurd (omega (arith, same_field block 27 other 28 (omega arith) (omega arith) e))
+
+pub value_flag : (block : ℕ) → value_at block ≢ FLAG
+value_flag block e = absurd (omega (arith, same_field block 13 0 16 (omega arith) (omega arith) e))
+
+pub value_register : (block : ℕ) → value_at block ≢ REGISTER
+value_register block e = absurd (omega (arith, same_field block 13 0 14 (omega arith) (omega arith) e))
+
+pub value_decision : (block other : ℕ) → value_at block ≢ decision_place other
+value_decision block other e = absurd (omega (arith, same_field block 13 other 28 (omega arith) (omega arith) e))
 
 pub same_decision : (block other : ℕ) → decision_place block ≡ decision_place other → block ≡ other
 same_decision block other e = same_block block 28 other 28 (omega arith) (omega arith) e
@@ -70,20 +79,6 @@ word_of world block field small used plain =
     rw (behind, block_at-block_place block field small, field_at-block_place block field small, used, plain) (in_used (block_place block field == HEAD) (block_place block field == TAIL) (block == 0))
 
 -- ---- words
-
-pub toggled_value : (register : ℕ) → (if is_in register then 0 else 1) < 2 ^ 24
-toggled_value register = by_test (is_in register)
-  where
-    by_test : (b : Bool) → (if b then 0 else 1) < 2 ^ 24
-    by_test true = omega arith
-    by_test false = omega arith
-
-pub is_in-toggled : (register : ℕ) → is_in (toggled register) ≡ not (is_in register)
-is_in-toggled register = ap (λ v. v == 1) (value-changed register (if is_in register then 0 else 1) (toggled_value register)) ∙ by_test (is_in register)
-  where
-    by_test : (b : Bool) → ((if b then 0 else 1) == 1) ≡ not b
-    by_test true = refl
-    by_test false = refl
 
 -- ---- decisions
 
@@ -117,32 +112,44 @@ flagged_value from block small = value-changed from (flag_value block) (flag_val
 pub flagged_bit : (from block : ℕ) → block < 2 ^ 17 → versioned_bit (flag_word from block) ≡ 0
 flagged_bit from block small = bit-changed from (flag_value block) (flag_value_below block small)
 
--- ---- the set
+pub toggled_below : (register block : ℕ) → block < 2 ^ 17 → toggled_value register block < 2 ^ 24
+toggled_below register block small = by_test (is_in register)
+  where
+    by_test : (b : Bool) → (if b then 0 else flag_value block) < 2 ^ 24
+    by_test true = omega arith
+    by_test false = flag_value_below block small
+
+-- ---- the map
 
 -- what the operation leaves at key 0, and what it is told, by its two tests
-toggled_by : (a d r : Bool) (keys : set.FinSet nat_cmp) → (if a then not r else (if d then r else false)) ≡ true → set.contains keys 0 ≡ r
-    → let after : set.FinSet nat_cmp × Reply = if a then (set.insert keys 0, yes_if (not (set.contains keys 0))) else (if d then (set.remove keys 0, yes_if (set.contains keys 0)) else (keys, yes_if (set.contains keys 0))) in
-    (set.contains after.0 0 ≡ not r) × (after.1 ≡ Yes)
-toggled_by true d true keys e tells = absurd cc
-toggled_by true d false keys e tells = (set.contains-insert nat_cmp_total keys 0 0, ap (λ b. yes_if (not b)) tells)
-toggled_by false true true keys e tells = (set.contains-remove nat_cmp_total keys 0 0, ap yes_if tells)
-toggled_by false true false keys e tells = absurd cc
-toggled_by false false r keys e tells = absurd cc
+toggled_by : (a d : Bool) (value : ℕ) (pairs : map.FinMap nat_cmp ℕ) → (if a then not (map.contains_key pairs 0) else (if d then map.contains_key pairs 0 else false)) ≡ true
+    → let after : map.FinMap nat_cmp ℕ × Reply = if a then set_absent 0 value pairs else (if d then (map.remove pairs 0, yes_if (map.contains_key pairs 0)) else (pairs, value_or_absent (map.get pairs 0))) in
+    (map.get after.0 0 ≡ (if map.contains_key pairs 0 then None else Some value)) × (after.1 ≡ Yes)
+toggled_by true d value pairs e = by_test (map.contains_key pairs 0) e
+  where
+    by_test : (b : Bool) → not b ≡ true → let after : map.FinMap nat_cmp ℕ × Reply = if b then (pairs, No) else (map.insert pairs 0 value, Yes) in (map.get after.0 0 ≡ (if b then None else Some value)) × (after.1 ≡ Yes)
+    by_test true e' = absurd cc
+    by_test false e' = (map.get-insert nat_cmp_total pairs 0 value 0, refl)
+toggled_by false true value pairs e =
+    (map.get-remove nat_cmp_total pairs 0 0 ∙ sym (ap (λ (b : Bool). if b then None else Some value) e), ap yes_if e)
+toggled_by false false value pairs e = absurd cc
 
-module _ (op : Op) (register : ℕ) (keys : set.FinSet nat_cmp) (key : op.key ≡ 0) (changes : toggles op register ≡ true) (tells : set.contains keys 0 ≡ is_in register) where
-  both : (set.contains (set_apply op keys).0 0 ≡ not (is_in register)) × ((set_apply op keys).1 ≡ Yes)
-  both = rw key (toggled_by (op.code == ADD) (op.code == DEL) (is_in register) keys changes tells)
+module _ (op : Op) (register : ℕ) (pairs : map.FinMap nat_cmp ℕ) (key : op.key ≡ 0) (changes : toggles op register ≡ true) (tells : map.contains_key pairs 0 ≡ is_in register) where
+  both : (map.get (map_apply op pairs).0 0 ≡ (if is_in register then None else Some op.value)) × ((map_apply op pairs).1 ≡ Yes)
+  both = rw key (subst (λ b. (map.get (if op.code == SET then set_absent 0 op.value pairs else (if op.code == REM then (map.remove pairs 0, yes_if (map.contains_key pairs 0)) else (pairs, value_or_absent (map.get pairs 0)))).0 0 ≡ (if b then None else Some op.value))
+      × ((if op.code == SET then set_absent 0 op.value pairs else (if op.code == REM then (map.remove pairs 0, yes_if (map.contains_key pairs 0)) else (pairs, value_or_absent (map.get pairs 0)))).1 ≡ Yes)) tells
+      (toggled_by (op.code == SET) (op.code == REM) op.value pairs (subst (λ b. (if op.code == SET then not b else (if op.code == REM then b else false)) ≡ true) (sym tells) changes)))
 
-  pub tells-apply : set.contains (set_apply op keys).0 0 ≡ is_in (toggled register)
-  tells-apply = both.0 ∙ sym (is_in-toggled register)
+  pub tells-apply : map.get (map_apply op pairs).0 0 ≡ (if is_in register then None else Some op.value)
+  tells-apply = both.0
 
-  pub yes-apply : (set_apply op keys).1 ≡ Yes
+  pub yes-apply : (map_apply op pairs).1 ≡ Yes
   yes-apply = both.1
 
-  -- it doesn't leave the set as it was
-  pub changes-apply : (set_apply op keys).0 ≢ keys
-  changes-apply e = by_test (is_in register) (sym both.0 ∙ ap (λ s. set.contains s 0) e ∙ tells)
+  -- it doesn't leave the map as it was
+  pub changes-apply : (map_apply op pairs).0 ≢ pairs
+  changes-apply e = by_test (is_in register) (ap is_some (sym both.0) ∙ ap (λ m. map.contains_key m 0) e ∙ tells)
     where
-      by_test : (b : Bool) → not b ≡ b → ⊥
+      by_test : (b : Bool) → is_some (if b then None else Some op.value) ≡ b → ⊥
       by_test true e' = absurd cc
       by_test false e' = absurd cc

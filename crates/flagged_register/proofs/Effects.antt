@@ -1,11 +1,11 @@
 -- The four things that an allowed step may do to the world of the flagged register.
 use Rattle.std.proofs.Common.{◌≡◌, ℕ, ◌+◌, ◌^◌, ◌<◌, true, false, [], ◌∷◌, ◌⊎◌, Bool}
 use Rattle.word_fields.specs.Versioned.{versioned_value, versioned_version, changed_word, cleared_word}
-use Rattle.lin_report.specs.Object.{set_object}
+use Rattle.lin_report.specs.Object.{map_object}
 use Rattle.normal_traits.specs.World.{Listed, Won, World}
 use Rattle.normal_traits.specs.World.Maker.{Beside}
 use Rattle.normal_traits.specs.Steps.{with_word, change_of, using_block, IsExchanged}
-use Rattle.flagged_register.specs.Register.{FLAG, REGISTER, note_place, toggled, toggles, flag_entry, flag_of, decision_place, decided}
+use Rattle.flagged_register.specs.Register.{FLAG, REGISTER, note_place, toggled, toggles, flag_entry, flag_of, decision_place, decided, value_at}
 use Rattle.flagged_register.specs.Meanings.{Flagged, Made, Stands, flag_won, cause_here, IsGone}
 
 -- a flag is set
@@ -15,13 +15,13 @@ flag_set list from word world =
 
 -- the change of a flag is made
 abbrev pub made_won : Listed → ℕ → Won
-made_won list register = record { place = REGISTER; before = register; after = toggled register; maker = Beside; cause = cause_here list.block 1 }
+made_won list register = record { place = REGISTER; before = register; after = toggled register list.block; maker = Beside; cause = cause_here list.block 1 }
 
 abbrev pub change_made : Listed → World → World
 change_made list world =
     record {
-      words = with_word REGISTER (toggled (world.words REGISTER)) world.words;
-      changes = change_of set_object list world.changes ∷ world.changes;
+      words = with_word REGISTER (toggled (world.words REGISTER) list.block) world.words;
+      changes = change_of map_object list world.changes ∷ world.changes;
       used = world.used;
       journal = made_won list (world.words REGISTER) ∷ world.journal;
     }
@@ -52,6 +52,7 @@ pub record Quiet (world : World) (words : ℕ → ℕ) : Type 0 where
   pub flag : (words FLAG ≡ world.words FLAG) ⊎ (words FLAG ≡ cleared_word (world.words FLAG))
   pub register : words REGISTER ≡ world.words REGISTER
   pub notes : (block : ℕ) → world.used block ≡ true → words (note_place block) ≡ world.words (note_place block)
+  pub values : (block : ℕ) → world.used block ≡ true → words (value_at block) ≡ world.words (value_at block)
   pub decisions : (block : ℕ) → world.used block ≡ true → words (decision_place block) ≡ world.words (decision_place block)
 
 pub record Sets (world : World) (list : Listed) (from word : ℕ) : Type 0 where
@@ -65,6 +66,7 @@ pub record Sets (world : World) (list : Listed) (from word : ℕ) : Type 0 where
   pub here : world.words FLAG ≡ from
   pub noted : world.words REGISTER ≡ world.words (note_place list.block)
   pub undecided : world.words (decision_place list.block) ≡ 0
+  pub value : world.words (value_at list.block) ≡ list.call.op.value
   pub exchanged : IsExchanged (flag_entry from list.block) word
   pub fresh : (other : Listed) → other.identity ≡ list.identity → ¬ Flagged world other
 
@@ -72,7 +74,7 @@ pub record Makes (world : World) (list : Listed) : Type 0 where
   pub flagged : Flagged world list
   pub stands : Stands world list
   pub agreed : world.words (decision_place list.block) ≡ decided true
-  pub raised : versioned_version (toggled (world.words REGISTER)) ≡ versioned_version (world.words REGISTER) + 1
+  pub raised : versioned_version (toggled (world.words REGISTER) list.block) ≡ versioned_version (world.words REGISTER) + 1
 
 pub record Clears (world : World) (list : Listed) (flag : ℕ) : Type 0 where
   pub flagged : Flagged world list

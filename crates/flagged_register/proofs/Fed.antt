@@ -4,14 +4,13 @@ use Rattle.std.specs.Prelude.{◌==◌, if◌then◌else◌}
 use Rattle.std.proofs.lemmas.Bool.{eqb-true, eq-eqb, or_left, or_right}
 use Rattle.node_arena.specs.MemoryMap.{field_at}
 use Rattle.node_arena.proofs.PlaceLemmas.{field_at-block_place}
-use Rattle.lin_report.specs.declared.calls.TheConstants.{HAS}
+use Rattle.lin_report.specs.declared.calls.TheConstants.{GET}
 use Rattle.word_fields.specs.Versioned.{versioned_value, versioned_bit, versioned_version, cleared_word, changed_word}
 use Rattle.word_fields.proofs.VersionedLemmas.{cleared-clear}
 use Rattle.lin_report.specs.declared.calls.Op.{Op}
 use Rattle.lin_report.specs.declared.calls.Reply.TheVariants.{Yes}
-use Rattle.lin_report.specs.declared.calls.Outcome.TheVariants.{Plain}
-use Rattle.lin_report.specs.declared.calls.Client.TheVariants.{Buckets}
-use Rattle.lin_report.specs.Object.{set_object, set_apply}
+use Rattle.lin_report.specs.declared.calls.Client.TheVariants.{Tree}
+use Rattle.lin_report.specs.Object.{map_object, map_apply}
 use Rattle.lin_report.specs.Commands.{IsCommandOf}
 use Rattle.step_memory.specs.declared.steps.Request.TheVariants.{Load, Exchange}
 use Rattle.step_memory.specs.declared.steps.Seen.{Seen}
@@ -19,25 +18,29 @@ use Rattle.normal_traits.specs.declared.form.Found.TheVariants as found
 use Rattle.normal_traits.specs.World.{Listed, Change, World, held_after, Observes, RightSince, is_word}
 use Rattle.normal_traits.specs.Steps.{Requested}
 use Rattle.normal_traits.specs.Laws.{AsksWell, FoundWell, WrappedWell}
-use Rattle.flagged_register.specs.Register.{FLAG, REGISTER, note_place, is_in, toggled, toggles, told, flag_of, Help, Search, request_of, request_of_help, feed_of, feed_help, found_of, after_flag, after_register, after_help, wrap_found_of, decision_place, decided, decided_value}
+use Rattle.flagged_register.specs.Register.{FLAG, REGISTER, note_place, toggled, toggles, told, flag_of, Help, Search, request_of, request_of_help, feed_of, feed_help, found_of, after_flag, after_register, after_help, wrap_found_of, decision_place, decided, decided_value, toggled_value}
 use Rattle.flagged_register.specs.Register.Help.{Deciding, Checking, Reading, Changing, Clearing}
 use Rattle.flagged_register.specs.Register.Search.{AtFlag, AtRegister, Named, Helping}
 use Rattle.flagged_register.specs.Meanings.{Flagged, Made, Stands, Shape, IsUp, Helps, WasDown, Learnt, Knows, asks, flagged_form, IsGone}
-use Rattle.flagged_register.proofs.Basics.{word_of, at_same, register_flag, toggled_value, decided_some, decision_flag, decided_is, decided_once, decided_value_below}
+use Rattle.flagged_register.proofs.Basics.{word_of, at_same, register_flag, toggled_below, decided_some, decision_flag, decided_is, decided_once, decided_value_below}
 use Rattle.flagged_register.proofs.Effects.{Effect}
 use Rattle.flagged_register.proofs.Later.{helps_later, decided_later, Later, later, flag_clear, flagged_later, note_later}
 use Rattle.flagged_register.proofs.Steps.{named_block, Asked, asked, help_effect}
 use Rattle.flagged_register.proofs.Kept.{effect_keeps}
+use Rattle.std.specs.FinMap as map
+use Rattle.normal_traits.specs.World.{StandsFor}
+use Rattle.normal_traits.specs.Laws.{IsFixed}
+use Rattle.flagged_register.specs.Meanings.{IsName, content, IsGone}
 use Rattle.flagged_register.proofs.Observed.{observed, first_all}
 
 -- ---- what is asked
 
 module _ (world : World) (shape : Shape world) where
   flag_is_word : is_word world FLAG ≡ true
-  flag_is_word = word_of world 0 12 (omega arith) shape.opened refl
+  flag_is_word = word_of world 0 16 (omega arith) shape.opened refl
 
   register_is_word : is_word world REGISTER ≡ true
-  register_is_word = word_of world 0 13 (omega arith) shape.opened refl
+  register_is_word = word_of world 0 14 (omega arith) shape.opened refl
 
   is_versioned_decision : (block : ℕ) → flagged_form.is_versioned (decision_place block) ≡ true
   is_versioned_decision block =
@@ -60,7 +63,7 @@ module _ (world : World) (shape : Shape world) where
   help_asks (Reading flag) list h =
       subst (λ block. is_word world (note_place block) ≡ true) (sym (named_block world list flag shape h.0 h.1)) (word_of world list.block 27 (omega arith) (shape.flaggers list h.0).used refl)
   help_asks (Changing flag noted) list h =
-      (register_is_word, or_left (REGISTER == FLAG || REGISTER == REGISTER) (field_at REGISTER == 28) (or_right (REGISTER == FLAG) (REGISTER == REGISTER) (eq-eqb REGISTER REGISTER refl)), λ listable. absurd (register_flag (eqb-true REGISTER FLAG listable)), (if is_in noted then 0 else 1, toggled_value noted, refl))
+      (register_is_word, or_left (REGISTER == FLAG || REGISTER == REGISTER) (field_at REGISTER == 28) (or_right (REGISTER == FLAG) (REGISTER == REGISTER) (eq-eqb REGISTER REGISTER refl)), λ listable. absurd (register_flag (eqb-true REGISTER FLAG listable)), (toggled_value noted (versioned_value flag / 4), toggled_below noted (versioned_value flag / 4) (omega (arith, named_block world list flag shape h.0 h.1, (shape.flaggers list h.0).small)), refl))
   help_asks (Clearing flag true) list h = clearing_asks flag list h.0 h.1
   help_asks (Clearing flag false) list h = clearing_asks flag list h.0 h.1
 
@@ -115,7 +118,7 @@ module _ (world after : World) (seen : Seen) (list : Listed) (shape : Shape worl
       subst (λ w. Helps (Changing flag seen.before) w list) (sym a.0) (h.0, h.1, h.2, a.1 ∙ ap (λ block. world.words (note_place block)) (named_block world list flag shape h.0 h.1))
 
   help_changed : (flag noted : ℕ) → Helps (Changing flag noted) world list → Requested flagged_form (request_of_help (Changing flag noted)) world after seen → Helps (Clearing flag true) after list
-  help_changed flag noted h r = by_cases (asked (Exchange REGISTER noted (toggled noted)) r)
+  help_changed flag noted h r = by_cases (asked (Exchange REGISTER noted (toggled noted (versioned_value flag / 4))) r)
     where
       e : Effect world after
       e = help_effect world after seen (Changing flag noted) list shape h r
@@ -123,10 +126,10 @@ module _ (world after : World) (seen : Seen) (list : Listed) (shape : Shape worl
       l : Later world after
       l = later world after shape e
 
-      by_cases : Asked (Exchange REGISTER noted (toggled noted)) world after seen → Helps (Clearing flag true) after list
+      by_cases : Asked (Exchange REGISTER noted (toggled noted (versioned_value flag / 4))) world after seen → Helps (Clearing flag true) after list
       by_cases (inl lost) = subst (λ w. Helps (Clearing flag true) w list) (sym lost.1) (h.0, h.1, made_since world list shape h.0 h.2 (λ same. lost.0 (same ∙ sym h.3)))
       by_cases (inr w) =
-          let new : after.words REGISTER ≡ toggled noted = ap (λ (x : World). x.words REGISTER) w.2 ∙ at_same REGISTER (toggled noted) world.words in
+          let new : after.words REGISTER ≡ toggled noted (versioned_value flag / 4) = ap (λ (x : World). x.words REGISTER) w.2 ∙ at_same REGISTER (toggled noted (versioned_value flag / 4)) world.words in
           let note : after.words (note_place list.block) ≡ noted = note_later world after shape l list h.0 ∙ sym h.3 in (
             flagged_later world after shape l list h.0,
             h.1,
@@ -155,38 +158,40 @@ module _ (world after : World) (seen : Seen) (list : Listed) (shape : Shape worl
 learnt_flag : (world : World) (o op : Op) (flag : ℕ) → Shape world → o ≡ op → flag ≡ world.words FLAG → Learnt (after_flag o flag) op world × asks (after_flag o flag)
 learnt_flag world o op flag shape same here = by_bit (versioned_bit flag == 0) refl
   where
-    up_at : versioned_bit flag ≡ 0 → (versioned_value flag == 0) ≡ false → (versioned_value (world.words FLAG) ≡ 0) ⊎ IsUp world → Learnt (Helping o (Deciding flag (not (o.code == HAS)))) op world
+    up_at : versioned_bit flag ≡ 0 → (versioned_value flag == 0) ≡ false → (versioned_value (world.words FLAG) ≡ 0) ⊎ IsUp world → Learnt (Helping o (Deciding flag (not (o.code == GET)))) op world
     up_at clear some (inl down) = let none = eq-eqb (versioned_value flag) 0 (ap versioned_value here ∙ down) in absurd cc
     up_at clear some (inr up) = (same, (up.list, (up.flagged, sym (cleared-clear flag clear) ∙ ap cleared_word here ∙ up.flag)))
 
     by_value : versioned_bit flag ≡ 0 → (b : Bool) → (versioned_value flag == 0) ≡ b
-        → Learnt (if b then AtRegister o flag else Helping o (Deciding flag (not (o.code == HAS)))) op world × asks (if b then AtRegister o flag else Helping o (Deciding flag (not (o.code == HAS))))
+        → Learnt (if b then AtRegister o flag else Helping o (Deciding flag (not (o.code == GET)))) op world × asks (if b then AtRegister o flag else Helping o (Deciding flag (not (o.code == GET))))
     by_value clear true e = ((same, record { clear = clear; down = eqb-true (versioned_value flag) 0 e; seen = inl (sym here) }), tt)
     by_value clear false e = (up_at clear e shape.flag, tt)
 
     by_bit : (b : Bool) → (versioned_bit flag == 0) ≡ b
-        → Learnt (if b then (if versioned_value flag == 0 then AtRegister o flag else Helping o (Deciding flag (not (o.code == HAS)))) else AtFlag o) op world
-        × asks (if b then (if versioned_value flag == 0 then AtRegister o flag else Helping o (Deciding flag (not (o.code == HAS)))) else AtFlag o)
+        → Learnt (if b then (if versioned_value flag == 0 then AtRegister o flag else Helping o (Deciding flag (not (o.code == GET)))) else AtFlag o) op world
+        × asks (if b then (if versioned_value flag == 0 then AtRegister o flag else Helping o (Deciding flag (not (o.code == GET)))) else AtFlag o)
     by_bit true e = by_value (eqb-true (versioned_bit flag) 0 e) (versioned_value flag == 0) refl
     by_bit false e = (same, tt)
 
-right_now : (world : World) (op : Op) (since register : ℕ) → Shape world → IsCommandOf Buckets op → since < length world.changes + 1 → register ≡ world.words REGISTER → op.key ≡ 0 → toggles op register ≡ false
-    → RightSince set_object world op since (Plain (told op register))
+right_now : (world : World) (op : Op) (since register : ℕ) → Shape world → IsCommandOf Tree op → since < length world.changes + 1 → register ≡ world.words REGISTER → op.key ≡ 0 → toggles op register ≡ false
+    → RightSince map_object world op since (told op register) × IsFixed flagged_form (told op register)
 right_now world op since register shape command before here key same =
-    let held = held_after set_object world.changes in
-    let o : ((set_apply op held).0 ≡ held) × (told op register ≡ (set_apply op held).1) = observed op register held command key same (shape.tells ∙ ap is_in (sym here)) in
+    let held = held_after map_object world.changes in
+    let names : IsName register world.used = subst (λ r. IsName r world.used) (sym here) shape.names in
+    let tells : map.get held 0 ≡ content register world.words = shape.tells ∙ ap (λ r. content r world.words) (sym here) in
+    let o : ((map_apply op held).0 ≡ held) × StandsFor world (told op register) (map_apply op held).1 × IsFixed flagged_form (told op register) = observed world op register held command key same names tells in
     let all = first_all world.changes in
-    record {
+    let right : RightSince map_object world op since (told op register) = record {
       count = length world.changes;
       not_before = before;
       made = omega arith;
-      observes = subst (λ (changes : List Change). Observes set_object op (held_after set_object changes)) (sym all) o.0;
-      told = subst (λ (changes : List Change). told op register ≡ (set_apply op (held_after set_object changes)).1) (sym all) o.1;
-    }
+      observes = subst (λ (changes : List Change). Observes map_object op (held_after map_object changes)) (sym all) o.0;
+      told = subst (λ (changes : List Change). StandsFor world (told op register) (map_apply op (held_after map_object changes)).1) (sym all) o.1;
+    } in (right, o.2)
 
-learnt_register : (world : World) (o op : Op) (flag register since : ℕ) → Shape world → IsCommandOf Buckets op → since < length world.changes + 1 → o ≡ op → WasDown world flag → register ≡ world.words REGISTER
+learnt_register : (world : World) (o op : Op) (flag register since : ℕ) → Shape world → IsCommandOf Tree op → since < length world.changes + 1 → o ≡ op → WasDown world flag → register ≡ world.words REGISTER
     → Learnt (after_register o flag register) op world
-    × FoundWell flagged_form world op since (after_register o flag register) (if o.key == 0 then (if toggles o register then found.Ready else found.Answer (Plain (told o register))) else found.Going)
+    × FoundWell flagged_form world op since (after_register o flag register) (if o.key == 0 then (if toggles o register then found.Ready else found.Answer (told o register)) else found.Going)
 learnt_register world o op flag register since shape command before same down here = by_key (o.key == 0) refl
   where
     key_of : (o.key == 0) ≡ true → op.key ≡ 0
@@ -194,25 +199,22 @@ learnt_register world o op flag register since shape command before same down he
 
     by_toggles : op.key ≡ 0 → (b : Bool) → toggles o register ≡ b
         → Learnt (if b then Named o flag register else AtFlag o) op world
-        × FoundWell flagged_form world op since (if b then Named o flag register else AtFlag o) (if b then found.Ready else found.Answer (Plain (told o register)))
+        × FoundWell flagged_form world op since (if b then Named o flag register else AtFlag o) (if b then found.Ready else found.Answer (told o register))
     by_toggles key true e =
-        ((same, record { down = down; key = key; toggles = subst (λ (x : Op). toggles x register ≡ true) same e; fits = omega (arith, here, shape.fits); same = λ unmoved. sym here }), tt)
+        ((same, record { down = down; key = key; value = command.value; toggles = subst (λ (x : Op). toggles x register ≡ true) same e; fits = omega (arith, here, shape.fits); same = λ unmoved. sym here }), tt)
     by_toggles key false e = (
       same,
-      (
-        subst (λ (x : Op). RightSince set_object world op since (Plain (told x register))) (sym same)
-            (right_now world op since register shape command before here key (subst (λ (x : Op). toggles x register ≡ false) same e)),
-        tt,
-      ),
+      subst (λ (x : Op). RightSince map_object world op since (told x register) × IsFixed flagged_form (told x register)) (sym same)
+          (right_now world op since register shape command before here key (subst (λ (x : Op). toggles x register ≡ false) same e)),
     )
 
     by_key : (b : Bool) → (o.key == 0) ≡ b
         → Learnt (if b then (if toggles o register then Named o flag register else AtFlag o) else AtFlag o) op world
-        × FoundWell flagged_form world op since (if b then (if toggles o register then Named o flag register else AtFlag o) else AtFlag o) (if b then (if toggles o register then found.Ready else found.Answer (Plain (told o register))) else found.Going)
+        × FoundWell flagged_form world op since (if b then (if toggles o register then Named o flag register else AtFlag o) else AtFlag o) (if b then (if toggles o register then found.Ready else found.Answer (told o register)) else found.Going)
     by_key true e = by_toggles (key_of e) (toggles o register) refl
     by_key false e = (same, tt)
 
-pub search_fed_well : (world after : World) (seen : Seen) (search : Search) (op : Op) (since : ℕ) → IsCommandOf Buckets op → Shape world → asks search → Knows search op world since → Requested flagged_form (request_of search) world after seen
+pub search_fed_well : (world after : World) (seen : Seen) (search : Search) (op : Op) (since : ℕ) → IsCommandOf Tree op → Shape world → asks search → Knows search op world since → Requested flagged_form (request_of search) world after seen
     → Knows (feed_of search seen) op after since × FoundWell flagged_form after op since (feed_of search seen) (found_of search seen)
 search_fed_well world after seen (AtFlag o) op since command shape asking knows r =
     let a : (after ≡ world) × (seen.before ≡ world.words FLAG) = asked (Load FLAG) r in

@@ -1,22 +1,23 @@
 -- Each effect keeps the shape.
-use Rattle.std.proofs.Common.{◌≡◌, ◌≢◌, ℕ, zero, suc, ◌<◌, Bool, true, false, List, ◌∷◌, refl, sym, ap, subst, ◌∙◌, inl, inr, ◌⊎◌, arith}
+use Rattle.std.proofs.Common.{◌≡◌, ◌≢◌, ℕ, zero, suc, ◌<◌, Bool, true, false, List, ◌∷◌, refl, sym, ap, subst, ◌∙◌, inl, inr, ◌⊎◌, arith, None, Some}
 use Rattle.std.specs.Prelude.{◌==◌, if◌then◌else◌, All}
-use Rattle.std.specs.FinSet as set
+use Rattle.std.specs.FinMap as map
 use Rattle.std.proofs.lemmas.Bool.{cases_eq, eq-eqb, or_left, or_right}
 use Rattle.std.proofs.lemmas.List.Kept.{AllPairs-cons}
 use Rattle.word_fields.specs.Versioned.{versioned_value, versioned_bit, versioned_version, changed_word, cleared_word}
 use Rattle.word_fields.proofs.VersionedLemmas.{value-cleared, bit-cleared, cleared-clear, value-changed, bit-changed, changed_below}
-use Rattle.lin_report.specs.Object.{set_object}
+use Rattle.lin_report.specs.Object.{map_object}
 use Rattle.lin_report.specs.declared.calls.Reply.{Reply}
 use Rattle.normal_traits.specs.World.{Listed, Maker, Cause, Won, Change, World, Among, held_after}
 use Rattle.normal_traits.specs.World.Maker.{By, Beside}
 use Rattle.normal_traits.specs.Steps.{change_of}
-use Rattle.flagged_register.specs.Register.{FLAG, REGISTER, note_place, flag_value, is_in, toggled, toggles, flag_of, decided, decision_place}
-use Rattle.flagged_register.specs.Meanings.{Flagged, Made, Stands, IsFlagger, Shape, IsBy, IsOver, IsSpent, flag_won, cause_here, IsGone}
-use Rattle.flagged_register.proofs.Basics.{all_among, at_same, at_other, register_flag, flag_register, note_flag, flagged_value, toggled_value, tells-apply, yes-apply, changes-apply, decision_flag, decided_some, decision_register, decided_once, same_decision}
+use Rattle.flagged_register.specs.Register.{FLAG, REGISTER, note_place, flag_value, is_in, toggled, toggles, flag_of, decided, decision_place, value_at, toggled_value}
+use Rattle.flagged_register.specs.Meanings.{Flagged, Made, Stands, IsFlagger, Shape, IsBy, IsOver, IsSpent, flag_won, cause_here, IsGone, IsName, content}
+use Rattle.flagged_register.proofs.Basics.{all_among, at_same, at_other, register_flag, flag_register, note_flag, flagged_value, toggled_below, tells-apply, yes-apply, changes-apply, decision_flag, decided_some, decision_register, decided_once, same_decision, value_flag}
 use Rattle.flagged_register.proofs.Effects.{Effect, Quiet, Sets, Makes, Clears, flag_set, change_made, flag_cleared, made_won, cleared_won, Decides, change_decided, decided_won}
 use Rattle.flagged_register.proofs.Effects.Effect.{quiet, sets, makes, decides, clears}
-use Rattle.flagged_register.proofs.Later.{Later, later, flag_names, flag_clear, flagged_later, note_later, made_later, decided_later}
+use Rattle.flagged_register.proofs.Observed.{has_key, none_content, some_content}
+use Rattle.flagged_register.proofs.Later.{Later, later, flag_names, flag_clear, flagged_later, note_later, made_later, decided_later, value_later, content_later}
 
 -- ---- lists that set the flag, before and after
 
@@ -102,7 +103,8 @@ quiet_kept world words shape q = record {
     | inl down ↦ inl (value ∙ down)
     | inr up ↦ inr (record { list = up.list; flagged = flagged_later world after shape l up.list up.flagged; flag = quiet_cleared world words q ∙ up.flag })
   ];
-  tells = shape.tells ∙ ap is_in (sym q.register);
+  tells = shape.tells ∙ sym (content_later world after shape l q.register);
+  names = subst (λ r. IsName r world.used) (sym q.register) shape.names;
   clear = ap versioned_bit q.register ∙ shape.clear;
   fits = omega (arith, shape.fits, q.register);
   flagged = λ change among. flagged_later world after shape l change.list (shape.flagged change among);
@@ -128,7 +130,7 @@ quiet_kept world words shape q = record {
     back list flagged = flagged_from after world list (λ item among. among) flagged
 
     flagger : (list : Listed) → Flagged world list → IsFlagger after list
-    flagger list flagged = let f = shape.flaggers list flagged in record { some = f.some; small = f.small; used = f.used; key = f.key; fate = fate f.fate; decision = subst IsDecision (sym same) f.decision }
+    flagger list flagged = let f = shape.flaggers list flagged in record { some = f.some; small = f.small; used = f.used; key = f.key; value = value_later world after shape l list flagged ∙ f.value; fate = fate f.fate; decision = subst IsDecision (sym same) f.decision }
       where
         same : words (decision_place list.block) ≡ world.words (decision_place list.block)
         same = q.decisions list.block (shape.flaggers list flagged).used
@@ -153,7 +155,8 @@ sets_kept world list from word shape s = record {
   same_identity = λ a b fa fb. same_identity a b (before a fa) (before b fb);
   same_block = λ a b fa fb. same_block a b (before a fa) (before b fb);
   flag = inr (record { list = list; flagged = record { from = from; entries = s.entries; won = inl refl }; flag = up });
-  tells = shape.tells ∙ ap is_in (sym register);
+  tells = shape.tells ∙ sym (content_later world after shape l register);
+  names = subst (λ r. IsName r after.used) (sym register) (names_grow shape.names);
   clear = ap versioned_bit register ∙ shape.clear;
   fits = omega (arith, shape.fits, register);
   flagged = λ change among. flagged_later world after shape l change.list (shape.flagged change among);
@@ -190,6 +193,10 @@ sets_kept world list from word shape s = record {
     before : (other : Listed) → Flagged after other → (other ≡ list) ⊎ Flagged world other
     before other flagged = newly world list from word other flagged
 
+    names_grow : IsName (world.words REGISTER) world.used → IsName (world.words REGISTER) after.used
+    names_grow (inl none) = inl none
+    names_grow (inr name) = inr (name.0, grows name.0 name.1, name.2, name.3)
+
     item_by : (item : Won) → Among item after.journal → IsBy item item.maker
     item_by item (inl e) = subst (λ (w : Won). IsBy w w.maker) (sym e) (refl, s.entries)
     item_by item (inr among) = shape.items item among
@@ -203,6 +210,7 @@ sets_kept world list from word shape s = record {
       small = s.small;
       used = own_used;
       key = s.key;
+      value = at_other FLAG word world.words (value_at list.block) (value_flag list.block) ∙ s.value;
       fate = inl (record {
         flag = up;
         register = register ∙ s.noted ∙ sym (at_other FLAG word world.words (note_place list.block) (note_flag list.block));
@@ -214,7 +222,7 @@ sets_kept world list from word shape s = record {
 
     flagger : (other : Listed) → (other ≡ list) ⊎ Flagged world other → IsFlagger after other
     flagger other (inl e) = subst (IsFlagger after) (sym e) own
-    flagger other (inr flagged) = let f = shape.flaggers other flagged in record { some = f.some; small = f.small; used = grows other.block f.used; key = f.key; fate = fate f.fate; decision = subst IsDecision (sym same) f.decision }
+    flagger other (inr flagged) = let f = shape.flaggers other flagged in record { some = f.some; small = f.small; used = grows other.block f.used; key = f.key; value = value_later world after shape l other flagged ∙ f.value; fate = fate f.fate; decision = subst IsDecision (sym same) f.decision }
       where
         same : after.words (decision_place other.block) ≡ world.words (decision_place other.block)
         same = at_other FLAG word world.words (decision_place other.block) (decision_flag other.block)
@@ -255,13 +263,14 @@ makes_kept world list shape m = record {
   same_identity = λ a b fa fb. shape.same_identity a b (before a fa) (before b fb);
   same_block = λ a b fa fb. shape.same_block a b (before a fa) (before b fb);
   flag = inr (record { list = list; flagged = flagged_later world after shape l list m.flagged; flag = ap cleared_word flag ∙ m.stands.flag });
-  tells = tells-apply list.call.op (world.words REGISTER) held key m.stands.toggles shape.tells ∙ ap is_in (sym register);
-  clear = ap versioned_bit register ∙ bit-changed (world.words REGISTER) (if is_in (world.words REGISTER) then 0 else 1) (toggled_value (world.words REGISTER));
-  fits = omega (arith, register, changed_below (world.words REGISTER) (if is_in (world.words REGISTER) then 0 else 1) (toggled_value (world.words REGISTER)));
+  tells = tells-apply list.call.op (world.words REGISTER) held key m.stands.toggles has ∙ sym (content_made (is_in (world.words REGISTER)) toggled_is);
+  names = name_made (is_in (world.words REGISTER)) toggled_is;
+  clear = ap versioned_bit register ∙ bit-changed (world.words REGISTER) (toggled_value (world.words REGISTER) list.block) (toggled_below (world.words REGISTER) list.block (shape.flaggers list m.flagged).small);
+  fits = omega (arith, register, changed_below (world.words REGISTER) (toggled_value (world.words REGISTER) list.block) (toggled_below (world.words REGISTER) list.block (shape.flaggers list m.flagged).small));
   flagged = λ change among. flagged change among;
   passed = λ change among. passed change among;
   agreed = λ change among. agreed change among;
-  effective = (changes-apply list.call.op (world.words REGISTER) held key m.stands.toggles shape.tells, shape.effective);
+  effective = (changes-apply list.call.op (world.words REGISTER) held key m.stands.toggles has, shape.effective);
   one_list = AllPairs-cons (λ (a b : Change). a.list.identity ≢ b.list.identity) new world.changes
       (all_among (λ (b : Change). list.identity ≢ b.list.identity) world.changes (λ b among e. unmade b among (shape.same_identity list b.list m.flagged (shape.flagged b among) e))) shape.one_list;
   one_block = AllPairs-cons (λ (a b : Change). 0 < a.list.block → a.list.block ≢ b.list.block) new world.changes
@@ -273,11 +282,11 @@ makes_kept world list shape m = record {
     after : World
     after = change_made list world
 
-    held : set.FinSet Rattle.std.specs.Ordering.nat_cmp
-    held = held_after set_object world.changes
+    held : map.FinMap Rattle.std.specs.Ordering.nat_cmp ℕ
+    held = held_after map_object world.changes
 
     new : Change
-    new = change_of set_object list world.changes
+    new = change_of map_object list world.changes
 
     l : Later world after
     l = later world after shape (makes list m)
@@ -285,21 +294,36 @@ makes_kept world list shape m = record {
     key : list.call.op.key ≡ 0
     key = (shape.flaggers list m.flagged).key
 
-    register : after.words REGISTER ≡ toggled (world.words REGISTER)
-    register = at_same REGISTER (toggled (world.words REGISTER)) world.words
+    register : after.words REGISTER ≡ toggled (world.words REGISTER) list.block
+    register = at_same REGISTER (toggled (world.words REGISTER) list.block) world.words
 
     flag : after.words FLAG ≡ world.words FLAG
-    flag = at_other REGISTER (toggled (world.words REGISTER)) world.words FLAG flag_register
+    flag = at_other REGISTER (toggled (world.words REGISTER) list.block) world.words FLAG flag_register
 
     own_passed : versioned_version (after.words (note_place list.block)) < versioned_version (after.words REGISTER)
     own_passed = omega (arith, ap versioned_version register, m.raised, ap versioned_version (note_later world after shape l list m.flagged), ap versioned_version m.stands.register)
+
+    has : map.contains_key held 0 ≡ is_in (world.words REGISTER)
+    has = has_key world (world.words REGISTER) held shape.names shape.tells
+
+    toggled_is : versioned_value (after.words REGISTER) ≡ toggled_value (world.words REGISTER) list.block
+    toggled_is = ap versioned_value register ∙ value-changed (world.words REGISTER) (toggled_value (world.words REGISTER) list.block) (toggled_below (world.words REGISTER) list.block (shape.flaggers list m.flagged).small)
+
+    -- the register says what the change did
+    content_made : (b : Bool) → versioned_value (after.words REGISTER) ≡ (if b then 0 else flag_value list.block) → content (after.words REGISTER) after.words ≡ (if b then None else Some list.call.op.value)
+    content_made true e = none_content after (after.words REGISTER) e
+    content_made false e = some_content after (after.words REGISTER) list.block e ∙ ap Some (value_later world after shape l list m.flagged ∙ (shape.flaggers list m.flagged).value)
+
+    name_made : (b : Bool) → versioned_value (after.words REGISTER) ≡ (if b then 0 else flag_value list.block) → IsName (after.words REGISTER) after.used
+    name_made true e = inl e
+    name_made false e = let f = shape.flaggers list m.flagged in inr (list.block, f.used, f.small, e)
 
     own_agreed : after.words (decision_place list.block) ≡ decided true
     own_agreed = decided_later world after shape l list true m.flagged m.agreed
 
     own : Made after list
     own = record {
-      change = inl (ap (λ (reply : Reply). record { list = list; reply = reply }) (sym (yes-apply list.call.op (world.words REGISTER) held key m.stands.toggles shape.tells)));
+      change = inl (ap (λ (reply : Reply). record { list = list; reply = reply }) (sym (yes-apply list.call.op (world.words REGISTER) held key m.stands.toggles has)));
       passed = own_passed;
       agreed = own_agreed;
     }
@@ -315,10 +339,10 @@ makes_kept world list shape m = record {
     item_by item (inr among) = shape.items item among
 
     flagger : (other : Listed) → Flagged world other → IsFlagger after other
-    flagger other flagged' = let f = shape.flaggers other flagged' in record { some = f.some; small = f.small; used = f.used; key = f.key; fate = inr (fate f.fate); decision = subst IsDecision (sym same) f.decision }
+    flagger other flagged' = let f = shape.flaggers other flagged' in record { some = f.some; small = f.small; used = f.used; key = f.key; value = value_later world after shape l other flagged' ∙ f.value; fate = inr (fate f.fate); decision = subst IsDecision (sym same) f.decision }
       where
         same : after.words (decision_place other.block) ≡ world.words (decision_place other.block)
-        same = at_other REGISTER (toggled (world.words REGISTER)) world.words (decision_place other.block) (decision_register other.block)
+        same = at_other REGISTER (toggled (world.words REGISTER) list.block) world.words (decision_place other.block) (decision_register other.block)
 
         fate : Stands world other ⊎ (Made world other ⊎ IsGone world other) → Made after other ⊎ IsGone after other
         fate (inr (inr gone)) = inr (same ∙ gone)
@@ -351,7 +375,8 @@ clears_kept world list flag shape c = record {
   same_identity = λ a b fa fb. shape.same_identity a b (before a fa) (before b fb);
   same_block = λ a b fa fb. shape.same_block a b (before a fa) (before b fb);
   flag = inl down;
-  tells = shape.tells ∙ ap is_in (sym register);
+  tells = shape.tells ∙ sym (content_later world after shape l register);
+  names = subst (λ r. IsName r after.used) (sym register) shape.names;
   clear = ap versioned_bit register ∙ shape.clear;
   fits = omega (arith, shape.fits, register);
   flagged = λ change among. flagged_later world after shape l change.list (shape.flagged change among);
@@ -387,7 +412,7 @@ clears_kept world list flag shape c = record {
     item_by item (inr among) = shape.items item among
 
     flagger : (other : Listed) → Flagged world other → IsFlagger after other
-    flagger other flagged = let f = shape.flaggers other flagged in record { some = f.some; small = f.small; used = f.used; key = f.key; fate = inr (fate f.fate); decision = subst IsDecision (sym same) f.decision }
+    flagger other flagged = let f = shape.flaggers other flagged in record { some = f.some; small = f.small; used = f.used; key = f.key; value = value_later world after shape l other flagged ∙ f.value; fate = inr (fate f.fate); decision = subst IsDecision (sym same) f.decision }
       where
         same : after.words (decision_place other.block) ≡ world.words (decision_place other.block)
         same = at_other FLAG (changed_word flag 0) world.words (decision_place other.block) (decision_flag other.block)
@@ -418,7 +443,8 @@ decides_kept world list made shape d = record {
     | inl down ↦ inl (ap versioned_value flag ∙ down)
     | inr up ↦ inr (record { list = up.list; flagged = flagged_later world after shape l up.list up.flagged; flag = ap cleared_word flag ∙ up.flag })
   ];
-  tells = shape.tells ∙ ap is_in (sym register);
+  tells = shape.tells ∙ sym (content_later world after shape l register);
+  names = subst (λ r. IsName r after.used) (sym register) shape.names;
   clear = ap versioned_bit register ∙ shape.clear;
   fits = omega (arith, shape.fits, register);
   flagged = λ change among. flagged_later world after shape l change.list (shape.flagged change among);
@@ -476,10 +502,10 @@ decides_kept world list made shape d = record {
     own_decision false e = inr (inr e)
 
     own_flagger : IsFlagger after list
-    own_flagger = let f = shape.flaggers list d.flagged in record { some = f.some; small = f.small; used = f.used; key = f.key; fate = own_fate f.fate; decision = own_decision made own }
+    own_flagger = let f = shape.flaggers list d.flagged in record { some = f.some; small = f.small; used = f.used; key = f.key; value = value_later world after shape l list d.flagged ∙ f.value; fate = own_fate f.fate; decision = own_decision made own }
 
     other_flagger : (other : Listed) → Flagged world other → other.block ≢ list.block → IsFlagger after other
-    other_flagger other flagged apart = let f = shape.flaggers other flagged in record { some = f.some; small = f.small; used = f.used; key = f.key; fate = fate f.fate; decision = subst IsDecision (sym same) f.decision }
+    other_flagger other flagged apart = let f = shape.flaggers other flagged in record { some = f.some; small = f.small; used = f.used; key = f.key; value = value_later world after shape l other flagged ∙ f.value; fate = fate f.fate; decision = subst IsDecision (sym same) f.decision }
       where
         same : after.words (decision_place other.block) ≡ world.words (decision_place other.block)
         same = at_other (decision_place list.block) (decided made) world.words (decision_place other.block) (λ e. apart (same_decision other.block list.block e))

@@ -1,15 +1,17 @@
 -- What every effect keeps, and with it what searches and wrap-ups know.
-use Rattle.std.proofs.Common.{◌≡◌, ◌≢◌, ℕ, ◌+◌, ◌<◌, ◌≤◌, true, false, length, sym, ap, ◌∙◌, inl, inr, ◌⊎◌, arith, Bool}
+use Rattle.std.specs.Prelude.{if◌then◌else◌, ◌==◌, Some, None}
+use Rattle.std.proofs.lemmas.Bool.{eq-eqb}
+use Rattle.std.proofs.Common.{subst, ◌/◌, ◌≡◌, ◌≢◌, ℕ, ◌+◌, ◌<◌, ◌≤◌, true, false, length, sym, ap, ◌∙◌, inl, inr, ◌⊎◌, arith, Bool, None}
 use Rattle.word_fields.specs.Versioned.{versioned_value, versioned_bit, versioned_version, changed_word, cleared_word}
 use Rattle.word_fields.proofs.VersionedLemmas.{version-cleared, value-cleared, cleared-clear}
 use Rattle.lin_report.specs.declared.calls.Op.{Op}
 use Rattle.normal_traits.specs.World.{Listed, Won, Change, World, Among}
 use Rattle.normal_traits.specs.Steps.{with_word}
-use Rattle.flagged_register.specs.Register.{FLAG, REGISTER, note_place, flag_value, flag_word, toggled, flag_of, Help, Search, decision_place, decided}
+use Rattle.flagged_register.specs.Register.{FLAG, REGISTER, note_place, flag_value, flag_word, toggled, flag_of, Help, Search, decision_place, decided, value_at}
 use Rattle.flagged_register.specs.Register.Help.{Deciding, Checking, Reading, Changing, Clearing}
 use Rattle.flagged_register.specs.Register.Search.{AtFlag, AtRegister, Named, Helping}
-use Rattle.flagged_register.specs.Meanings.{Flagged, Made, Shape, flag_won, Helps, WasDown, WasRead, Learnt, Knows}
-use Rattle.flagged_register.proofs.Basics.{at_same, at_other, register_flag, flag_register, note_flag, note_register, flagged_value, flagged_bit, decision_flag, decided_some, decision_register, note_decision, same_decision}
+use Rattle.flagged_register.specs.Meanings.{Flagged, Made, Shape, flag_won, Helps, WasDown, WasRead, Learnt, Knows, content, IsName}
+use Rattle.flagged_register.proofs.Basics.{at_same, at_other, register_flag, flag_register, note_flag, note_register, flagged_value, flagged_bit, decision_flag, decided_some, decision_register, note_decision, same_decision, value_flag, value_register, value_decision}
 use Rattle.flagged_register.proofs.Effects.{Effect}
 use Rattle.flagged_register.proofs.Effects.Effect.{quiet, sets, makes, decides, clears}
 
@@ -21,6 +23,7 @@ pub record Later (world after : World) : Type 0 where
   pub register : versioned_version (world.words REGISTER) ≤ versioned_version (after.words REGISTER)
   pub still : versioned_value (world.words FLAG) ≡ 0 → after.words REGISTER ≡ world.words REGISTER
   pub notes : (block : ℕ) → world.used block ≡ true → after.words (note_place block) ≡ world.words (note_place block)
+  pub values : (block : ℕ) → world.used block ≡ true → after.words (value_at block) ≡ world.words (value_at block)
   pub decisions : (block : ℕ) → world.used block ≡ true → world.words (decision_place block) ≢ 0 → after.words (decision_place block) ≡ world.words (decision_place block)
 
 -- ---- a list's flag
@@ -46,6 +49,7 @@ later world after shape (quiet words q) = record {
   register = omega (arith, ap versioned_version q.register);
   still = λ down. q.register;
   notes = q.notes;
+  values = q.values;
   decisions = λ block used some. q.decisions block used;
 }
 later world after shape (sets list from word s) =
@@ -60,10 +64,11 @@ later world after shape (sets list from word s) =
       register = omega (arith, ap versioned_version same);
       still = λ down. same;
       notes = λ block used. at_other FLAG word world.words (note_place block) (note_flag block);
+      values = λ block used. at_other FLAG word world.words (value_at block) (value_flag block);
       decisions = λ block used some. at_other FLAG word world.words (decision_place block) (decision_flag block);
     }
 later world after shape (makes list m) =
-    let word = toggled (world.words REGISTER) in
+    let word = toggled (world.words REGISTER) list.block in
     let new : with_word REGISTER word world.words REGISTER ≡ word = at_same REGISTER word world.words in
     record {
       journal = λ won among. inr among;
@@ -73,6 +78,7 @@ later world after shape (makes list m) =
       register = omega (arith, ap versioned_version new, m.raised);
       still = λ down. absurd (omega (arith, down, sym (value-cleared (world.words FLAG)) ∙ ap versioned_value m.stands.flag ∙ flag_names world list shape m.flagged));
       notes = λ block used. at_other REGISTER word world.words (note_place block) (note_register block);
+      values = λ block used. at_other REGISTER word world.words (value_at block) (value_register block);
       decisions = λ block used some. at_other REGISTER word world.words (decision_place block) (decision_register block);
     }
 later world after shape (decides list made d) =
@@ -86,6 +92,7 @@ later world after shape (decides list made d) =
       register = omega (arith, ap versioned_version same);
       still = λ down. same;
       notes = λ block used. at_other place (decided made) world.words (note_place block) (note_decision block list.block);
+      values = λ block used. at_other place (decided made) world.words (value_at block) (value_decision block list.block);
       decisions = λ block used some. at_other place (decided made) world.words (decision_place block)
           (λ e. some (ap (λ b. world.words (decision_place b)) (same_decision block list.block e) ∙ d.undecided));
     }
@@ -101,6 +108,7 @@ later world after shape (clears list flag c) =
       register = omega (arith, ap versioned_version same);
       still = λ down. same;
       notes = λ block used. at_other FLAG word world.words (note_place block) (note_flag block);
+      values = λ block used. at_other FLAG word world.words (value_at block) (value_flag block);
       decisions = λ block used some. at_other FLAG word world.words (decision_place block) (decision_flag block);
     }
 
@@ -112,6 +120,9 @@ module _ (world after : World) (shape : Shape world) (l : Later world after) whe
 
   pub note_later : (list : Listed) → Flagged world list → after.words (note_place list.block) ≡ world.words (note_place list.block)
   note_later list flagged = let f = shape.flaggers list flagged in l.notes list.block f.used
+
+  pub value_later : (list : Listed) → Flagged world list → after.words (value_at list.block) ≡ world.words (value_at list.block)
+  value_later list flagged = l.values list.block (shape.flaggers list flagged).used
 
   pub decided_later : (list : Listed) (made : Bool) → Flagged world list → world.words (decision_place list.block) ≡ decided made → after.words (decision_place list.block) ≡ decided made
   decided_later list made flagged agreed = l.decisions list.block (shape.flaggers list flagged).used (λ e. decided_some made (sym agreed ∙ e)) ∙ agreed
@@ -130,6 +141,20 @@ module _ (world after : World) (shape : Shape world) (l : Later world after) whe
   helps_later (Changing flag noted) list h = (flagged_later list h.0, h.1, decided_later list true h.0 h.2, h.3 ∙ sym (note_later list h.0))
   helps_later (Clearing flag true) list h = (flagged_later list h.0, h.1, made_later list h.0 h.2)
   helps_later (Clearing flag false) list h = (flagged_later list h.0, h.1, decided_later list false h.0 h.2)
+
+  -- the register's word stands for what it did
+  pub content_later : after.words REGISTER ≡ world.words REGISTER → content (after.words REGISTER) after.words ≡ content (world.words REGISTER) world.words
+  content_later same = ap (λ register. content register after.words) same ∙ by_name shape.names
+    where
+      by_name : IsName (world.words REGISTER) world.used → content (world.words REGISTER) after.words ≡ content (world.words REGISTER) world.words
+      by_name (inl none) = content_none after.words none ∙ sym (content_none world.words none)
+        where
+          content_none : (words : ℕ → ℕ) → versioned_value (world.words REGISTER) ≡ 0 → content (world.words REGISTER) words ≡ None
+          content_none words e = ap (λ b. if b then None else Some (words (value_at (versioned_value (world.words REGISTER) / 4)))) (eq-eqb (versioned_value (world.words REGISTER)) 0 e)
+      by_name (inr name) =
+          let block : versioned_value (world.words REGISTER) / 4 ≡ name.0 = omega (arith, name.3) in
+          let used : world.used (versioned_value (world.words REGISTER) / 4) ≡ true = subst (λ b. world.used b ≡ true) (sym block) name.1 in
+          ap (λ (w : ℕ). if versioned_value (world.words REGISTER) == 0 then None else Some w) (l.values (versioned_value (world.words REGISTER) / 4) used)
 
   -- the flag's version never falls
   pub flag_rises : versioned_version (world.words FLAG) ≤ versioned_version (after.words FLAG)
@@ -158,6 +183,7 @@ module _ (world after : World) (shape : Shape world) (l : Later world after) whe
   read_later op flag register was = record {
     down = down_later flag was.down;
     key = was.key;
+    value = was.value;
     toggles = was.toggles;
     fits = was.fits;
     same = λ here. by_cases here was.down.seen;

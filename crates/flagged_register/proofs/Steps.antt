@@ -7,7 +7,7 @@ use Rattle.node_arena.proofs.PlaceLemmas.{block_at-block_place}
 use Rattle.word_fields.specs.Versioned.{versioned_value, versioned_version, changed_word, cleared_word}
 use Rattle.word_fields.proofs.VersionedLemmas.{value-cleared}
 use Rattle.lin_report.specs.declared.calls.Op.{Op}
-use Rattle.lin_report.specs.Object.{set_object}
+use Rattle.lin_report.specs.Object.{map_object}
 use Rattle.step_memory.specs.declared.steps.Request.{Request}
 use Rattle.step_memory.specs.declared.steps.Request.TheVariants.{Load, Store, Exchange, Add}
 use Rattle.step_memory.specs.declared.steps.Seen.{Seen}
@@ -17,11 +17,11 @@ use Rattle.normal_traits.specs.World.Maker.{By, Beside}
 use Rattle.normal_traits.specs.Steps.{with_word, put_word, with_change, IsExchanged, IsFresh, IsFilled, IsOffered, Requested, IsStep, exchanged, using_block}
 use Rattle.normal_traits.specs.Steps.Requested.{loaded, lost, won}
 use Rattle.normal_traits.specs.Steps.IsStep.{nothing, elsewhere, clears, searches, wraps, first, first_of_block, second}
-use Rattle.flagged_register.specs.Register.{FLAG, REGISTER, note_place, flag_value, toggled, toggles, flag_entry, flag_of, offer_of, Help, Search, request_of, request_of_help, decision_place, decided}
+use Rattle.flagged_register.specs.Register.{FLAG, REGISTER, note_place, flag_value, toggled, toggles, flag_entry, flag_of, offer_of, Help, Search, request_of, request_of_help, decision_place, decided, value_at}
 use Rattle.flagged_register.specs.Register.Help.{Deciding, Checking, Reading, Changing, Clearing}
 use Rattle.flagged_register.specs.Register.Search.{AtFlag, AtRegister, Named, Helping}
 use Rattle.flagged_register.specs.Meanings.{Flagged, Made, Stands, Shape, flagged_block, cause_here, cause_of, flagger, adds_beside, Helps, WasRead, Knows, flagged_form, asks, IsGone}
-use Rattle.flagged_register.proofs.Basics.{at_same, at_other, register_flag, flag_register, note_flag, word_of, decision_flag, decided_once, decision_register}
+use Rattle.flagged_register.proofs.Basics.{at_same, at_other, register_flag, flag_register, note_flag, word_of, decision_flag, decided_once, decision_register, value_flag}
 use Rattle.flagged_register.proofs.Effects.{Effect, Sets, change_made, flag_cleared, change_decided}
 use Rattle.flagged_register.proofs.Effects.Effect.{quiet, sets, makes, decides}
 use Rattle.flagged_register.proofs.Journal.{took_of, flagger_is}
@@ -58,17 +58,17 @@ asked (Store at value) r = elim r [ ]
 asked (Add at by) r = elim r [ ]
 
 unchanged : (world : World) → Effect world world
-unchanged world = quiet world.words (record { flag = inl refl; register = refl; notes = λ block used. refl; decisions = λ block used. refl })
+unchanged world = quiet world.words (record { flag = inl refl; register = refl; notes = λ block used. refl; values = λ block used. refl; decisions = λ block used. refl })
 
 -- ---- the exchange of the register
 
-abbrev with_made : World → ℕ → Option Listed → Cause → World
-with_made world register added cause =
+abbrev with_made : World → ℕ → ℕ → Option Listed → Cause → World
+with_made world register to added cause =
     record {
-      words = with_word REGISTER (toggled register) world.words;
-      changes = with_change set_object added world.changes;
+      words = with_word REGISTER to world.words;
+      changes = with_change map_object added world.changes;
       used = world.used;
-      journal = record { place = REGISTER; before = register; after = toggled register; maker = Beside; cause = cause } ∷ world.journal;
+      journal = record { place = REGISTER; before = register; after = to; maker = Beside; cause = cause } ∷ world.journal;
     }
 
 -- of a flag that is up, the block and the list are found by its word
@@ -89,7 +89,7 @@ module _ (world : World) (list : Listed) (shape : Shape world) (flagged : Flagge
       ap (λ b. if b then cause_here (flagged_block (world.words FLAG)) 1 else (if REGISTER == FLAG then cause_here (flagged_block from) 2 else cause_here (block_at REGISTER) 3)) (eq-eqb REGISTER REGISTER refl)
       ∙ ap (λ block. cause_here block 1) up_block
 
-pub make_effect : (world after : World) (list : Listed) (noted : ℕ) → Shape world → Flagged world list → world.words (decision_place list.block) ≡ decided true → noted ≡ world.words (note_place list.block) → HasWon world after REGISTER noted (toggled noted) → Effect world after
+pub make_effect : (world after : World) (list : Listed) (noted : ℕ) → Shape world → Flagged world list → world.words (decision_place list.block) ≡ decided true → noted ≡ world.words (note_place list.block) → HasWon world after REGISTER noted (toggled noted list.block) → Effect world after
 make_effect world after list noted shape flagged agreed own w = by_fate (shape.flaggers list flagged).fate
   where
     by_fate : Stands world list ⊎ (Made world list ⊎ IsGone world list) → Effect world after
@@ -97,10 +97,10 @@ make_effect world after list noted shape flagged agreed own w = by_fate (shape.f
     by_fate (inr (inl made)) = absurd (omega (arith, made.passed, ap versioned_version (w.0 ∙ own)))
     by_fate (inl stands) =
         let e : after ≡ change_made list world =
-        w.2 ∙ ap (λ added. with_made world noted added (cause_of world Beside (entry_here REGISTER noted (toggled noted)))) (adds_own world list shape flagged stands.flag noted (toggled noted))
-        ∙ ap (with_made world noted (Some list)) (own_cause world list shape flagged stands.flag noted (toggled noted))
-        ∙ ap (λ register. with_made world register (Some list) (cause_here list.block 1)) (sym w.0) in
-        let raised : versioned_version (toggled (world.words REGISTER)) ≡ versioned_version (world.words REGISTER) + 1 = subst (λ r. versioned_version (toggled r) ≡ versioned_version r + 1) (sym w.0) w.1 in
+        w.2 ∙ ap (λ added. with_made world noted (toggled noted list.block) added (cause_of world Beside (entry_here REGISTER noted (toggled noted list.block)))) (adds_own world list shape flagged stands.flag noted (toggled noted list.block))
+        ∙ ap (with_made world noted (toggled noted list.block) (Some list)) (own_cause world list shape flagged stands.flag noted (toggled noted list.block))
+        ∙ ap (λ register. with_made world register (toggled register list.block) (Some list) (cause_here list.block 1)) (sym w.0) in
+        let raised : versioned_version (toggled (world.words REGISTER) list.block) ≡ versioned_version (world.words REGISTER) + 1 = subst (λ r. versioned_version (toggled r list.block) ≡ versioned_version r + 1) (sym w.0) w.1 in
         subst (Effect world) (sym e) (makes list (record { flagged = flagged; stands = stands; agreed = agreed; raised = raised }))
 
 -- ---- the exchange of the flag
@@ -109,7 +109,7 @@ abbrev with_cleared : World → ℕ → Option Listed → Cause → World
 with_cleared world flag added cause =
     record {
       words = with_word FLAG (changed_word flag 0) world.words;
-      changes = with_change set_object added world.changes;
+      changes = with_change map_object added world.changes;
       used = world.used;
       journal = record { place = FLAG; before = flag; after = changed_word flag 0; maker = Beside; cause = cause } ∷ world.journal;
     }
@@ -133,7 +133,7 @@ abbrev with_decided : World → ℕ → Bool → Option Listed → Cause → Wor
 with_decided world place made added cause =
     record {
       words = with_word place (decided made) world.words;
-      changes = with_change set_object added world.changes;
+      changes = with_change map_object added world.changes;
       used = world.used;
       journal = record { place = place; before = 0; after = decided made; maker = Beside; cause = cause } ∷ world.journal;
     }
@@ -165,11 +165,11 @@ help_effect world after seen (Deciding flag make) list shape h r = by_cases (ask
     by_cases (inr w) = decide_effect world after list make shape h.0 (subst (λ block. HasWon world after (decision_place block) 0 (decided make)) (named_block world list flag shape h.0 h.1) w)
 help_effect world after seen (Checking flag) list shape h r = subst (Effect world) (sym (asked (Load (decision_place (versioned_value flag / 4))) r).0) (unchanged world)
 help_effect world after seen (Reading flag) list shape h r = subst (Effect world) (sym (asked (Load (note_place (versioned_value flag / 4))) r).0) (unchanged world)
-help_effect world after seen (Changing flag noted) list shape h r = by_cases (asked (Exchange REGISTER noted (toggled noted)) r)
+help_effect world after seen (Changing flag noted) list shape h r = by_cases (asked (Exchange REGISTER noted (toggled noted (versioned_value flag / 4))) r)
   where
-    by_cases : Asked (Exchange REGISTER noted (toggled noted)) world after seen → Effect world after
+    by_cases : Asked (Exchange REGISTER noted (toggled noted (versioned_value flag / 4))) world after seen → Effect world after
     by_cases (inl l) = subst (Effect world) (sym l.1) (unchanged world)
-    by_cases (inr w) = make_effect world after list noted shape h.0 h.2 h.3 w
+    by_cases (inr w) = make_effect world after list noted shape h.0 h.2 h.3 (subst (λ block. HasWon world after REGISTER noted (toggled noted block)) (named_block world list flag shape h.0 h.1) w)
 help_effect world after seen (Clearing flag made) list shape h r = by_cases (asked (Exchange FLAG flag (changed_word flag 0)) r)
   where
     by_cases : Asked (Exchange FLAG flag (changed_word flag 0)) world after seen → Effect world after
@@ -210,8 +210,9 @@ flag_effect world list (Named op flag register) since entry word offered fresh s
     let is : entry ≡ flag_entry flag list.block = ap (entry_or entry) (sym listed ∙ ap (λ (entries : List Entry). slice_get entries 0) offered.entries) in
     let here' : world.words FLAG ≡ flag = subst (λ (e : Entry). world.words e.target ≡ e.from) is here in
     let same : world.words REGISTER ≡ register = read.same here' in
-    let noted : world.words (note_place list.block) ≡ register = filled.stored 0 (0, 0) (omega arith) in
-    let undecided : world.words (decision_place list.block) ≡ 0 = filled.stored 1 (0, 0) (omega arith) in
+    let noted : world.words (note_place list.block) ≡ register = filled.stored 1 (0, 0) (omega arith) in
+    let value : world.words (value_at list.block) ≡ list.call.op.value = filled.stored 0 (0, 0) (omega arith) in
+    let undecided : world.words (decision_place list.block) ≡ 0 = filled.stored 2 (0, 0) (omega arith) in
     let s : Sets world list flag word = record {
       entries = offered.entries;
       some = some;
@@ -223,6 +224,7 @@ flag_effect world list (Named op flag register) since entry word offered fresh s
       here = here';
       noted = same ∙ sym noted;
       undecided = undecided;
+      value = value;
       exchanged = subst (λ (e : Entry). IsExchanged e word) is exchanged;
       fresh = λ other equal flagged. fresh other 0 equal (took_of world other flagged);
     } in
@@ -240,9 +242,10 @@ one_entry world list (Named op flag register) since entry offered listed =
 
 elsewhere_effect : (world : World) (place word : ℕ) → Shape world → is_word world place ≡ false → Effect world (put_word place word world)
 elsewhere_effect world place word shape is = quiet (with_word place word world.words) (record {
-  flag = inl (at_other place word world.words FLAG (differs 0 12 (omega arith) shape.opened refl));
-  register = at_other place word world.words REGISTER (differs 0 13 (omega arith) shape.opened refl);
+  flag = inl (at_other place word world.words FLAG (differs 0 16 (omega arith) shape.opened refl));
+  register = at_other place word world.words REGISTER (differs 0 14 (omega arith) shape.opened refl);
   notes = λ block used. at_other place word world.words (note_place block) (differs block 27 (omega arith) used refl);
+  values = λ block used. at_other place word world.words (value_at block) (differs block 13 (omega arith) used refl);
   decisions = λ block used. at_other place word world.words (decision_place block) (differs block 28 (omega arith) used refl);
 })
   where
@@ -254,6 +257,7 @@ clears_effect world place e = subst (λ p. Effect world (put_word p (cleared_wor
   flag = inr (at_same FLAG (cleared_word (world.words FLAG)) world.words);
   register = at_other FLAG (cleared_word (world.words FLAG)) world.words REGISTER register_flag;
   notes = λ block used. at_other FLAG (cleared_word (world.words FLAG)) world.words (note_place block) (note_flag block);
+  values = λ block used. at_other FLAG (cleared_word (world.words FLAG)) world.words (value_at block) (value_flag block);
   decisions = λ block used. at_other FLAG (cleared_word (world.words FLAG)) world.words (decision_place block) (decision_flag block);
 }))
 

@@ -1,15 +1,14 @@
 -- All laws of the flagged register.
 use Rattle.std.proofs.Common.{◌≡◌, ◌≢◌, ℕ, zero, suc, ◌^◌, ◌<◌, Bool, true, false, ◌||◌, List, [], ◌∷◌, ◌++◌, length, Option, refl, sym, ap, subst, ◌∙◌, inl, inr, ◌⊎◌, arith}
 use Rattle.std.specs.Prelude.{◌==◌, if◌then◌else◌, slice_get, Some, None, IsTrue}
-use Rattle.std.specs.FinSet as set
+use Rattle.std.specs.FinMap as map
 use Rattle.std.specs.Ordering.{nat_cmp}
 use Rattle.std.proofs.lemmas.Bool.{eqb-true, eq-eqb, ne_eqb, or_left}
 use Rattle.std.proofs.lemmas.List.Elements.{All-nil, All-cons}
 use Rattle.word_fields.specs.Versioned.{versioned_value, versioned_bit, versioned_version}
 use Rattle.lin_report.specs.declared.calls.Op.{Op}
-use Rattle.lin_report.specs.declared.calls.Outcome.TheVariants.{Plain}
-use Rattle.lin_report.specs.declared.calls.Client.TheVariants.{Buckets}
-use Rattle.lin_report.specs.Object.{set_object}
+use Rattle.lin_report.specs.declared.calls.Client.TheVariants.{Tree}
+use Rattle.lin_report.specs.Object.{map_object}
 use Rattle.lin_report.specs.Commands.{may_exhaust}
 use Rattle.node_arena.specs.Opening.{opening_word}
 use Rattle.node_arena.specs.MemoryMap.{field_at}
@@ -21,7 +20,7 @@ use Rattle.normal_traits.specs.declared.lists.Entry.{Entry}
 use Rattle.normal_traits.specs.World.{Listed, Won, Cause, Change, World, Among, Took, Failed, Stopped, Observes, held_after}
 use Rattle.normal_traits.specs.Steps.{IsOffered, IsFresh}
 use Rattle.normal_traits.specs.Laws.{Laws, opening_world, IsGoodEntry, IsGoodStore, IsGoodOffer, WrappedWell}
-use Rattle.flagged_register.specs.Register.{FLAG, REGISTER, note_place, flag_value, toggles, told, flag_entry, flag_of, offer_of, found_of, begin_wrap_of, wrap_begun_of, Search, decision_place}
+use Rattle.flagged_register.specs.Register.{FLAG, REGISTER, note_place, flag_value, toggles, told, flag_entry, flag_of, offer_of, found_of, begin_wrap_of, wrap_begun_of, Search, decision_place, value_at}
 use Rattle.flagged_register.specs.Register.Help.{Deciding}
 use Rattle.flagged_register.specs.Register.Search.{AtFlag, AtRegister, Named, Helping}
 use Rattle.flagged_register.specs.Meanings.{Flagged, Shape, IsOver, IsSpent, EachChanges, flagged_block, flagger, adds_beside, WasRead, Knows, Dead, is_ready, flagged_form, IsGone}
@@ -32,12 +31,13 @@ use Rattle.flagged_register.proofs.Journal.{took_of, flagged_of, flagger_flagged
 use Rattle.flagged_register.proofs.Later.{decided_later, later, helps_later, knows_later, flag_rises, flagged_later}
 use Rattle.flagged_register.proofs.Steps.{effect_of}
 use Rattle.flagged_register.proofs.Kept.{effect_keeps, flagged_from, older, newly}
-use Rattle.flagged_register.proofs.Observed.{listed}
+use Rattle.flagged_register.proofs.Basics.{value_flag, value_register}
+use Rattle.flagged_register.proofs.Observed.{none_content, listed}
 use Rattle.flagged_register.proofs.Fed.{search_asks, help_asks, search_fed_well, wrap_fed_well}
 
 -- ---- the opening
 
-opened_0 : (place : ℕ) → opening_word Buckets place ≡ 0
+opened_0 : (place : ℕ) → opening_word Tree place ≡ 0
 unfolding opening_word
 opened_0 place = refl
 
@@ -57,7 +57,8 @@ opens = record {
   same_identity = λ a b fa fb e. absurd fa.won;
   same_block = λ a b fa fb e. absurd fa.won;
   flag = inl (ap versioned_value (opened_0 FLAG) ∙ value_0);
-  tells = set.contains-empty nat_cmp 0 ∙ sym (ap (λ v. v == 1) (ap versioned_value (opened_0 REGISTER) ∙ value_0));
+  tells = map.get-empty nat_cmp 0 ∙ sym (none_content (opening_world flagged_form) (opening_word Tree REGISTER) (ap versioned_value (opened_0 REGISTER) ∙ value_0));
+  names = inl (ap versioned_value (opened_0 REGISTER) ∙ value_0);
   clear = ap versioned_bit (opened_0 REGISTER) ∙ bit_0;
   fits = omega (arith, opened_0 REGISTER);
   flagged = λ change among. absurd among;
@@ -72,7 +73,7 @@ opens = record {
 
 -- ---- what shape says of changes and causes
 
-effective : (newer older' changes : List Change) (change : Change) → EachChanges changes → changes ≡ newer ++ change ∷ older' → ¬ Observes set_object change.list.call.op (held_after set_object older')
+effective : (newer older' changes : List Change) (change : Change) → EachChanges changes → changes ≡ newer ++ change ∷ older' → ¬ Observes map_object change.list.call.op (held_after map_object older')
 effective [] older' changes change each e = (subst EachChanges e each).0
 effective (new ∷ newer) older' changes change each e = effective newer older' (newer ++ change ∷ older') change (subst EachChanges e each).1 refl
 
@@ -102,7 +103,7 @@ lists world (Helping o help) op since knows ready = absurd ready
 
 good_entry : (world : World) (op : Op) (flag register block : ℕ) → Shape world → WasRead world op flag register → block < 2 ^ 17 → IsGoodEntry flagged_form world (flag_entry flag block)
 good_entry world op flag register block shape read small = record {
-  word = word_of world 0 12 (omega arith) shape.opened refl;
+  word = word_of world 0 16 (omega arith) shape.opened refl;
   versioned = or_left (FLAG == FLAG || FLAG == REGISTER) (field_at FLAG == 28) (or_left (FLAG == FLAG) (FLAG == REGISTER) (eq-eqb FLAG FLAG refl));
   listable = eq-eqb FLAG FLAG refl;
   clear = read.down.clear;
@@ -132,6 +133,21 @@ good_store block register fits = record {
     apart : (note_place block == FLAG || note_place block == REGISTER || field_at (note_place block) == 28) ≡ true → ⊥
     apart e = let none : (note_place block == FLAG || note_place block == REGISTER || field_at (note_place block) == 28) ≡ false = rw (flag_not, register_not, field_not) refl in absurd cc
 
+good_value : (block value : ℕ) → value < 2 ^ 32 → IsGoodStore flagged_form block (value_at block, value)
+good_value block value fits = record {
+  field = 13;
+  behind = omega arith;
+  within = omega arith;
+  place = refl;
+  word = omega (arith, fits);
+  versioned = λ e. absurd (apart e);
+}
+  where
+    apart : (value_at block == FLAG || value_at block == REGISTER || field_at (value_at block) == 28) ≡ true → ⊥
+    apart e =
+        let none : (value_at block == FLAG || value_at block == REGISTER || field_at (value_at block) == 28) ≡ false =
+        rw (ne_eqb (value_at block) FLAG (value_flag block), ne_eqb (value_at block) REGISTER (value_register block), field_at-block_place block 13 (omega arith)) refl in absurd cc
+
 -- a decision is open at first
 good_decision : (block : ℕ) → IsGoodStore flagged_form block (decision_place block, 0)
 good_decision block = record {
@@ -151,8 +167,9 @@ offers world (Named o flag register) op since block shape knows ready small = re
   few = omega arith;
   entries = All-cons (IsGoodEntry flagged_form world) (flag_entry flag block) [] (good_entry world op flag register block shape knows.1.1 small) (All-nil (IsGoodEntry flagged_form world));
   apart = λ i j d lt below. absurd (omega (arith, lt, below));
-  stores = All-cons (IsGoodStore flagged_form block) (note_place block, register) ((decision_place block, 0) ∷ []) (good_store block register knows.1.1.fits)
-      (All-cons (IsGoodStore flagged_form block) (decision_place block, 0) [] (good_decision block) (All-nil (IsGoodStore flagged_form block)));
+  stores = All-cons (IsGoodStore flagged_form block) (value_at block, op.value) ((note_place block, register) ∷ (decision_place block, 0) ∷ []) (good_value block op.value knows.1.1.value)
+      (All-cons (IsGoodStore flagged_form block) (note_place block, register) ((decision_place block, 0) ∷ []) (good_store block register knows.1.1.fits)
+      (All-cons (IsGoodStore flagged_form block) (decision_place block, 0) [] (good_decision block) (All-nil (IsGoodStore flagged_form block))));
   count = omega arith;
 }
 offers world (Helping o help) op since block shape knows ready small = absurd ready
@@ -161,11 +178,11 @@ contends : (search : Search) (seen : Seen) → found_of search seen ≡ found.Co
 contends (AtFlag o) seen e = absurd cc
 contends (AtRegister o flag) seen e = by_key (o.key == 0) e
   where
-    by_toggles : (b : Bool) → (if b then found.Ready else found.Answer (Plain (told o seen.before))) ≡ found.Contended → ⊥
+    by_toggles : (b : Bool) → (if b then found.Ready else found.Answer (told o seen.before)) ≡ found.Contended → ⊥
     by_toggles true e' = absurd cc
     by_toggles false e' = absurd cc
 
-    by_key : (b : Bool) → (if b then (if toggles o seen.before then found.Ready else found.Answer (Plain (told o seen.before))) else found.Going) ≡ found.Contended → ⊥
+    by_key : (b : Bool) → (if b then (if toggles o seen.before then found.Ready else found.Answer (told o seen.before)) else found.Going) ≡ found.Contended → ⊥
     by_key true e' = by_toggles (toggles o seen.before) e'
     by_key false e' = absurd cc
 contends (Named o flag register) seen e = absurd cc

@@ -1,18 +1,18 @@
 -- What the states of the flagged register mean, and the structure in normalized form.
-use Rattle.std.specs.Prelude.{◌≡◌, ◌≢◌, ℕ, zero, suc, ◌+◌, ◌/◌, ◌^◌, ◌<◌, ◌==◌, ◌||◌, if◌then◌else◌, true, false, ◌⊎◌, List, [], ◌∷◌, length, Option, Some, None, AllPairs}
-use Rattle.std.specs.FinSet as set
+use Rattle.std.specs.Prelude.{◌≡◌, ◌≢◌, ℕ, zero, suc, ◌+◌, ◌/◌, ◌^◌, ◌<◌, ◌==◌, ◌||◌, if◌then◌else◌, true, false, ◌⊎◌, List, [], ◌∷◌, length, Option, Some, None, AllPairs, Bool}
+use Rattle.std.specs.FinMap as map
 use Rattle.lin_report.specs.declared.calls.Client.TheVariants as client
 use Rattle.lin_report.specs.declared.calls.Op.{Op}
 use Rattle.lin_report.specs.declared.calls.Reply.TheVariants.{Yes}
-use Rattle.lin_report.specs.declared.calls.TheConstants.{ADD, DEL}
-use Rattle.lin_report.specs.Object.{set_object}
+use Rattle.lin_report.specs.declared.calls.TheConstants.{SET, REM}
+use Rattle.lin_report.specs.Object.{map_object}
 use Rattle.word_fields.specs.Versioned.{versioned_value, versioned_bit, versioned_version, cleared_word}
 use Rattle.node_arena.specs.MemoryMap.{block_at, field_at}
 use Rattle.normal_traits.specs.declared.lists.Entry.{Entry}
 use Rattle.normal_traits.specs.World.{Listed, Maker, Cause, Won, Change, World, Among, held_after, Observes}
 use Rattle.normal_traits.specs.World.Maker.{By, Beside}
 use Rattle.normal_traits.specs.NormalForm.{NormalForm}
-use Rattle.flagged_register.specs.Register.{FLAG, REGISTER, note_place, decision_place, decided, flag_value, flag_word, is_in, toggles, flag_entry, flag_of, Help, Search, begin_of, request_of, feed_of, found_of, offer_of, request_of_help, feed_help, begin_wrap_of, wrap_begun_of, wrap_found_of}
+use Rattle.flagged_register.specs.Register.{FLAG, REGISTER, value_at, note_place, decision_place, decided, flag_value, flag_word, toggles, flag_entry, flag_of, Help, Search, begin_of, request_of, feed_of, found_of, offer_of, request_of_help, feed_help, begin_wrap_of, wrap_begun_of, wrap_found_of}
 use Rattle.flagged_register.specs.Register.Help.{Deciding, Checking, Reading, Changing, Clearing}
 use Rattle.flagged_register.specs.Register.Search.{AtFlag, AtRegister, Named, Helping}
 
@@ -79,6 +79,7 @@ pub record IsFlagger (world : World) (list : Listed) : Type 0 where
   pub small : list.block < 2 ^ 17
   pub used : world.used list.block ≡ true
   pub key : list.call.op.key ≡ 0
+  pub value : world.words (value_at list.block) ≡ list.call.op.value
   pub fate : Stands world list ⊎ (Made world list ⊎ IsGone world list)
   pub decision : (world.words (decision_place list.block) ≡ 0) ⊎ ((world.words (decision_place list.block) ≡ decided true) ⊎ IsGone world list)
 
@@ -102,7 +103,15 @@ pub record IsSpent (world : World) (cause : Cause) : Type 0 where
 -- each change really changed what was held
 abbrev pub EachChanges : List Change → Type 0
 EachChanges [] = Unit {0}
-EachChanges (change ∷ older) = (¬ Observes set_object change.list.call.op (held_after set_object older)) × EachChanges older
+EachChanges (change ∷ older) = (¬ Observes map_object change.list.call.op (held_after map_object older)) × EachChanges older
+
+-- what the register says that the key's value is
+abbrev pub content : ℕ → (ℕ → ℕ) → Option ℕ
+content register words = if versioned_value register == 0 then None else Some (words (value_at (versioned_value register / 4)))
+
+-- the register is 0 or names node 1 of a used block
+abbrev pub IsName : ℕ → (ℕ → Bool) → Type 0
+IsName register used = (versioned_value register ≡ 0) ⊎ ((block : ℕ) × (used block ≡ true) × (block < 2 ^ 17) × (versioned_value register ≡ flag_value block))
 
 -- the flag that is up is that of a list
 pub record IsUp (world : World) : Type 0 where
@@ -117,7 +126,8 @@ pub record Shape (world : World) : Type 0 where
   pub same_identity : (a b : Listed) → Flagged world a → Flagged world b → a.identity ≡ b.identity → a ≡ b
   pub same_block : (a b : Listed) → Flagged world a → Flagged world b → a.block ≡ b.block → a ≡ b
   pub flag : (versioned_value (world.words FLAG) ≡ 0) ⊎ IsUp world
-  pub tells : set.contains (held_after set_object world.changes) 0 ≡ is_in (world.words REGISTER)
+  pub tells : map.get (held_after map_object world.changes) 0 ≡ content (world.words REGISTER) world.words
+  pub names : IsName (world.words REGISTER) world.used
   pub clear : versioned_bit (world.words REGISTER) ≡ 0
   pub fits : world.words REGISTER < 2 ^ 64
   pub flagged : (change : Change) → Among change world.changes → Flagged world change.list
@@ -151,6 +161,7 @@ pub record WasDown (world : World) (flag : ℕ) : Type 0 where
 pub record WasRead (world : World) (op : Op) (flag register : ℕ) : Type 0 where
   pub down : WasDown world flag
   pub key : op.key ≡ 0
+  pub value : op.value < 2 ^ 32
   pub toggles : toggles op register ≡ true
   pub fits : register < 2 ^ 64
   pub same : world.words FLAG ≡ flag → world.words REGISTER ≡ register
@@ -182,7 +193,7 @@ is_ready _ = ⊥
 
 abbrev pub flagged_form : NormalForm Search Help
 flagged_form = record {
-  client = client.Buckets;
+  client = client.Tree;
   needs_block = λ op. true;
   begin_of = begin_of;
   request_of = request_of;
@@ -199,7 +210,7 @@ flagged_form = record {
   wraps = λ help. Unit {0};
   keeps = λ search seen word. ⊥;
   is_forced = λ search seen. ⊥;
-  may_list = λ op. op.code == ADD || op.code == DEL;
+  may_list = λ op. op.code == SET || op.code == REM;
   is_versioned = λ place. place == FLAG || place == REGISTER || field_at place == 28;
   is_listable = λ place. place == FLAG;
   shape = Shape;

@@ -1,15 +1,14 @@
--- A set of at most the key 0: one register word says whether the key is in it. A call that changes the set
--- sets the flag word by its list; the flag names the list's block, in which the offer noted the register
--- as the call had read it. Whoever reads the flag has it decided in the block whether the change is made or
--- given up, changes the register from what is noted if it is made, and then takes the flag away, all by
--- exchanges beside the lists.
+-- A map of at most the key 0: one register word is 0, or names the node that has the key's value. A call
+-- that changes the map sets the flag word by its list; the flag names the list's block, in which the offer
+-- put the call's value and noted the register as the call had read it. Whoever reads the flag has it decided
+-- in the block whether the change is made or given up, changes the register from what is noted if it is
+-- made, and then takes the flag away, all by exchanges beside the lists.
 use Rattle.std.specs.Prelude.{ℕ, ◌+◌, ◌*◌, ◌/◌, ◌==◌, not, if◌then◌else◌, Bool, true, false, List, [], ◌∷◌}
 use Rattle.lin_report.specs.declared.calls.Op.{Op}
-use Rattle.lin_report.specs.declared.calls.Reply.{Reply}
-use Rattle.lin_report.specs.declared.calls.Reply.TheVariants.{Yes, No}
-use Rattle.lin_report.specs.declared.calls.Outcome.TheVariants.{Plain}
-use Rattle.lin_report.specs.declared.calls.TheConstants.{ADD, DEL, HAS}
-use Rattle.lin_report.specs.Object.{yes_if}
+use Rattle.lin_report.specs.declared.calls.Outcome.{Outcome}
+use Rattle.lin_report.specs.declared.calls.Reply.TheVariants.{Yes, No, Absent}
+use Rattle.lin_report.specs.declared.calls.Outcome.TheVariants.{Plain, ValueOf}
+use Rattle.lin_report.specs.declared.calls.TheConstants.{SET, REM, GET}
 use Rattle.step_memory.specs.declared.steps.Request.{Request}
 use Rattle.step_memory.specs.declared.steps.Request.TheVariants.{Load, Exchange}
 use Rattle.step_memory.specs.declared.steps.Seen.{Seen}
@@ -22,12 +21,16 @@ use Rattle.normal_traits.specs.declared.form.Wrapped.TheVariants as wrapped
 use Rattle.normal_traits.specs.declared.lists.Entry.{Entry}
 use Rattle.normal_traits.specs.NormalForm.{Offered}
 
--- the two words of the structure, and the word of a block in which its call notes the register
+-- the two words of the structure, and the words of a block that have the value of its node 1 and the
+-- register as its call noted it
 abbrev pub FLAG : ℕ
-FLAG = block_place 0 12
+FLAG = block_place 0 16
 
 abbrev pub REGISTER : ℕ
-REGISTER = block_place 0 13
+REGISTER = block_place 0 14
+
+abbrev pub value_at : ℕ → ℕ
+value_at block = block_place block 13
 
 abbrev pub note_place : ℕ → ℕ
 note_place block = block_place block 27
@@ -50,21 +53,24 @@ flag_value block = 4 * block + 1
 abbrev pub flag_word : ℕ → ℕ → ℕ
 flag_word from block = changed_word from (flag_value block)
 
--- whether the register says that the key is in the set
+-- whether the register says that the key has a value
 abbrev pub is_in : ℕ → Bool
-is_in register = versioned_value register == 1
+is_in register = not (versioned_value register == 0)
 
--- the register after a change
-abbrev pub toggled : ℕ → ℕ
-toggled register = changed_word register (if is_in register then 0 else 1)
+-- the register after the change of a block: it is 0, or names node 1 of the block
+abbrev pub toggled_value : ℕ → ℕ → ℕ
+toggled_value register block = if is_in register then 0 else flag_value block
 
--- whether an operation changes the set, by its register
+abbrev pub toggled : ℕ → ℕ → ℕ
+toggled register block = changed_word register (toggled_value register block)
+
+-- whether an operation changes the map, by its register
 abbrev pub toggles : Op → ℕ → Bool
-toggles op register = if op.code == ADD then not (is_in register) else (if op.code == DEL then is_in register else false)
+toggles op register = if op.code == SET then not (is_in register) else (if op.code == REM then is_in register else false)
 
 -- what an operation that doesn't is told
-abbrev pub told : Op → ℕ → Reply
-told op register = if op.code == HAS then yes_if (is_in register) else No
+abbrev pub told : Op → ℕ → Outcome
+told op register = if op.code == GET then (if is_in register then ValueOf (versioned_value register) else Plain Absent) else Plain No
 
 -- help of a flag, by its word: it is decided whether its change is made, and what was decided is read; if
 -- it is made, the note is read and the register is changed from it; the flag is taken away
@@ -89,7 +95,7 @@ abbrev pub request_of_help : Help → Request
 request_of_help (Deciding flag make) = Exchange (decision_place (versioned_value flag / 4)) 0 (decided make)
 request_of_help (Checking flag) = Load (decision_place (versioned_value flag / 4))
 request_of_help (Reading flag) = Load (note_place (versioned_value flag / 4))
-request_of_help (Changing flag noted) = Exchange REGISTER noted (toggled noted)
+request_of_help (Changing flag noted) = Exchange REGISTER noted (toggled noted (versioned_value flag / 4))
 request_of_help (Clearing flag made) = Exchange FLAG flag (changed_word flag 0)
 
 abbrev pub feed_help : Help → Seen → Help
@@ -105,9 +111,9 @@ request_of (AtRegister op flag) = Load REGISTER
 request_of (Named op flag register) = Load FLAG
 request_of (Helping op help) = request_of_help help
 
--- what is done with a flag: `has` would give the flag's change up, each other makes it; one that is set by a list that isn't decided yet is read again
+-- what is done with a flag: `get` would give the flag's change up, each other makes it; one that is set by a list that isn't decided yet is read again
 abbrev pub after_flag : Op → ℕ → Search
-after_flag op flag = if versioned_bit flag == 0 then (if versioned_value flag == 0 then AtRegister op flag else Helping op (Deciding flag (not (op.code == HAS)))) else AtFlag op
+after_flag op flag = if versioned_bit flag == 0 then (if versioned_value flag == 0 then AtRegister op flag else Helping op (Deciding flag (not (op.code == GET)))) else AtFlag op
 
 abbrev pub after_register : Op → ℕ → ℕ → Search
 after_register op flag register = if op.key == 0 then (if toggles op register then Named op flag register else AtFlag op) else AtFlag op
@@ -125,7 +131,7 @@ feed_of (Helping op help) seen = after_help op help seen
 abbrev pub found_of : Search → Seen → Found
 found_of (AtFlag op) seen = found.Going
 found_of (AtRegister op flag) seen =
-    if op.key == 0 then (if toggles op seen.before then found.Ready else found.Answer (Plain (told op seen.before))) else found.Going
+    if op.key == 0 then (if toggles op seen.before then found.Ready else found.Answer (told op seen.before)) else found.Going
 found_of (Named op flag register) seen = found.Going
 found_of (Helping op help) seen = found.Going
 
@@ -134,7 +140,7 @@ abbrev pub flag_entry : ℕ → ℕ → Entry
 flag_entry from block = record { target = FLAG; from = from; to = flag_word from block }
 
 abbrev pub offer_of : Search → Op → ℕ → Offered
-offer_of (Named o flag register) op block = record { entries = flag_entry flag block ∷ []; stores = (note_place block, register) ∷ (decision_place block, 0) ∷ [] }
+offer_of (Named o flag register) op block = record { entries = flag_entry flag block ∷ []; stores = (value_at block, op.value) ∷ (note_place block, register) ∷ (decision_place block, 0) ∷ [] }
 offer_of _ op block = record { entries = []; stores = [] }
 
 -- the word to which a list's first entry sets the flag

@@ -1,4 +1,4 @@
-//! A register of one key with a flag, a small client whose changes are made beside the lists: a list sets
+//! A map of at most one key with a flag, a small client whose changes are made beside the lists: a list sets
 //! the flag, and whoever comes by makes the flag's change, or gives it up, and takes the flag away.
 #![tactic(auto)]
 
