@@ -1,4 +1,4 @@
--- Places, words and the set of one key.
+-- Places, words and the map of one key.
 use Rattle.std.proofs.Common.{◌≡◌, ◌≢◌, ℕ, ◌^◌, ◌<◌, Bool, true, false, not, ◌||◌, ◌&&◌, List, [], ◌∷◌, refl, sym, ap, ◌∙◌, inl, inr, arith, None, is_some, Some, subst}
 use Rattle.std.specs.Prelude.{◌==◌, if◌then◌else◌, All, nat_le}
 use Rattle.std.specs.FinMap as map

@@ -7,3 +7,4 @@ pub mod Kept
 pub mod Observed
 pub mod Fed
 pub mod Whole
+pub mod Stays
