@@ -1,0 +1,10 @@
+pub mod Basics
+pub mod Effects
+pub mod Later
+pub mod Journal
+pub mod Steps
+pub mod Kept
+pub mod Observed
+pub mod Fed
+pub mod Whole
+pub mod Stays
