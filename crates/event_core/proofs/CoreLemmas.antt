@@ -81,7 +81,7 @@ module _ {S W : Type 0} where
       ∙ ap (move_of_seat i (Some s.mech)) (file_at seats i s at)
       ∙ none_by i s.file s.mech (rests s.mech.phase) over
 
-  abbrev made : Setup → List (List Op) → List ℕ → List (Mech S W) → List Receipt → List Event → CoreView S W
+  abbrev pub made : Setup → List (List Op) → List ℕ → List (Mech S W) → List Receipt → List Event → CoreView S W
   made setup files words mechs receipts events = record { setup = setup; files = files; state = record { words = words; mechs = mechs; receipts = receipts; events = events } }
 
   -- a seat that begins nothing is left as it was
@@ -98,7 +98,7 @@ module _ {S W : Type 0} where
       → map (λ (seat : Seat S W). seat.file) (slice_set seats i s2) ≡ map (λ (seat : Seat S W). seat.file) seats
   same_files seats i s s2 at file = map-set_same (λ (seat : Seat S W). seat.file) seats i s2 s (file ∙ ap (λ (seat : Seat S W). seat.file) at)
 
-  rebuilt : (setup : Setup) {files files' : List (List Op)} {words words' : List ℕ} {mechs mechs' : List (Mech S W)} {receipts receipts' : List Receipt} {events events' : List Event}
+  pub rebuilt : (setup : Setup) {files files' : List (List Op)} {words words' : List ℕ} {mechs mechs' : List (Mech S W)} {receipts receipts' : List Receipt} {events events' : List Event}
       → files' ≡ files → words' ≡ words → mechs' ≡ mechs → receipts' ≡ receipts → events' ≡ events
       → made setup files' words' mechs' receipts' events' ≡ made setup files words mechs receipts events
   rebuilt setup {files} {files'} {words} {words'} {mechs} {mechs'} {receipts} {receipts'} {events} {events'} f w m r e =

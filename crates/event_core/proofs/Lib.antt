@@ -1,2 +1,3 @@
 pub mod SeatLemmas
+pub mod Seating
 pub mod CoreLemmas

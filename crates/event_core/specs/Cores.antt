@@ -1,5 +1,5 @@
 -- A run over command files, as a core holds it, and what a step of a seat makes of it.
-use Rattle.std.specs.Prelude.{ℕ, ◌+◌, ◌≤◌, List, map, sum_by, slice_get, Option, Some, None}
+use Rattle.std.specs.Prelude.{ℕ, ◌+◌, ◌≤◌, List, [], ◌∷◌, map, sum_by, slice_get, Option, Some, None}
 use Rattle.lin_report.specs.declared.calls.Op.{Op}
 use Rattle.lin_report.specs.declared.calls.Receipt.{Receipt}
 use Rattle.lin_report.specs.declared.events.Event.{Event}
@@ -9,8 +9,8 @@ use Rattle.fast_slow_engine.specs.declared.setup.Setup.{Setup}
 use Rattle.fast_slow_engine.specs.declared.setup.Turn.{Turn}
 use Rattle.fast_slow_engine.specs.declared.setup.Turn.TheVariants as turn
 use Rattle.fast_slow_engine.specs.Mechs.{Mech}
-use Rattle.fast_slow_engine.specs.PhaseTable.{mech_request, mech_turn}
-use Rattle.fast_slow_engine.specs.Runs.{Move, RunState, begun, next_move, run_step}
+use Rattle.fast_slow_engine.specs.PhaseTable.{mech_new, mech_request, mech_turn}
+use Rattle.fast_slow_engine.specs.Runs.{Move, RunState, begun, next_move, opening_run, run_step}
 use Rattle.event_core.specs.declared.cores.CoreTurn.{CoreTurn}
 use Rattle.event_core.specs.declared.cores.CoreTurn.TheVariants.{Idle, Going, Returned}
 use Rattle.event_core.specs.Seats.{Seat, lines_owed, events_owed}
@@ -56,3 +56,12 @@ turn_after form (Some move) state = turn_by form (slice_get state.mechs move.sea
 -- what a step of a seat answers: Idle where it has no move, Returned where its call ends
 abbrev pub core_turn : {S W : Type 0} → NormalForm S W → ℕ → CoreView S W → CoreTurn
 core_turn form seat view = turn_after form (next_move view.files seat view.state) view.state
+
+-- a run of these files that made no step
+abbrev pub core_new : {S W : Type 0} → NormalForm S W → Setup → List (List Op) → CoreView S W
+core_new form setup files = record { setup = setup; files = files; state = opening_run form setup }
+
+-- seats from a number on that made no call, one for each file
+abbrev pub new_seats : {S W : Type 0} → Setup → ℕ → List (List Op) → List (Seat S W)
+new_seats setup seat [] = []
+new_seats setup seat (file ∷ files) = record { mech = mech_new seat setup; file = file } ∷ new_seats setup (seat + 1) files

@@ -1,13 +1,17 @@
 //! A run of seats over their command files.
-ghost use Rattle.std.specs.Prelude.{◌≡◌, ◌+◌, ◌++◌, ◌<◌, ◌≤◌, length, vec_len, vec_capacity};
+ghost use Rattle.std.specs.Prelude.{◌≡◌, ◌+◌, ◌++◌, ◌<◌, ◌≤◌, All, IfOk, Some, [], length, map, slice_get, sum_by, vec_len, vec_capacity};
+ghost use Rattle.node_arena.specs.Opening.{IsLaidOut};
+ghost use Rattle.event_core.specs.Seats.{IsFileOf};
 ghost use Rattle.std.specs.Option.{option_to_list};
 ghost use Rattle.fast_slow_engine.specs.Runs.{returned};
-ghost use Rattle.event_core.specs.Cores.{core_turn_of};
+ghost use Rattle.event_core.specs.Cores.{core_new, core_turn_of, new_seats};
 
 use crate::seats::Seat;
 use fast_slow_engine::{Setup, Turn};
-use lin_report::{Event, Receipt};
+use lin_report::{Event, NoMemory, Op, Receipt};
+use node_arena::opening_words;
 use normal_traits::Normalized;
+use std::alloc::Global;
 use std::marker::Model;
 use step_memory::Cells;
 
@@ -44,7 +48,30 @@ impl<C: Normalized> Model for Core<C> {
 }
 
 impl<C: Normalized> Core<C> {
+    ghost use Rattle.fast_slow_engine.specs.Mechs.{Mech};
+    ghost use Rattle.fast_slow_engine.specs.PhaseTable.{lists};
     ghost use Rattle.event_core.specs.Cores.{core_stepped, core_turn};
+
+    /// The run of these files that made no step, one seat for each. All room is made here: after
+    /// `NoMemory` the files are gone, and nothing else is left.
+    pub fn new(alloc: Global, setup: Setup, files: Vec<Vec<Op>>) -> Result<Core<C>, NoMemory>
+        requires client { IsLaidOut C.form.client }
+        requires seats { length files.items ≡ setup.seats }
+        requires files { All (λ file. IsFileOf C.form.client file.items) files.items }
+        ensures core { IfOk result (λ core. core ≡ core_new C.form setup (map (λ file. file.items) files.items)) }
+    {
+        let words = opening_words(alloc, setup.cap, C::CLIENT)?;
+        let commands = commands_of(&files);
+        let receipts = room_for(alloc, commands)?;
+        let events = room_for(alloc, EVENTS * commands)?;
+        Ok(Core {
+            setup,
+            cells: Cells::new(words),
+            seats: seats_of(alloc, setup, files)?,
+            receipts,
+            events,
+        })
+    }
 
     /// Makes one step of a seat. Where no call of it runs, it begins the next command of its file first.
     pub fn step(&mut self, seat: u32) -> CoreTurn
@@ -61,6 +88,81 @@ impl<C: Normalized> Core<C> {
         note(&mut self.events, event);
         keep(&mut self.receipts, turn)
     }
+
+    /// Whether the next step of a seat is the exchange of an entry of a list. A seat without a call has no
+    /// such step.
+    pub fn next_is_listed(&self, seat: u32) -> bool
+        requires seat { seat < length self.now.files }
+        ensures { (mech : Mech C.Search C.Wrap) → slice_get self.now.state.mechs seat ≡ Some mech → result ≡ lists mech.phase }
+    {
+        self.seats[seat as usize].next_is_listed()
+    }
+
+    /// The lines of the calls that returned, in this order.
+    pub fn receipts(&self) -> &[Receipt]
+        ensures { result.now ≡ self.now.state.receipts }
+    {
+        self.receipts.as_slice()
+    }
+
+    /// The events, in order of the steps.
+    pub fn events(&self) -> &[Event]
+        ensures { result.now ≡ self.now.state.events }
+    {
+        self.events.as_slice()
+    }
+
+    /// The words of the memory.
+    pub fn words(&self) -> &[u64]
+        ensures { result.now ≡ self.now.state.words }
+    {
+        self.cells.words()
+    }
+}
+
+/// The most events of one call: it begins, is published, completes and returns.
+const EVENTS: usize = 4;
+
+/// An empty vector with room for so many.
+fn room_for<T: Drop>(alloc: Global, count: usize) -> Result<Vec<T>, NoMemory>
+    ensures items { IfOk result (λ room. room.items ≡ []) }
+    ensures len { IfOk result (λ room. vec_len room ≡ 0) }
+    ensures capacity { IfOk result (λ room. vec_capacity room ≡ count) }
+{
+    Vec::with_capacity(alloc, count).map_err(|_| NoMemory)
+}
+
+/// How many commands there are in all files.
+fn commands_of(files: &[Vec<Op>]) -> usize
+    requires few { length files.now ≤ 8 }
+    requires short { All (λ file. length file.items ≤ 65535) files.now }
+    ensures count { result ≡ sum_by (λ file. length file.items) files.now }
+    ensures few { result ≤ 524280 }
+{
+    let mut commands = 0;
+    for file in files {
+        commands += file.len();
+    }
+    commands
+}
+
+/// A seat for each file.
+fn seats_of<C: Normalized>(
+    alloc: Global,
+    setup: Setup,
+    files: Vec<Vec<Op>>,
+) -> Result<Vec<Seat<C>>, NoMemory>
+    requires seats { length files.items ≡ setup.seats }
+    requires files { All (λ file. IsFileOf C.form.client file.items) files.items }
+    ensures seats { IfOk result (λ seats. seats.items ≡ new_seats setup 0 (map (λ file. file.items) files.items)) }
+{
+    let mut seats = room_for(alloc, files.len())?;
+    let mut rest = files;
+    while !rest.is_empty() {
+        let file = rest.remove(0);
+        seats.push_reserved(Seat::new(seats.len() as u32, setup, file));
+    }
+    Ok(seats)
 }
 
 /// Puts the event of a step last, where it has one.

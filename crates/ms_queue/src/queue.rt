@@ -12,6 +12,8 @@ use step_memory::{Request, Seen};
 pub struct MsQueue;
 
 impl Normalized for MsQueue {
+    ghost use Rattle.std.specs.Prelude.{refl};
+    ghost use Rattle.lin_report.specs.declared.calls.Client.{Client};
     ghost use Rattle.queue_laws.specs.Form.{queue_form};
     ghost use Rattle.ms_queue.specs.ProvedLaws.{queue_laws};
 
@@ -20,6 +22,8 @@ impl Normalized for MsQueue {
     type Wrap = QueueWrap;
 
     const CLIENT: Client = Client::Queue;
+
+    ghost CLIENT = { Client.Queue };
 
     ghost form = { queue_form };
 
@@ -60,4 +64,6 @@ impl Normalized for MsQueue {
     }
 
     ghost laws = { queue_laws };
+
+    ghost named = { refl };
 }

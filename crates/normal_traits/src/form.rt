@@ -34,6 +34,7 @@ pub enum Wrapped {
 pub trait Normalized {
     ghost use Rattle.std.specs.Prelude.{◌≡◌, ◌<◌, ◌^◌, IsTrue, length};
     ghost use Rattle.lin_report.specs.Commands.{is_command};
+    ghost use Rattle.lin_report.specs.declared.calls.Client.{Client};
     ghost use Rattle.normal_traits.specs.NormalForm.{NormalForm};
     ghost use Rattle.normal_traits.specs.declared.form.Found.TheVariants as found;
     ghost use Rattle.normal_traits.specs.declared.form.Wrapped.TheVariants as wrapped;
@@ -46,6 +47,9 @@ pub trait Normalized {
 
     /// The client word that names the structure.
     const CLIENT: Client;
+
+    /// The same, for contracts.
+    ghost CLIENT: { Client };
 
     /// The functions below as definitions, and what their states mean.
     ghost form: { NormalForm Self.Search Self.Wrap };
@@ -105,4 +109,7 @@ pub trait Normalized {
 
     /// What the steps amount to.
     ghost laws: { Laws form };
+
+    /// The form is that of the named structure.
+    ghost named: { CLIENT ≡ form.client };
 }

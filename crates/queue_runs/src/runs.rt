@@ -1,0 +1,55 @@
+//! Runs of the queue over one or two command files.
+ghost use Rattle.std.specs.Prelude.{◌≡◌, ◌<◌, ◌≤◌, IfSome, length};
+
+use event_core::Core;
+use fast_slow_engine::Setup;
+use lin_report::Client;
+use ms_queue::MsQueue;
+use script_reader::read_script;
+use std::alloc::Global;
+
+/// The failures after which a call would ask for help.
+const LIMIT: u32 = 3;
+
+/// The run of one seat over a command file, where it is one of the queue.
+pub fn one_file(alloc: Global, file: &[u8], cap: u32) -> Option<Core<MsQueue>>
+    requires some_block { 1 ≤ cap }
+    requires few_blocks { cap ≤ 65536 }
+    ensures seats { IfSome result (λ core. length core.files ≡ 1) }
+{
+    let commands = read_script(alloc, file, Client::Queue).ok()?;
+    let files = vec![in alloc; commands].ok()?;
+    let setup = Setup {
+        seats: 1,
+        cap,
+        limit: LIMIT,
+    };
+    Core::new(alloc, setup, files).ok()
+}
+
+/// The run of two seats over a command file each, where both are of the queue.
+pub fn two_files(alloc: Global, first: &[u8], second: &[u8], cap: u32) -> Option<Core<MsQueue>>
+    requires some_block { 1 ≤ cap }
+    requires few_blocks { cap ≤ 65536 }
+    ensures seats { IfSome result (λ core. length core.files ≡ 2) }
+{
+    let first_commands = read_script(alloc, first, Client::Queue).ok()?;
+    let second_commands = read_script(alloc, second, Client::Queue).ok()?;
+    let files = vec![in alloc; first_commands, second_commands].ok()?;
+    let setup = Setup {
+        seats: 2,
+        cap,
+        limit: LIMIT,
+    };
+    Core::new(alloc, setup, files).ok()
+}
+
+/// Makes so many steps of a seat.
+pub fn make_steps(core: &mut Core<MsQueue>, seat: u32, count: u32)
+    requires { seat < length core.old.files }
+    ensures { core.new.files ≡ core.old.files }
+{
+    for _ in 0..count {
+        core.step(seat);
+    }
+}
