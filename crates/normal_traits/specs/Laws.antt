@@ -114,7 +114,7 @@ pub record Laws {S W : Type 0} (form : NormalForm S W) : Type 0 where
   -- a ready search is of an operation that may change the object, and its offer is good
   pub lists : (world : World) (search : S) (op : Op) (since : ℕ) → IsCommandOf form.client op → form.knows search op world since → form.is_ready search → IsTrue (form.may_list op) × IsTrue (may_exhaust op)
   pub offers : (world : World) (search : S) (op : Op) (since block : ℕ) → IsCommandOf form.client op → form.shape world → form.knows search op world since → form.is_ready search → block < 2 ^ 17 → IsGoodOffer form world block (form.offer_of search op block)
-  -- the list alone uses a block where the operation needs one
+  -- where the operation needs no block, its list is the same for every block
   pub same_entries : (search : S) (op : Op) (block other : ℕ) → form.needs_block op ≡ false → (form.offer_of search op block).entries ≡ (form.offer_of search op other).entries
   -- a wrap-up asks for loads and exchanges of its own words, and its end is right
   pub wrap_asks_well : (world : World) (wrap : W) (list : Listed) (stop : ℕ) → form.shape world → form.wraps wrap → form.follows wrap list stop world → AsksWell form world (form.wrap_request_of wrap)

@@ -74,7 +74,8 @@ first_changes count changes = drop (length changes - count) changes
 abbrev pub is_state : ℕ → Bool
 is_state field = field == STATE_FIELD || field == STATE_FIELD + 1
 
--- the words that a client may speak of: head and tail of the queue, and those of the used blocks
+-- the words that a client may speak of: head and tail of the queue, and those of the used blocks, but for
+-- the states of their entries; block 0 has no entry
 abbrev pub is_word : World → ℕ → Bool
 is_word world place =
     place == HEAD || place == TAIL

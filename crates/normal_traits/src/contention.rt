@@ -30,7 +30,7 @@ impl Contention {
         ensures failures { self.new.failures ≡ min (self.old.failures + 1) self.old.limit }
         ensures limit { self.new.limit ≡ self.old.limit }
     {
-        if self.failures < self.limit {
+        if self.may_try() {
             self.failures += 1;
         }
     }
