@@ -65,3 +65,7 @@ core_new form setup files = record { setup = setup; files = files; state = openi
 abbrev pub new_seats : {S W : Type 0} → Setup → ℕ → List (List Op) → List (Seat S W)
 new_seats setup seat [] = []
 new_seats setup seat (file ∷ files) = record { mech = mech_new seat setup; file = file } ∷ new_seats setup (seat + 1) files
+
+-- the run with other lines
+abbrev pub with_receipts : {S W : Type 0} → List Receipt → CoreView S W → CoreView S W
+with_receipts receipts view = record view { state = record view.state { receipts = receipts } }

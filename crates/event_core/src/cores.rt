@@ -50,7 +50,10 @@ impl<C: Normalized> Model for Core<C> {
 impl<C: Normalized> Core<C> {
     ghost use Rattle.fast_slow_engine.specs.Mechs.{Mech};
     ghost use Rattle.fast_slow_engine.specs.PhaseTable.{lists};
-    ghost use Rattle.event_core.specs.Cores.{core_stepped, core_turn};
+    ghost use Rattle.std.specs.Prelude.{IsPermutation};
+    ghost use Rattle.std.specs.List.Sorted.{IsNonDecreasingBy};
+    ghost use Rattle.lin_report.specs.declared.calls.Receipt.{Receipt};
+    ghost use Rattle.event_core.specs.Cores.{core_stepped, core_turn, with_receipts};
 
     /// The run of these files that made no step, one seat for each. All room is made here: after
     /// `NoMemory` the files are gone, and nothing else is left.
@@ -103,6 +106,15 @@ impl<C: Normalized> Core<C> {
         ensures { result.now ≡ self.now.state.receipts }
     {
         self.receipts.as_slice()
+    }
+
+    /// Puts the lines in rising order of begin. A line of a later step is put last.
+    pub fn sort_by_begin(&mut self)
+        ensures same { IsPermutation self.old.state.receipts self.new.state.receipts }
+        ensures order { IsNonDecreasingBy (λ (r : Receipt). r.begin) self.new.state.receipts }
+        ensures kept { self.new ≡ with_receipts self.new.state.receipts self.old }
+    {
+        self.receipts.sort_unstable_by_key(|receipt| receipt.begin);
     }
 
     /// The events, in order of the steps.

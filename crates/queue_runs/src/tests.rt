@@ -36,8 +36,8 @@ fn a_put_takes_15_steps_and_a_take_8(rt: HostRuntime) {
     };
     make_steps(&mut core, 0, 14);
     assert_eq!(rt; core.receipts().len(), 0);
-    assert_eq!(rt; core.words()[46], 33_554_437);
-    assert_eq!(rt; core.words()[21], 33_554_437);
+    assert_eq!(rt; core.words().get(46), Some(&33_554_437));
+    assert_eq!(rt; core.words().get(21), Some(&33_554_437));
     assert_eq!(rt; core.step(0), CoreTurn::Returned);
     make_steps(&mut core, 0, 7);
     assert_eq!(rt;
@@ -46,8 +46,8 @@ fn a_put_takes_15_steps_and_a_take_8(rt: HostRuntime) {
     );
     assert_eq!(rt; core.step(0), CoreTurn::Returned);
     assert_eq!(rt;
-        core.receipts()[1],
-        line(0, 2, ONE_TAKE, Reply::Value(7), 2, 3)
+        core.receipts().get(1),
+        Some(&line(0, 2, ONE_TAKE, Reply::Value(7), 2, 3))
     );
     assert_eq!(rt; core.step(0), CoreTurn::Idle);
     assert_eq!(rt; core.events().len(), 4);
@@ -87,7 +87,7 @@ fn the_second_put_of_one_block_is_exhausted(rt: HostRuntime) {
         ]
         .as_slice()
     );
-    assert_eq!(rt; core.words()[2], 1);
+    assert_eq!(rt; core.words().get(2), Some(&1));
 }
 
 #[test]
@@ -103,6 +103,14 @@ fn a_put_that_loses_once_keeps_its_block_in_hand(rt: HostRuntime) {
         [line(1, 1, PUT_7, Reply::Done, 1, 2)].as_slice()
     );
     make_steps(&mut core, 0, 12);
-    assert_eq!(rt; core.receipts()[1], line(0, 1, PUT_7, Reply::Done, 0, 3));
-    assert_eq!(rt; core.words()[2], 2);
+    assert_eq!(rt;
+        core.receipts().get(1),
+        Some(&line(0, 1, PUT_7, Reply::Done, 0, 3))
+    );
+    core.sort_by_begin();
+    assert_eq!(rt;
+        core.receipts().get(0),
+        Some(&line(0, 1, PUT_7, Reply::Done, 0, 3))
+    );
+    assert_eq!(rt; core.words().get(2), Some(&2));
 }
