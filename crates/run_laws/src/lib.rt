@@ -1,0 +1,5 @@
+//! Laws of every run: what holds of the seats, the files, the ticks and the claims after any moves that can
+//! follow each other.
+#![tactic(auto)]
+
+pub mod seats;
