@@ -2,4 +2,5 @@
 //! follow each other.
 #![tactic(auto)]
 
+pub mod files;
 pub mod seats;
