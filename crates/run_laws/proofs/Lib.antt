@@ -4,3 +4,8 @@ pub mod FileLemmas
 pub mod Begins
 pub mod StepKinds
 pub mod TickLemmas
+pub mod Pairs
+pub mod Summaries
+pub mod CallLemmas
+pub mod CountLemmas
+pub mod ReportLemmas

@@ -29,7 +29,7 @@ module _ {S W : Type 0} (form : NormalForm S W) where
       let inside : seat < setup.seats = subst (λ n. seat < n) (length-map-range_with_len make 0 setup.seats) (slice_get_within mechs seat mech found) in
       some_same mech (make seat) (sym found ∙ slice_get-get_or mechs seat mech (slice_get_within mechs seat mech found) ∙ ap Some (get_or-map-range_with_len make 0 setup.seats seat seat mech inside (omega arith)))
 
-  begun_own : (setup : Setup) (seat : ℕ) (begins : Option Op) (mech : Mech S W) → IsMechOf setup seat mech → IsMechOf setup seat (begun begins mech)
+  pub begun_own : (setup : Setup) (seat : ℕ) (begins : Option Op) (mech : Mech S W) → IsMechOf setup seat mech → IsMechOf setup seat (begun begins mech)
   begun_own setup seat None mech own = own
   begun_own setup seat (Some op) mech own = record { seat = own.seat; setup = own.setup }
 

@@ -1,3 +1,4 @@
 pub mod Seats
 pub mod Files
 pub mod Ticks
+pub mod Reports

@@ -1,8 +1,9 @@
 -- The tick counter, and the report of a run.
-use Rattle.std.specs.Prelude.{◌≡◌, ℕ, Bool, true, false, List, [], ◌∷◌, length, slice_get, slice_index, flat_map, Some}
+use Rattle.std.specs.Prelude.{◌≡◌, ℕ, ◌==◌, nat_lt, if◌then◌else◌, count_by, Bool, true, false, List, [], ◌∷◌, length, slice_get, slice_index, flat_map, Some}
 use Rattle.std.specs.Option.{option_to_list}
 use Rattle.lin_report.specs.declared.calls.PendingCall.{PendingCall}
 use Rattle.lin_report.specs.Calls.{Report, report_of}
+use Rattle.lin_report.specs.Report.{ticks_of}
 use Rattle.step_memory.specs.declared.steps.Request.{Request}
 use Rattle.step_memory.specs.Step.{words_after}
 use Rattle.node_arena.specs.declared.places.TheConstants.{TICKS}
@@ -24,6 +25,19 @@ draws_tick phase.Begin = true
 draws_tick (phase.End reply) = true
 draws_tick _ = false
 
+-- the calls that run, in order of their seats
+abbrev pub pending_of : {S W : Type 0} → List (Mech S W) → List PendingCall
+pending_of mechs = flat_map (λ mech. option_to_list (mech_pending mech)) mechs
+
+-- the report of a run: the calls that returned and those that run
+abbrev pub report_of_run : {S W : Type 0} → RunState S W → Report
+report_of_run state = report_of state.receipts (pending_of state.mechs)
+
+-- each tick below the counter is that of one begin or return of the report, and no other tick is
+pub record HasTicksOnce {S W : Type 0} (state : RunState S W) : Type 0 where
+  pub count : length (ticks_of (report_of_run state)) ≡ slice_index state.words TICKS
+  pub once : (t : ℕ) → count_by (λ tick. tick == t) (ticks_of (report_of_run state)) ≡ (if nat_lt t (slice_index state.words TICKS) then 1 else 0)
+
 module _ {S W : Type 0} (form : NormalForm S W) where
   -- the move leaves the tick counter as it was, unless it draws a tick
   abbrev pub MoveKeepsTicks : RunState S W → Move → Type 0
@@ -42,10 +56,6 @@ module _ {S W : Type 0} (form : NormalForm S W) where
       (setup : Setup) (moves : List Move) → AreMoves form setup moves → KeepsTicks setup moves
       → slice_index (run_of form setup moves).words TICKS ≡ length (run_of form setup moves).events
 
--- the calls that run, in order of their seats
-abbrev pub pending_of : {S W : Type 0} → List (Mech S W) → List PendingCall
-pending_of mechs = flat_map (λ mech. option_to_list (mech_pending mech)) mechs
-
--- the report of a run: the calls that returned and those that run
-abbrev pub report_of_run : {S W : Type 0} → RunState S W → Report
-report_of_run state = report_of state.receipts (pending_of state.mechs)
+  -- the ticks of a run are drawn once each
+  abbrev pub TicksOnce : Type 0
+  TicksOnce = (setup : Setup) (moves : List Move) → AreMoves form setup moves → KeepsTicks setup moves → HasTicksOnce (run_of form setup moves)
