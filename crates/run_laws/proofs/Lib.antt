@@ -9,3 +9,5 @@ pub mod Summaries
 pub mod CallLemmas
 pub mod CountLemmas
 pub mod ReportLemmas
+pub mod ClaimKinds
+pub mod ClaimLemmas

@@ -2,3 +2,4 @@ pub mod Seats
 pub mod Files
 pub mod Ticks
 pub mod Reports
+pub mod Claims

@@ -2,6 +2,7 @@
 //! follow each other.
 #![tactic(auto)]
 
+pub mod claims;
 pub mod files;
 pub mod seats;
 pub mod ticks;
