@@ -11,3 +11,4 @@ pub mod CountLemmas
 pub mod ReportLemmas
 pub mod ClaimKinds
 pub mod ClaimLemmas
+pub mod PremiseLemmas

@@ -3,3 +3,4 @@ pub mod Files
 pub mod Ticks
 pub mod Reports
 pub mod Claims
+pub mod Premises

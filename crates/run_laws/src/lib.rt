@@ -4,5 +4,6 @@
 
 pub mod claims;
 pub mod files;
+pub mod premises;
 pub mod seats;
 pub mod ticks;
