@@ -1,0 +1,14 @@
+pub mod Steps
+pub mod SeatLemmas
+pub mod FileLemmas
+pub mod Begins
+pub mod StepKinds
+pub mod TickLemmas
+pub mod Pairs
+pub mod Summaries
+pub mod CallLemmas
+pub mod CountLemmas
+pub mod ReportLemmas
+pub mod ClaimKinds
+pub mod ClaimLemmas
+pub mod PremiseLemmas

@@ -1,0 +1,5 @@
+use Rattle.run_laws.proofs.ClaimLemmas.{claims_hold}
+use Rattle.run_laws.proofs.claims.claims_hold.Goals as goal
+
+pub returns : goal.returns
+returns g c = claims_hold g.C.Normalized.form

@@ -1,0 +1,5 @@
+use Rattle.run_laws.proofs.FileLemmas.{files_run}
+use Rattle.run_laws.proofs.files.files_run.Goals as goal
+
+pub returns : goal.returns
+returns g c = files_run g.C.Normalized.form
