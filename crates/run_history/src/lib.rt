@@ -1,0 +1,5 @@
+//! What there is of a run beside what code holds: the changes, the won exchanges, the used blocks and the
+//! lists that seats hold; and what each move does to the client's world.
+#![tactic(auto)]
+
+pub mod moves;
