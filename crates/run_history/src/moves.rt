@@ -1,5 +1,5 @@
 //! What a move does to the client's world.
-ghost use Rattle.run_history.specs.Moves.{WorldWords};
+ghost use Rattle.run_history.specs.Moves.{WorldWords, WorldGrows, OthersStay};
 
 use normal_traits::Normalized;
 
@@ -7,4 +7,14 @@ use normal_traits::Normalized;
 /// place.
 pub fn world_words<C: Normalized>()
     ensures { WorldWords C.form }
+{}
+
+/// Changes and won exchanges come in front of the others alone, and a used block stays used.
+pub fn world_grows<C: Normalized>()
+    ensures { WorldGrows C.form }
+{}
+
+/// A move of another seat leaves what is known of a seat.
+pub fn others_stay<C: Normalized>()
+    ensures { OthersStay C.form }
 {}
