@@ -1,2 +1,4 @@
 pub mod WordLemmas
 pub mod GrowLemmas
+pub mod HeldLemmas
+pub mod IdentityLemmas

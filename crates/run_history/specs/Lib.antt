@@ -1,2 +1,3 @@
 pub mod Ghosts
 pub mod Moves
+pub mod Lists

@@ -2,4 +2,5 @@
 //! lists that seats hold; and what each move does to the client's world.
 #![tactic(auto)]
 
+pub mod lists;
 pub mod moves;
