@@ -2,3 +2,4 @@ pub mod WordLemmas
 pub mod GrowLemmas
 pub mod HeldLemmas
 pub mod IdentityLemmas
+pub mod OwnLemmas

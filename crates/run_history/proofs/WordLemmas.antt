@@ -18,7 +18,7 @@ pub same_words : {A : Type 0} (f g : ℕ → A) → ((at : ℕ) → f at ≡ g a
 same_words f g each = λ i. λ at. each at i
 
 -- the word at a place, as a world has it
-abbrev word_in : List ℕ → ℕ → ℕ
+abbrev pub word_in : List ℕ → ℕ → ℕ
 word_in words at = get_or words at 0
 
 -- a word that was put stands at its place, and the others stay

@@ -1,3 +1,4 @@
 pub mod Ghosts
 pub mod Moves
 pub mod Lists
+pub mod OwnSteps

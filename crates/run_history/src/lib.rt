@@ -4,3 +4,4 @@
 
 pub mod lists;
 pub mod moves;
+pub mod own_steps;
