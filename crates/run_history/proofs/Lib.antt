@@ -3,3 +3,4 @@ pub mod GrowLemmas
 pub mod HeldLemmas
 pub mod IdentityLemmas
 pub mod OwnLemmas
+pub mod BesideLemmas

@@ -29,11 +29,11 @@ use Rattle.run_history.proofs.HeldLemmas.{ghost_moves}
 use Rattle.run_history.proofs.WordLemmas.{word_in, words_move}
 
 -- a world with the words of a list
-abbrev with_words : List ℕ → World → World
+abbrev pub with_words : List ℕ → World → World
 with_words words world = record { words = λ place. get_or words place 0; changes = world.changes; used = world.used; journal = world.journal }
 
 -- a world with these words
-abbrev of_words : (ℕ → ℕ) → World → World
+abbrev pub of_words : (ℕ → ℕ) → World → World
 of_words words world = record { words = words; changes = world.changes; used = world.used; journal = world.journal }
 
 -- a request that is not won leaves the word that it found
@@ -87,12 +87,12 @@ module _ {S W : Type 0} (form : NormalForm S W) where
       subst (λ (f : ℕ → ℕ). IsStep form (with_words words world) (of_words f world)) (sym ((words_move (Load place) words).kept refl)) nothing
 
   -- the world after a step of a machine, with its words
-  abbrev world_made : Phase S W → Mech S W → Option (Held S) → List ℕ → World → World
+  abbrev pub world_made : Phase S W → Mech S W → Option (Held S) → List ℕ → World → World
   world_made phase mech held words world =
       with_words (words_after (request_in form phase mech) words) (world_stepped form phase held (seen_of (request_in form phase mech) words) (with_words words world))
 
   -- it is that after the move
-  made_moved : (setup : Setup) (older : List Move) (move : Move) (mech : Mech S W) → slice_get (run_of form setup older).mechs move.seat ≡ Some mech
+  pub made_moved : (setup : Setup) (older : List Move) (move : Move) (mech : Mech S W) → slice_get (run_of form setup older).mechs move.seat ≡ Some mech
       → (let one = begun move.begins mech in
       world_made one.phase one ((ghost_of form setup older).seats move.seat).held (run_of form setup older).words (world_of form setup older) ≡ world_of form setup (move ∷ older))
   made_moved setup older move mech at =

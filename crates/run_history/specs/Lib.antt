@@ -2,3 +2,4 @@ pub mod Ghosts
 pub mod Moves
 pub mod Lists
 pub mod OwnSteps
+pub mod Beside

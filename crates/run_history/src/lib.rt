@@ -2,6 +2,7 @@
 //! lists that seats hold; and what each move does to the client's world.
 #![tactic(auto)]
 
+pub mod beside;
 pub mod lists;
 pub mod moves;
 pub mod own_steps;
