@@ -18,7 +18,7 @@ use Rattle.run_history.proofs.OwnLemmas.{with_words, of_words, world_made, made_
 use Rattle.run_history.proofs.WordLemmas.{word_in, words_move}
 
 -- what a request tells of a word of the memory
-seen_inside : (request : Request) (words : List ℕ) → place_of request < length words → seen_at request (word_in words (place_of request)) ≡ seen_of request words
+pub seen_inside : (request : Request) (words : List ℕ) → place_of request < length words → seen_at request (word_in words (place_of request)) ≡ seen_of request words
 unfolding seen_of
 seen_inside request words inside =
     let past : Seen = record { before = 0; won = false } in

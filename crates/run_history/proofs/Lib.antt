@@ -4,3 +4,4 @@ pub mod HeldLemmas
 pub mod IdentityLemmas
 pub mod OwnLemmas
 pub mod BesideLemmas
+pub mod EntryLemmas

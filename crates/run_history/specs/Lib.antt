@@ -3,3 +3,4 @@ pub mod Moves
 pub mod Lists
 pub mod OwnSteps
 pub mod Beside
+pub mod Entries

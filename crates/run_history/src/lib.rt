@@ -3,6 +3,7 @@
 #![tactic(auto)]
 
 pub mod beside;
+pub mod entries;
 pub mod lists;
 pub mod moves;
 pub mod own_steps;
