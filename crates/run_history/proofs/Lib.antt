@@ -5,3 +5,4 @@ pub mod IdentityLemmas
 pub mod OwnLemmas
 pub mod BesideLemmas
 pub mod EntryLemmas
+pub mod OpeningWorld

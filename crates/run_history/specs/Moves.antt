@@ -1,10 +1,11 @@
 -- What a move does to the client's world of a run.
-use Rattle.std.specs.Prelude.{◌≡◌, ◌≢◌, ℕ, ◌<◌, ◌≤◌, true, List, ◌∷◌, ◌++◌, length, slice_get, Some}
+use Rattle.std.specs.Prelude.{◌≡◌, ◌≢◌, ℕ, ◌<◌, ◌≤◌, true, List, [], ◌∷◌, ◌++◌, length, slice_get, Some}
 use Rattle.step_memory.specs.declared.steps.Request.{Request}
 use Rattle.step_memory.specs.Step.{place_of, word_after}
 use Rattle.normal_traits.specs.World.{Change, Won, World}
 use Rattle.normal_traits.specs.NormalForm.{NormalForm}
 use Rattle.normal_traits.specs.Steps.{with_word}
+use Rattle.normal_traits.specs.Laws.{opening_world}
 use Rattle.fast_slow_engine.specs.declared.setup.Setup.{Setup}
 use Rattle.fast_slow_engine.specs.Mechs.{Mech}
 use Rattle.fast_slow_engine.specs.PhaseTable.{mech_request}
@@ -41,3 +42,7 @@ module _ {S W : Type 0} (form : NormalForm S W) where
   OthersStay =
       (setup : Setup) (older : List Move) (move : Move) (seat : ℕ) → seat ≢ move.seat
       → (ghost_of form setup (move ∷ older)).seats seat ≡ (ghost_of form setup older).seats seat
+
+  -- the world of a run that made no move is the client's opening world
+  abbrev pub WorldOpens : Type 0
+  WorldOpens = (setup : Setup) → world_of form setup [] ≡ opening_world form

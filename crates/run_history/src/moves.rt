@@ -1,7 +1,12 @@
 //! What a move does to the client's world.
-ghost use Rattle.run_history.specs.Moves.{WorldWords, WorldGrows, OthersStay};
+ghost use Rattle.run_history.specs.Moves.{WorldOpens, WorldWords, WorldGrows, OthersStay};
 
 use normal_traits::Normalized;
+
+/// The world of a run that made no move is the client's opening world.
+pub fn world_opens<C: Normalized>()
+    ensures { WorldOpens C.form }
+{}
 
 /// The words of the world after a move are those before it, with what the request of the move leaves at its
 /// place.
