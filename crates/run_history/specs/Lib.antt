@@ -1,0 +1,6 @@
+pub mod Ghosts
+pub mod Moves
+pub mod Lists
+pub mod OwnSteps
+pub mod Beside
+pub mod Entries
