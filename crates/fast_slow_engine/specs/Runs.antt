@@ -1,11 +1,11 @@
 -- A run: one step of one seat after the other, over one memory.
-use Rattle.std.specs.Prelude.{◌≡◌, ℕ, ◌<◌, Bool, true, false, List, [], ◌∷◌, ◌++◌, map, slice_get, slice_set, Option, Some, None, option_map, IsTrue}
+use Rattle.std.specs.Prelude.{◌≡◌, ℕ, ◌<◌, Bool, true, false, List, [], ◌∷◌, ◌++◌, map, slice_get, slice_set, Option, Some, None, option_map}
 use Rattle.std.specs.List.{range_with_len}
 use Rattle.std.specs.Option.{option_to_list}
 use Rattle.lin_report.specs.declared.calls.Op.{Op}
 use Rattle.lin_report.specs.declared.calls.Receipt.{Receipt}
 use Rattle.lin_report.specs.declared.events.Event.{Event}
-use Rattle.lin_report.specs.Commands.{is_command}
+use Rattle.lin_report.specs.Commands.{IsCommandOf}
 use Rattle.step_memory.specs.Step.{words_after, seen_of}
 use Rattle.node_arena.specs.Opening.{opening_words}
 use Rattle.normal_traits.specs.NormalForm.{NormalForm}
@@ -70,7 +70,7 @@ module _ {S W : Type 0} (form : NormalForm S W) where
   -- begins none
   abbrev pub CanMove : Option Op → Mech S W → Type 0
   CanMove None mech = rests mech.phase ≡ false
-  CanMove (Some op) mech = (rests mech.phase ≡ true) × (mech.number < 65535) × IsTrue (is_command form.client op)
+  CanMove (Some op) mech = (rests mech.phase ≡ true) × (mech.number < 65535) × IsCommandOf form.client op
 
   pub record IsMove (state : RunState S W) (move : Move) : Type 0 where
     pub mech : Mech S W
