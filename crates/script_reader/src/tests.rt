@@ -129,42 +129,39 @@ const fn op(code: u8, key: u32, value: u32) -> Op {
     Op { code, key, value }
 }
 
+const PADDED_PUT: &[u8] = b"  put   0007 \n";
+
+const GREATEST_PUT: &[u8] = b"put 4294967295\n";
+
+const GREATEST_ADD: &[u8] = b"add 1048575\n";
+
 #[test]
 fn command_files_are_read(rt: HostRuntime) -> Result<(), Fail> {
-    let full = &LONG[..64];
+    let take = op(TAKE, 0, 0);
+    let put = op(PUT, 0, 7);
+    let puts = [put, op(PUT, 0, 1)];
+    let tree = [op(SET, 1, 9), op(GET, 1, 0)];
     for (client, file, ops) in [
-        (
-            Client::Queue,
-            b"take\n".as_slice(),
-            [op(TAKE, 0, 0)].as_slice(),
-        ),
+        (Client::Queue, b"take\n".as_slice(), [take].as_slice()),
         (Client::Queue, b"".as_slice(), [].as_slice()),
         (Client::Queue, b"\n\n\n".as_slice(), [].as_slice()),
-        (Client::Queue, full, [op(TAKE, 0, 0)].as_slice()),
+        (Client::Queue, &LONG[..64], [take].as_slice()),
+        (Client::Queue, b"put 7\nput 1".as_slice(), puts.as_slice()),
+        (Client::Queue, PADDED_PUT, [put].as_slice()),
         (
             Client::Queue,
-            b"put 7\nput 1".as_slice(),
-            [op(PUT, 0, 7), op(PUT, 0, 1)].as_slice(),
-        ),
-        (
-            Client::Queue,
-            b"  put   0007 \n".as_slice(),
-            [op(PUT, 0, 7)].as_slice(),
-        ),
-        (
-            Client::Queue,
-            b"put 4294967295\n".as_slice(),
+            GREATEST_PUT,
             [op(PUT, 0, 4_294_967_295)].as_slice(),
         ),
         (
             Client::List,
-            b"add 1048575\n".as_slice(),
+            GREATEST_ADD,
             [op(ADD, 1_048_575, 0)].as_slice(),
         ),
         (
             Client::Tree,
             b"set 1 9\nget 1\n".as_slice(),
-            [op(SET, 1, 9), op(GET, 1, 0)].as_slice(),
+            tree.as_slice(),
         ),
     ] {
         match read_script(rt.alloc(), file, client) {

@@ -73,7 +73,7 @@ fn owner_and_payload_fields_keep_apart(rt: HostRuntime) {
 }
 
 #[test]
-fn worked_words_are_packed_and_read(rt: HostRuntime) {
+fn worked_versioned_words_are_packed_and_read(rt: HostRuntime) {
     let dummy = VersionedWord {
         value: 1,
         modified: false,
@@ -88,6 +88,10 @@ fn worked_words_are_packed_and_read(rt: HostRuntime) {
         assert_eq!(rt; fields.pack(), word);
         assert_eq!(rt; VersionedWord::unpack(word), fields);
     }
+}
+
+#[test]
+fn worked_record_words_are_packed_and_read(rt: HostRuntime) {
     let done = pack_reply(DONE, 0);
     for (word, phase, payload, again) in [
         (9, Phase::Generate, 0, 9),
@@ -99,6 +103,10 @@ fn worked_words_are_packed_and_read(rt: HostRuntime) {
         assert_eq!(rt; (fields.phase, fields.payload), (phase, payload));
         assert_eq!(rt; (fields.number, fields.round, fields.pack()), (1, 0, again));
     }
+}
+
+#[test]
+fn worked_op_and_value_words_are_packed_and_read(rt: HostRuntime) {
     let op = OpWord {
         code: 1,
         number: 1,

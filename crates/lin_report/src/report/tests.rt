@@ -1,5 +1,5 @@
 //! Worked reports as text, and the longest lines.
-ghost use Rattle.std.specs.Prelude.{ℕ, ◌+◌, ◌≤◌, length};
+ghost use Rattle.std.specs.Prelude.{ℕ, ◌≡◌, ◌+◌, ◌≤◌, length};
 ghost use Rattle.lin_report.specs.Calls.{report_of};
 ghost use Rattle.lin_report.specs.Writing.{CanWrite};
 
@@ -107,100 +107,44 @@ fn a_report_that_tells_no_overtaking(rt: HostRuntime) -> Result<(), Fail> {
     Ok(())
 }
 
+/// An operation.
+fn op(code: u8, key: u32, value: u32) -> Op
+    ensures { result ≡ record { code = code; key = key; value = value } }
+{
+    Op { code, key, value }
+}
+
+/// The line of call NUMBER of a seat, with its begin and end tick.
+fn line(call: (u32, u32), op: Op, reply: Reply, ticks: (u64, u64), path: Path) -> Receipt
+    ensures { result ≡ record { seat = call.0; number = call.1; op = op; reply = reply; begin = ticks.0; end = ticks.1; path = path } }
+{
+    Receipt {
+        seat: call.0,
+        number: call.1,
+        op,
+        reply,
+        begin: ticks.0,
+        end: ticks.1,
+        path,
+    }
+}
+
 #[test]
 fn the_commands_of_a_set_and_of_a_map(rt: HostRuntime) -> Result<(), Fail> {
     let receipts = [
-        Receipt {
-            seat: 0,
-            number: 1,
-            op: Op {
-                code: ADD,
-                key: 1048575,
-                value: 0,
-            },
-            reply: Reply::Yes,
-            begin: 0,
-            end: 1,
-            path: Path::Fast,
-        },
-        Receipt {
-            seat: 0,
-            number: 2,
-            op: Op {
-                code: DEL,
-                key: 5,
-                value: 0,
-            },
-            reply: Reply::No,
-            begin: 2,
-            end: 5,
-            path: Path::Slow,
-        },
-        Receipt {
-            seat: 1,
-            number: 1,
-            op: Op {
-                code: HAS,
-                key: 5,
-                value: 0,
-            },
-            reply: Reply::No,
-            begin: 3,
-            end: 4,
-            path: Path::Fast,
-        },
-        Receipt {
-            seat: 2,
-            number: 1,
-            op: Op {
-                code: SET,
-                key: 1,
-                value: 9,
-            },
-            reply: Reply::Yes,
-            begin: 6,
-            end: 7,
-            path: Path::Fast,
-        },
-        Receipt {
-            seat: 2,
-            number: 2,
-            op: Op {
-                code: GET,
-                key: 1,
-                value: 0,
-            },
-            reply: Reply::Value(9),
-            begin: 8,
-            end: 9,
-            path: Path::Fast,
-        },
-        Receipt {
-            seat: 2,
-            number: 3,
-            op: Op {
-                code: REM,
-                key: 1,
-                value: 0,
-            },
-            reply: Reply::Exhausted,
-            begin: 10,
-            end: 11,
-            path: Path::Slow,
-        },
-        Receipt {
-            seat: 2,
-            number: 4,
-            op: Op {
-                code: GET,
-                key: 2,
-                value: 0,
-            },
-            reply: Reply::Absent,
-            begin: 12,
-            end: 13,
-            path: Path::Fast,
-        },
+        line((0, 1), op(ADD, 1048575, 0), Reply::Yes, (0, 1), Path::Fast),
+        line((0, 2), op(DEL, 5, 0), Reply::No, (2, 5), Path::Slow),
+        line((1, 1), op(HAS, 5, 0), Reply::No, (3, 4), Path::Fast),
+        line((2, 1), op(SET, 1, 9), Reply::Yes, (6, 7), Path::Fast),
+        line((2, 2), op(GET, 1, 0), Reply::Value(9), (8, 9), Path::Fast),
+        line(
+            (2, 3),
+            op(REM, 1, 0),
+            Reply::Exhausted,
+            (10, 11),
+            Path::Slow,
+        ),
+        line((2, 4), op(GET, 2, 0), Reply::Absent, (12, 13), Path::Fast),
     ];
     let text = written_report(rt.alloc(), &receipts, &[], Some(1))?;
     assert_eq!(rt;
