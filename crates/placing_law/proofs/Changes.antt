@@ -15,14 +15,14 @@ use Rattle.placing_law.proofs.Items.{Item, Before, in_order, insert, choice, Eac
 some_equal : {X : Type 0} (x y : X) → Some x ≡ Some y → x ≡ y
 some_equal x y same = search rules
 
-held_next : (object : Object) (held : object.Held) (history : List Change) (q : ℕ) (entry : Change) → slice_get history q ≡ Some entry
+pub held_next : (object : Object) (held : object.Held) (history : List Change) (q : ℕ) (entry : Change) → slice_get history q ≡ Some entry
     → held_after object held (map (λ (change : Change). change.op) (take (suc q) history))
     ≡ (object.apply entry.op (held_after object held (map (λ (change : Change). change.op) (take q history)))).0
 held_next object held [] q entry is = absurd cc
 held_next object held (change ∷ history) zero entry is = ap (λ (c : Change). (object.apply c.op held).0) (some_equal change entry is)
 held_next object held (change ∷ history) (suc q) entry is = held_next object (object.apply change.op held).0 history q entry is
 
-not_exhausted : (answer : Option (Reply × ℕ)) (reply : Reply) → Answers answer reply → reply ≢ Exhausted → ¬ IsExhausted answer
+pub not_exhausted : (answer : Option (Reply × ℕ)) (reply : Reply) → Answers answer reply → reply ≢ Exhausted → ¬ IsExhausted answer
 not_exhausted None reply is other = λ h. absurd h
 not_exhausted (Some answer) reply is other = λ h. other (sym is ∙ h)
 
