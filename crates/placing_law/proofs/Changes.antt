@@ -1,16 +1,13 @@
 -- The calls that made the changes, one behind the other, and those that observed among them.
-use Rattle.std.proofs.Common.{◌≡◌, ◌≢◌, ℕ, zero, suc, ◌+◌, ◌<◌, ◌≤◌, List, [], ◌∷◌, ◌++◌, map, take, length, get_or, slice_get, Option, Some, None, IfSome, All, AllPairs, Contains, refl, sym, ap, subst, ◌∙◌, ◌⊎◌, inl, inr, arith, rules}
+use Rattle.std.proofs.Common.{◌≡◌, ◌≢◌, ℕ, zero, suc, ◌<◌, ◌≤◌, List, [], ◌∷◌, map, take, length, slice_get, Option, Some, None, IfSome, Contains, sym, ap, subst, ◌∙◌, ◌⊎◌, inl, inr, arith, rules}
 use Rattle.std.specs.Prelude.{IsSomeAnd}
-use Rattle.std.proofs.lemmas.List.Elements.{All-append, All-map, All-contains, Contains-append_left}
-use Rattle.std.proofs.lemmas.Option.{slice_get-get_or, get_or_from_slice_get}
 use Rattle.lin_report.specs.declared.calls.Reply.{Reply}
 use Rattle.lin_report.specs.declared.calls.Reply.TheVariants.{Exhausted}
-use Rattle.lin_report.specs.declared.calls.Receipt.{Receipt}
 use Rattle.lin_report.specs.Object.{Object, held_after}
-use Rattle.lin_report.specs.Calls.{Call, Report, answered_call, pending_call, calls_of, IsSameCall, EndedBefore}
+use Rattle.lin_report.specs.Calls.{Report, calls_of, EndedBefore}
 use Rattle.lin_report.specs.Linearizable.{Answers, IsExhausted, WasExhausted, IsLegalFrom}
-use Rattle.placing_law.specs.Placing.{Change, change_of, IsOf, held_at, IsMade, HasObserved, IsPlaced}
-use Rattle.placing_law.proofs.Items.{Item, Before, in_order, insert, choice, Each, Pairs, calls_in, Has}
+use Rattle.placing_law.specs.Placing.{Change, held_at}
+use Rattle.placing_law.proofs.Items.{Item, Before, in_order, insert, choice, calls_in}
 
 some_equal : {X : Type 0} (x y : X) → Some x ≡ Some y → x ≡ y
 some_equal x y same = search rules
@@ -40,9 +37,9 @@ module _ (object : Object) (history : List Change) (count_at : ℕ → ℕ) (rep
     crossed : (x y : Item) (end : ℕ) → IsItem x → Before x y → y.late ≤ suc y.call.begin → y.after ≤ count_at end → y.call.begin < end → end < x.call.begin → ⊥
     crossed x y end is (inl less) early before forward ended = absurd (omega (arith, is.begun, rising end x.call.begin (omega arith)))
     crossed x y end is (inr same) early before forward ended = elim is.strict [
-        | inl less ↦ absurd (omega (arith, less, same.0, rising end x.call.begin (omega arith)))
-        | inr late ↦ absurd (omega (arith, late, same.1))
-      ]
+      | inl less ↦ absurd (omega (arith, less, same.0, rising end x.call.begin (omega arith)))
+      | inr late ↦ absurd (omega (arith, late, same.1))
+    ]
 
     keeps_answer : (x y : Item) (answer : Option (Reply × ℕ)) → IsItem x → Before x y → y.late ≤ suc y.call.begin
         → IfSome answer (λ answer. (y.after ≤ count_at answer.1) × (y.call.begin < answer.1)) → ¬ IsSomeAnd answer (λ answer. answer.1 < x.call.begin)

@@ -1,5 +1,5 @@
 -- Calls with their places, put in order.
-use Rattle.std.proofs.Common.{◌≡◌, ℕ, suc, ◌+◌, ◌<◌, ◌≤◌, List, [], ◌∷◌, map, length, All, AllPairs, Contains, refl, sym, ap, subst, ◌∙◌, ◌⊎◌, inl, inr, arith}
+use Rattle.std.proofs.Common.{◌≡◌, ℕ, suc, ◌<◌, ◌≤◌, List, [], ◌∷◌, map, All, AllPairs, Contains, refl, ◌∙◌, ◌⊎◌, inl, inr, arith}
 use Rattle.std.proofs.lemmas.Bool.{cases_lt}
 use Rattle.std.proofs.lemmas.List.Elements.{All-nil, All-cons, All-head, All-tail}
 use Rattle.std.proofs.lemmas.List.Kept.{AllPairs-cons}
@@ -22,12 +22,12 @@ either_first x y (inr more) le ge = inr (inr (omega arith, more))
 
 pub in_order : (x y : Item) → Before x y ⊎ Before y x
 in_order x y = elim (cases_lt x.after y.after) [
-    | inl less ↦ inl (inl less)
-    | inr ge ↦ elim (cases_lt y.after x.after) [
-      | inl more ↦ inr (inl more)
-      | inr le ↦ either_first x y (cases_lt x.late y.late) le ge
-    ]
+  | inl less ↦ inl (inl less)
+  | inr ge ↦ elim (cases_lt y.after x.after) [
+    | inl more ↦ inr (inl more)
+    | inr le ↦ either_first x y (cases_lt x.late y.late) le ge
   ]
+]
 
 pub before-trans : (x y z : Item) → Before x y → Before y z → Before x z
 before-trans x y z (inl a) (inl b) = inl (omega arith)

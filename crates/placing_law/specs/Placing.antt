@@ -38,15 +38,14 @@ pub record IsMade (object : Object) (history : List Change) (count_at : ℕ → 
   pub ended : IfSome call.answer (λ answer. place < count_at answer.1)
   pub reply : Answers call.answer (object.apply call.op (held_at object history place)).1
 
--- the call made no change: after some count of changes, which there were at some time while it ran, it would
--- leave what is held as it is, and is answered as the object answers there
+-- after some count of changes, which there were at some time while the call ran, it leaves what is held as it
+-- is, and is answered as the object answers there
 pub record HasObserved (object : Object) (history : List Change) (count_at : ℕ → ℕ) (r : Receipt) : Type 0 where
   pub count : ℕ
   pub begun : count_at r.begin ≤ count
   pub ended : count ≤ count_at r.end
   pub leaves : (object.apply r.op (held_at object history count)).0 ≡ held_at object history count
   pub told : r.reply ≡ (object.apply r.op (held_at object history count)).1
-  pub apart : All (λ change. ¬ IsOf change r.seat r.number) history
 
 -- an answered call is exhausted, has its change in the history, or has observed
 abbrev pub IsAccounted : Object → List Change → (ℕ → ℕ) → Receipt → Type 0
