@@ -6,3 +6,4 @@ pub mod OwnLemmas
 pub mod BesideLemmas
 pub mod EntryLemmas
 pub mod OpeningWorld
+pub mod Before
