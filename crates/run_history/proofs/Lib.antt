@@ -7,3 +7,8 @@ pub mod BesideLemmas
 pub mod EntryLemmas
 pub mod OpeningWorld
 pub mod Before
+pub mod MoverLemmas
+pub mod TouchLemmas
+pub mod CauseLemmas
+pub mod BoundLemmas
+pub mod WriteLemmas
