@@ -1,4 +1,4 @@
--- The words of a client are in the memory of a run, and are none of the engine's counters.
+-- The words of a client are in the memory of a run, behind the engine's counters.
 use Rattle.std.proofs.Common.{◌≡◌, ◌∙◌, refl, ap, ℕ, ◌<◌, ◌≤◌, ◌==◌, ◌||◌, ◌&&◌, not, nat_le, Bool, true, false, List, [], ◌∷◌, length, ◌⊎◌, inl, inr, arith, rules}
 use Rattle.std.proofs.lemmas.Bool.Decides.{nat_tests}
 use Rattle.step_memory.proofs.Words.{length-words_after}
@@ -41,14 +41,11 @@ word_may world place is =
       | inr other ↦ elim other [ inl tail ↦ inr (inl tail) | inr behind ↦ inr (inr behind.0) ]
     ]
 
-may_behind : (place : ℕ) → MayBeClients place → 20 ≤ place
-may_behind place (inl head) = omega (arith, head)
-may_behind place (inr (inl tail)) = omega (arith, tail)
-may_behind place (inr (inr behind)) = omega (arith, behind)
-
--- a place of the client is behind the counters
+-- it is behind the counters of the engine
 pub behind_counters : (place : ℕ) → MayBeClients place → 20 ≤ place
-behind_counters place may = may_behind place may
+behind_counters place (inl head) = omega (arith, head)
+behind_counters place (inr (inl tail)) = omega (arith, tail)
+behind_counters place (inr (inr behind)) = omega (arith, behind)
 
 module _ {S W : Type 0} (form : NormalForm S W) where
   -- how many words there are stays

@@ -12,3 +12,4 @@ pub mod TouchLemmas
 pub mod CauseLemmas
 pub mod BoundLemmas
 pub mod WriteLemmas
+pub mod VersionLemmas

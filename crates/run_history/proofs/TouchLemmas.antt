@@ -40,9 +40,11 @@ may_exchange (Apply run stores Execute) = true
 may_exchange (Wrap w) = true
 may_exchange _ = false
 
+-- no truth value is both
 pub no_both : {A : Type 0} (b : Bool) → b ≡ true → b ≡ false → A
 no_both b is isnt = absurd (cc)
 
+-- behind the notes stands what comes last
 after_notes : {A : Type 0} (a b c : Bool) (x y z rest : A) → a ≡ false → b ≡ false → c ≡ false → rest ≡ (if a then x else if b then y else if c then z else rest)
 after_notes true b c x y z rest p q r = absurd (search rules)
 after_notes false true c x y z rest p q r = absurd (search rules)
@@ -54,7 +56,7 @@ pub all_at : {X : Type 0} (P : X → Type 0) (xs : List X) (i : ℕ) (x : X) →
 all_at P xs i x at each = subst P (get_or_from_slice_get xs i x x at) (All-get_or P xs i x (slice_get_within xs i x at) each)
 
 module _ {S W : Type 0} (form : NormalForm S W) where
-  -- nothing, a counter, a word of the block in hand, or a versioned word of the client that is changed
+  -- a request loads, counts, stores into the block in hand, or changes a versioned word of the client
   pub data Touches (phase : Phase S W) (world : World) (mech : Mech S W) (request : Request) : Type 0 where
     loads : (place : ℕ) → request ≡ Load place → Touches phase world mech request
     adds : (place by : ℕ) → request ≡ Add place by → (place ≡ 0) ⊎ (place ≡ 2) → is_clients phase ≡ false → Touches phase world mech request
