@@ -6,3 +6,10 @@ pub mod OwnLemmas
 pub mod BesideLemmas
 pub mod EntryLemmas
 pub mod OpeningWorld
+pub mod Before
+pub mod MoverLemmas
+pub mod TouchLemmas
+pub mod CauseLemmas
+pub mod BoundLemmas
+pub mod WriteLemmas
+pub mod VersionLemmas

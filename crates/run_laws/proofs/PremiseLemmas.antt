@@ -21,10 +21,10 @@ use Rattle.run_laws.specs.Claims.{claims_block}
 use Rattle.run_laws.specs.Premises.{ClientKeepsClaims, ClientKeepsTicks, is_clients}
 
 -- a request at another place leaves the word, and so does a load
-leaves_elsewhere : (place : ℕ) (request : Request) (words : List ℕ) → place ≢ place_of request → LeavesWord place request words
+pub leaves_elsewhere : (place : ℕ) (request : Request) (words : List ℕ) → place ≢ place_of request → LeavesWord place request words
 leaves_elsewhere place request words apart = word_elsewhere request words place apart
 
-leaves_load : (place at : ℕ) (words : List ℕ) → LeavesWord place (Load at) words
+pub leaves_load : (place at : ℕ) (words : List ℕ) → LeavesWord place (Load at) words
 leaves_load place at words = ap (λ l. get_or l place 0) (load_keeps at words)
 
 -- the three stores of the engine into a block are behind the first words
