@@ -8,3 +8,5 @@ pub mod EntryLemmas
 pub mod OpeningWorld
 pub mod Before
 pub mod StillLemmas
+pub mod PassedLemmas
+pub mod OtherLemmas

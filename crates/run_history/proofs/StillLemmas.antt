@@ -4,7 +4,7 @@ use Rattle.std.proofs.lemmas.Bool.{cases_lt}
 use Rattle.lin_report.specs.declared.calls.Op.{Op}
 use Rattle.step_memory.specs.declared.steps.Request.{Request}
 use Rattle.step_memory.specs.declared.steps.Request.TheVariants.{Load}
-use Rattle.step_memory.specs.Step.{place_of, word_after}
+use Rattle.step_memory.specs.Step.{place_of, word_after, seen_of}
 use Rattle.node_arena.specs.declared.places.TheConstants.{TICKS, CLAIMS}
 use Rattle.node_arena.specs.MemoryMap.{block_place}
 use Rattle.node_arena.proofs.PlaceLemmas.{block_place_behind, same_block}
@@ -15,7 +15,6 @@ use Rattle.fast_slow_engine.specs.declared.setup.Setup.{Setup}
 use Rattle.fast_slow_engine.specs.Mechs.{Mech}
 use Rattle.fast_slow_engine.specs.PhaseTable.{mech_fed, mech_request}
 use Rattle.fast_slow_engine.specs.Runs.{Move, RunState, begun, run_of}
-use Rattle.step_memory.specs.Step.{seen_of}
 use Rattle.run_laws.proofs.Steps.{beside_set, move_steps}
 use Rattle.run_history.specs.Ghosts.{world_of}
 use Rattle.run_history.specs.Moves.{WordsMove}
