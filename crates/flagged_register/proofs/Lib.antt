@@ -7,4 +7,3 @@ pub mod Kept
 pub mod Observed
 pub mod Fed
 pub mod Whole
-pub mod Stays

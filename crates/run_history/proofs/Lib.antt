@@ -13,3 +13,6 @@ pub mod CauseLemmas
 pub mod BoundLemmas
 pub mod WriteLemmas
 pub mod VersionLemmas
+pub mod StillLemmas
+pub mod PassedLemmas
+pub mod OtherLemmas
