@@ -8,3 +8,4 @@ pub mod EntryLemmas
 pub mod OpeningWorld
 pub mod Before
 pub mod MoverLemmas
+pub mod AskLemmas
