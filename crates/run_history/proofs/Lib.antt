@@ -9,3 +9,4 @@ pub mod OpeningWorld
 pub mod Before
 pub mod MoverLemmas
 pub mod AskLemmas
+pub mod EntrySteps
