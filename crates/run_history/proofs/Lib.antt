@@ -10,3 +10,4 @@ pub mod Before
 pub mod MoverLemmas
 pub mod AskLemmas
 pub mod EntrySteps
+pub mod AllowedSteps
