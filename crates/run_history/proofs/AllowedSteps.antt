@@ -87,7 +87,7 @@ module _ {S W : Type 0} (form : NormalForm S W) where
         let mech = mover form b in
         let block = held.list.block in
         let own = hand.2.needs hand.0 in
-        let stored = subst (All (IsGoodStore form block)) (sym offers.made) (held_offer form laws setup older move b inside room held knows.offered).stores in
+        let stored = subst (All (IsGoodStore form block)) (sym offers.made) (held_offer form laws world b.kept.shape held knows.offered).stores in
         let into = fills_in block mech.seat mech.number mech.op stores.items made stored knows.within in
         let asks : mech_request form mech ≡ fill_request block mech.seat mech.number mech.op stores.items made =
         ap (λ (p : Phase S W). request_in form p mech) is ∙ ap (λ o. fill_request (block_of o) mech.seat mech.number mech.op stores.items made) own in

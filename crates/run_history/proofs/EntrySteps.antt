@@ -74,28 +74,30 @@ module _ {S W : Type 0} (form : NormalForm S W) where
       → WinsIn world list 1 entry → StepsTo world list 1 entry
   second_wins world list s since entry offered took fails wins = second list s since entry entry.to offered took fails wins.0 wins.1 wins.2
 
-  -- ---- the entry of a move
+  -- ---- the offer of a held list in a world of the client's shape
 
-  module _ (laws : Laws form) (setup : Setup) (older : List Move) (move : Move) (b : Before form setup older move)
-      (inside : WordsInside form setup older) (room : HasRoom form (world_of form setup older)) where
-    abbrev world : World
-    world = world_of form setup older
-
-    -- the offer of a held list
+  module _ (laws : Laws form) (world : World) (shape : form.shape world) where
     pub held_offer : (held : Held S) → IsStillOffered form world held → IsGoodOffer form world held.list.block (form.offer_of held.offering held.list.call.op held.list.block)
-    held_offer held offered = laws.offers world held.offering held.list.call.op held.since held.list.block offered.command b.kept.shape offered.knows offered.ready offered.small
+    held_offer held offered = laws.offers world held.offering held.list.call.op held.since held.list.block offered.command shape offered.knows offered.ready offered.small
 
     pub entry_good : (held : Held S) (j : ℕ) (entry : Entry) → IsStillOffered form world held → slice_get held.list.entries j ≡ Some entry → IsGoodEntry form world entry
     entry_good held j entry offered at =
         all_at (IsGoodEntry form world) (form.offer_of held.offering held.list.call.op held.list.block).entries j entry (held_offer held offered).entries
         (ap (λ (entries : List Entry). slice_get entries j) (sym offered.entries) ∙ at)
 
-    -- a good entry's word is one version above the one that it finds
-    pub good_exchanged : (entry : Entry) → IsGoodEntry form world entry → world.words entry.target ≡ entry.from → IsExchanged entry entry.to
-    good_exchanged entry good found = record {
-      to = ap cleared_word good.changed.2 ∙ cleared-changed entry.from good.changed.0 good.changed.1 ∙ sym good.changed.2;
-      raised = ap versioned_version good.changed.2 ∙ room entry.target entry.from good.changed.0 good.word good.versioned found good.changed.1;
-    }
+  -- a good entry's word is one version above the one that it finds
+  pub good_exchanged : (world : World) (entry : Entry) → HasRoom form world → IsGoodEntry form world entry → world.words entry.target ≡ entry.from → IsExchanged entry entry.to
+  good_exchanged world entry room good found = record {
+    to = ap cleared_word good.changed.2 ∙ cleared-changed entry.from good.changed.0 good.changed.1 ∙ sym good.changed.2;
+    raised = ap versioned_version good.changed.2 ∙ room entry.target entry.from good.changed.0 good.word good.versioned found good.changed.1;
+  }
+
+  -- ---- the entry of a move
+
+  module _ (laws : Laws form) (setup : Setup) (older : List Move) (move : Move) (b : Before form setup older move)
+      (inside : WordsInside form setup older) (room : HasRoom form (world_of form setup older)) where
+    abbrev world : World
+    world = world_of form setup older
 
     -- what is known where an entry of a held list is executed
     record Executes (run : FastWalk) (stores : ArrayVec (ℕ × ℕ)) (held : Held S) : Type 0 where
@@ -157,12 +159,12 @@ module _ {S W : Type 0} (form : NormalForm S W) where
         let words = (run_of form setup older).words in
         let asks : mech_request form (mover form b) ≡ Exchange entry.target entry.from entry.to = ap (λ (p : Phase S W). request_in form p (mover form b)) is ∙ ap exchange_of next in
         let listed : slice_get held.list.entries run.next ≡ Some entry = ap (λ (entries : List Entry). slice_get entries run.next) e.offers.entries ∙ next in
-        let good = entry_good held run.next entry e.knows.offered listed in
+        let good = entry_good laws world b.kept.shape held run.next entry e.knows.offered listed in
         let within = inside entry.target good.word in
         elim (cases_eq (world.words entry.target) entry.from) [
           | inl found ↦
               subst (λ (w : World). IsStep form world w) (sym (entries_win form setup older move b.is.mech run stores held entry b.is.seated is holds next within found))
-              (wins_at run stores held entry e (listed, found, good_exchanged entry good found))
+              (wins_at run stores held entry e (listed, found, good_exchanged world entry room good found))
           | inr apart ↦
               subst (λ (w : World). IsStep form world w)
               (sym (lost_leave form setup older move b.is.mech b.is.seated (ap (λ r. (seen_of r words).won) asks ∙ lost_entry entry within apart))) nothing
