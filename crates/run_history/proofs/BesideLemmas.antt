@@ -29,7 +29,7 @@ module _ {S W : Type 0} (form : NormalForm S W) where
   abbrev Asked : Request → World → (ℕ → ℕ) → Seen → Type 0
   Asked request world words seen = Requested form request world (of_words words (asked_beside form request seen world)) seen
 
-  requested : (request : Request) (words : List ℕ) (world : World) → AsksInside request (length words)
+  requested : (request : Request) (words : List ℕ) (world : World) → AsksInside request words
       → Asked request (with_words words world) (word_in (words_after request words)) (seen_of request words)
   requested (Load at) words world asks =
       subst (Asked (Load at) (with_words words world) (word_in (words_after (Load at) words))) (seen_inside (Load at) words asks)
@@ -45,7 +45,7 @@ module _ {S W : Type 0} (form : NormalForm S W) where
             let test : (word == from) ≡ true = grind (arith, nat_tests) in
             let after : with_word at to (word_in words) ≡ word_in (words_after request words) =
             sym ((words_move request words).written asks.0 ∙ ap (λ b. with_word at (if b then to else word) (word_in words)) test) in
-            let ends : Asked request (with_words words world) (with_word at to (word_in words)) (record { before = from; won = true }) = won at from to same asks.1 in
+            let ends : Asked request (with_words words world) (with_word at to (word_in words)) (record { before = from; won = true }) = won at from to same (asks.1 same) in
             let seen : Seen = record { before = from; won = true } in
             let told : seen ≡ seen_at request word =
             ap (λ n. let s : Seen = record { before = n; won = true } in s) (sym same) ∙ ap (λ b. let s : Seen = record { before = word; won = b } in s) (sym test) in

@@ -8,6 +8,7 @@ pub mod EntryLemmas
 pub mod OpeningWorld
 pub mod Before
 pub mod MoverLemmas
+pub mod MoverFacts
 pub mod TouchLemmas
 pub mod CauseLemmas
 pub mod BoundLemmas
@@ -16,3 +17,6 @@ pub mod VersionLemmas
 pub mod StillLemmas
 pub mod PassedLemmas
 pub mod OtherLemmas
+pub mod AskLemmas
+pub mod EntrySteps
+pub mod AllowedSteps

@@ -31,7 +31,7 @@ use Rattle.run_history.specs.Ghosts.{Held, SeatGhost, ghost_of, world_of}
 use Rattle.run_history.specs.Known.{KnowsFill, KnowsRun, KnowsWrap, OfHeld}
 use Rattle.run_history.specs.Lists.{OffersList}
 use Rattle.run_history.proofs.Before.{Before, HasBlock, mover}
-use Rattle.run_history.proofs.MoverLemmas.{KnowsMover, mover_knows}
+use Rattle.run_history.proofs.MoverFacts.{KnowsMover, mover_knows}
 
 -- whether a request in this phase may be an exchange
 abbrev pub may_exchange : {S W : Type 0} → Phase S W → Bool

@@ -33,7 +33,7 @@ use Rattle.run_history.proofs.Before.{Before, mover}
 use Rattle.run_history.proofs.BesideLemmas.{seen_inside}
 use Rattle.run_history.proofs.BoundLemmas.{behind_counters}
 use Rattle.run_history.proofs.GrowLemmas.{world_grows}
-use Rattle.run_history.proofs.MoverLemmas.{mover_knows}
+use Rattle.run_history.proofs.MoverFacts.{mover_knows}
 use Rattle.run_history.proofs.OpeningWorld.{world_opens}
 use Rattle.run_history.proofs.OwnLemmas.{made_moved}
 use Rattle.run_history.proofs.TouchLemmas.{Touches, may_exchange, mover_touches}

@@ -1,5 +1,5 @@
 -- The moves of searches and wrap-ups, as requests beside the lists.
-use Rattle.std.specs.Prelude.{◌≡◌, ℕ, ◌+◌, ◌<◌, List, ◌∷◌, length, slice_get, Some}
+use Rattle.std.specs.Prelude.{◌≡◌, ℕ, ◌+◌, ◌<◌, List, ◌∷◌, length, slice_get, slice_index, Some}
 use Rattle.step_memory.specs.declared.steps.Request.{Request}
 use Rattle.step_memory.specs.declared.steps.Request.TheVariants.{Load, Store, Exchange, Add}
 use Rattle.step_memory.specs.Step.{seen_of}
@@ -13,25 +13,25 @@ use Rattle.fast_slow_engine.specs.Mechs.{Mech}
 use Rattle.fast_slow_engine.specs.Runs.{Move, begun, run_of}
 use Rattle.run_history.specs.Ghosts.{world_of}
 
--- a request on so many words is a load, or an exchange that raises the version by one, at one of them; the
--- client's laws give it where the version has room
-abbrev pub AsksInside : Request → ℕ → Type 0
-AsksInside (Load at) count = at < count
-AsksInside (Store at value) count = ⊥
-AsksInside (Exchange at from to) count = (at < count) × (versioned_version to ≡ versioned_version from + 1)
-AsksInside (Add at by) count = ⊥
+-- a request on these words is a load at one of them, or an exchange that raises the version by one where it
+-- is won; the client's laws give it where the version has room
+abbrev pub AsksInside : Request → List ℕ → Type 0
+AsksInside (Load at) words = at < length words
+AsksInside (Store at value) words = ⊥
+AsksInside (Exchange at from to) words = (at < length words) × (slice_index words at ≡ from → versioned_version to ≡ versioned_version from + 1)
+AsksInside (Add at by) words = ⊥
 
 module _ {S W : Type 0} (form : NormalForm S W) where
   -- a search's move does to the client's world what its request does beside the lists
   abbrev pub SearchesBeside : Type 0
   SearchesBeside =
       (setup : Setup) (older : List Move) (move : Move) (mech : Mech S W) (s : S) → slice_get (run_of form setup older).mechs move.seat ≡ Some mech
-      → (begun move.begins mech).phase ≡ Generate s Search → AsksInside (form.request_of s) (length (run_of form setup older).words)
+      → (begun move.begins mech).phase ≡ Generate s Search → AsksInside (form.request_of s) (run_of form setup older).words
       → Requested form (form.request_of s) (world_of form setup older) (world_of form setup (move ∷ older)) (seen_of (form.request_of s) (run_of form setup older).words)
 
   -- and so does that of a wrap-up
   abbrev pub WrapsBeside : Type 0
   WrapsBeside =
       (setup : Setup) (older : List Move) (move : Move) (mech : Mech S W) (w : W) → slice_get (run_of form setup older).mechs move.seat ≡ Some mech
-      → (begun move.begins mech).phase ≡ Wrap w → AsksInside (form.wrap_request_of w) (length (run_of form setup older).words)
+      → (begun move.begins mech).phase ≡ Wrap w → AsksInside (form.wrap_request_of w) (run_of form setup older).words
       → Requested form (form.wrap_request_of w) (world_of form setup older) (world_of form setup (move ∷ older)) (seen_of (form.wrap_request_of w) (run_of form setup older).words)

@@ -4,8 +4,8 @@ ghost use Rattle.run_history.specs.Beside.{SearchesBeside, WrapsBeside};
 use normal_traits::Normalized;
 
 /// A search's move does to the client's world what its request does beside the lists: it loads, loses, or
-/// wins an exchange that goes into the journal. The premise is that its place is in the memory, and that an
-/// exchange raises the version by one.
+/// wins an exchange that goes into the journal. The premise is that its place is in the memory, and that a
+/// won exchange raises the version by one.
 pub fn searches_beside<C: Normalized>()
     ensures { SearchesBeside C.form }
 {}
