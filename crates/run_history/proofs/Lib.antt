@@ -8,3 +8,4 @@ pub mod EntryLemmas
 pub mod OpeningWorld
 pub mod Before
 pub mod OwnKnows
+pub mod OwnFill
