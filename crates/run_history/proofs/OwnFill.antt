@@ -24,7 +24,7 @@ use Rattle.fast_slow_engine.specs.Mechs.{Mech}
 use Rattle.fast_slow_engine.specs.PhaseTable.{fill_request, store_of, in_phase}
 use Rattle.run_history.specs.Ghosts.{Held}
 use Rattle.run_history.specs.Lists.{IsOffering, called}
-use Rattle.run_history.specs.Known.{Stands, KnowsFill, KnowsIn}
+use Rattle.run_history.specs.Known.{Stands, KnowsFill, KnowsRun}
 use Rattle.run_history.proofs.WordLemmas.{put_here, put_beside}
 use Rattle.run_history.proofs.OwnKnows.{Knows}
 
@@ -102,3 +102,53 @@ module _ {S W : Type 0} (form : NormalForm S W) (block seat number : ℕ) (op : 
             let before : k < made = omega (arith, less, apart) in
             stands_beside (fills k) (place_of (fills made)) (word_after (fills made) word) world after is (fills_apart distinct k made before within) (stood k before)
       ]
+
+  stored_item : (world : World) (k : ℕ) → k < length items → Stands world (fills (suc (suc (suc k)))) → world.words (get_or items k (0, 0)).0 ≡ (get_or items k (0, 0)).1
+  stored_item world k inside stands =
+      subst (λ (o : Option (ℕ × ℕ)). Stands world (store_of o)) (slice_get-get_or items k (0, 0) inside) (subst (Stands world) (fills_late k) stands)
+
+-- once all stores stand, the block is filled
+filled_from : (world : World) (list : Listed) {S W : Type 0} (form : NormalForm S W) (items : List (ℕ × ℕ)) → All (IsGoodStore form list.block) items
+    → ((k : ℕ) → k < length items + 3 → Stands world (fill_request list.block list.call.seat list.call.number list.call.op items k)) → IsFilled world list items
+filled_from world list form items good stood = record {
+  owner = stood 0 (omega arith);
+  op = stood 1 (omega arith);
+  value = stood 2 (omega arith);
+  stored = All-from_get_or (λ (store : ℕ × ℕ). world.words store.0 ≡ store.1) items (0, 0)
+  (λ k inside. stored_item form list.block list.call.seat list.call.number list.call.op items good world k inside (stood (suc (suc (suc k))) (omega (arith, inside))));
+}
+
+module _ {S W : Type 0} (form : NormalForm S W) where
+  -- the list is filled further, or executed
+  filling : (b : Bool) (run : FastWalk) (stores : ArrayVec (ℕ × ℕ)) (made since begun : ℕ) (held : Held S) (mech : Mech S W) (world : World)
+      → (b ≡ false → KnowsFill form world run stores (made + 1) mech held) → (b ≡ true → KnowsRun form world run mech held)
+      → Knows form since begun (Some held) (in_phase (Apply run stores (if b then Execute else Fill (made + 1))) mech) world
+  filling true run stores made since begun held mech world fills runs = (let k = runs refl in record { offered = k.offered; running = k.running; filled = k.filled })
+  filling false run stores made since begun held mech world fills runs = (let k = fills refl in record { offered = k.offered; running = k.running; within = k.within; stored = k.stored })
+
+  -- what is known after a store into a block
+  pub fill_knows : Laws form → (run : FastWalk) (stores : ArrayVec (ℕ × ℕ)) (made since begun : ℕ) (held : Held S) (mech : Mech S W) (world after : World)
+      → form.shape world → IsStep form world after → IsOffering form run stores mech held → KnowsFill form world run stores made mech held
+      → (let request = fill_request held.list.block mech.seat mech.number mech.op stores.items made in
+      after.words ≡ with_word (place_of request) (word_after request (world.words (place_of request))) world.words)
+      → Knows form since begun (Some held) (in_phase (Apply run stores (if made + 1 == length stores.items + 3 then Execute else Fill (made + 1))) mech) after
+  fill_knows laws run stores made since begun held mech world after shape step offering known is =
+      let offered = known.offered in
+      let list = held.list in
+      let items = (form.offer_of held.offering list.call.op list.block).stores in
+      let good = laws.offers world held.offering list.call.op held.since list.block offered.command shape offered.knows offered.ready offered.small in
+      let all : All (IsGoodStore form list.block) stores.items = subst (All (IsGoodStore form list.block)) (sym offering.made) good.stores in
+      let distinct : AllPairs (λ (a b : ℕ × ℕ). a.0 ≢ b.0) stores.items = subst (AllPairs (λ (a b : ℕ × ℕ). a.0 ≢ b.0)) (sym offering.made) good.distinct in
+      let still : IsOffered form after list held.offering held.since = record {
+        command = offered.command; ready = offered.ready; small = offered.small; entries = offered.entries;
+        knows = laws.knows_kept world after held.offering list.call.op held.since offered.command shape offered.knows step;
+      } in
+      let stood : (k : ℕ) → k < made + 1 → Stands after (fill_request list.block mech.seat mech.number mech.op stores.items k) =
+      fills_stand form list.block mech.seat mech.number mech.op stores.items all distinct made _ world after known.within is known.stored in
+      filling (made + 1 == length stores.items + 3) run stores made since begun held mech after
+      (λ more. record { offered = still; running = known.running; within = grind (arith, nat_tests, more, known.within); stored = stood })
+      (λ last. record { offered = still; running = known.running; filled = λ first some.
+        (let ends : made + 1 ≡ length stores.items + 3 = grind (arith, nat_tests, last) in
+        subst (IsFilled after list) offering.made
+        (filled_from after list form stores.items all
+        (λ k less. subst (λ (c : Called). Stands after (fill_request list.block c.seat c.number c.op stores.items k)) (sym offering.held_by.call) (stood k (subst (λ n. k < n) (sym ends) less))))); })
