@@ -9,3 +9,4 @@ pub mod OpeningWorld
 pub mod Before
 pub mod OwnKnows
 pub mod OwnFill
+pub mod OwnRun
