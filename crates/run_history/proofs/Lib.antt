@@ -10,3 +10,4 @@ pub mod Before
 pub mod OwnKnows
 pub mod OwnFill
 pub mod OwnRun
+pub mod MoverLemmas

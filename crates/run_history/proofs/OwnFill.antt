@@ -103,6 +103,16 @@ module _ {S W : Type 0} (form : NormalForm S W) (block seat number : ℕ) (op : 
             stands_beside (fills k) (place_of (fills made)) (word_after (fills made) word) world after is (fills_apart distinct k made before within) (stood k before)
       ]
 
+  -- each store is in the memory where the block is
+  pub fills_inside : (count : ℕ) → ((field : ℕ) → field < 32 → block_place block field < count) → (made : ℕ) → made < length items + 3 → place_of (fills made) < count
+  fills_inside count inside zero within = inside 0 (omega arith)
+  fills_inside count inside (suc zero) within = inside 1 (omega arith)
+  fills_inside count inside (suc (suc zero)) within = inside 11 (omega arith)
+  fills_inside count inside (suc (suc (suc made))) within =
+      let less : made < length items = omega (arith, within) in
+      let store = All-get_or (IsGoodStore form block) items made (0, 0) less good in
+      subst (λ n. n < count) (sym (ap place_of (fills_late made) ∙ fills_item made less ∙ store.place)) (inside store.field store.within)
+
   stored_item : (world : World) (k : ℕ) → k < length items → Stands world (fills (suc (suc (suc k)))) → world.words (get_or items k (0, 0)).0 ≡ (get_or items k (0, 0)).1
   stored_item world k inside stands =
       subst (λ (o : Option (ℕ × ℕ)). Stands world (store_of o)) (slice_get-get_or items k (0, 0) inside) (subst (Stands world) (fills_late k) stands)

@@ -84,7 +84,7 @@ stops true false next count stop is = absurd (search rules)
 stops false last next count stop is = inr (refl, cc)
 
 -- and where it goes on
-goes_on : (won last : Bool) (next count : ℕ) → (if won then (if last then execution.Stopped count else execution.Running) else execution.Stopped next) ≡ execution.Running
+pub goes_on : (won last : Bool) (next count : ℕ) → (if won then (if last then execution.Stopped count else execution.Running) else execution.Stopped next) ≡ execution.Running
     → (won ≡ true) × (last ≡ false)
 goes_on true true next count is = absurd (search rules)
 goes_on true false next count is = (refl, refl)
