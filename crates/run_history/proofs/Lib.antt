@@ -11,3 +11,4 @@ pub mod OwnKnows
 pub mod OwnFill
 pub mod OwnRun
 pub mod MoverLemmas
+pub mod OwnMoves
