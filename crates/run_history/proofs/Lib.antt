@@ -12,3 +12,4 @@ pub mod OwnFill
 pub mod OwnRun
 pub mod MoverLemmas
 pub mod OwnMoves
+pub mod LearntLemmas
