@@ -1,5 +1,5 @@
 -- What the answers of a search and of a wrap-up tell of the client's world, where they are given.
-use Rattle.std.proofs.Common.{◌≡◌, refl, sym, subst, ap, ℕ, Bool, true, false, List, ◌∷◌, length, Option, Some, None, rules}
+use Rattle.std.proofs.Common.{◌≡◌, refl, subst, ap, ℕ, true, List, ◌∷◌, Option, Some, None, rules}
 use Rattle.lin_report.specs.declared.calls.Op.{Op}
 use Rattle.lin_report.specs.declared.calls.Outcome.{Outcome}
 use Rattle.lin_report.specs.Object.{object_of}
@@ -19,12 +19,12 @@ use Rattle.fast_slow_engine.specs.declared.phases.Phase.TheVariants.{Idle, Begin
 use Rattle.fast_slow_engine.specs.declared.phases.Generating.TheVariants.{Search}
 use Rattle.fast_slow_engine.specs.declared.phases.Applying.TheVariants.{Fill, Execute}
 use Rattle.fast_slow_engine.specs.declared.setup.Setup.{Setup}
-use Rattle.fast_slow_engine.specs.Runs.{Move, run_of}
+use Rattle.fast_slow_engine.specs.Runs.{Move}
 use Rattle.run_history.specs.Ghosts.{Held, execution_restarts, restarts, searches_anew, world_of}
-use Rattle.run_history.specs.Lists.{HoldsIn, OffersList, WrapsList}
+use Rattle.run_history.specs.Lists.{HoldsIn, OffersList}
 use Rattle.run_history.specs.Known.{KnowsIn, KnowsRun, KnowsWrap, OfHeld}
 use Rattle.run_history.proofs.Before.{Before, TookIn, mover}
-use Rattle.run_history.proofs.MoverLemmas.{Shown, mover_command, mover_knows, mover_took, mover_holds, own_of, seen_by}
+use Rattle.run_history.proofs.OwnMover.{Shown, mover_knows, mover_took, mover_holds, own_of, seen_by}
 use Rattle.run_history.proofs.OwnRun.{run_stopped, run_wraps}
 use Rattle.run_history.proofs.OwnMoves.{own_run, own_search, own_wrap, shape_after, still_offered}
 

@@ -10,6 +10,6 @@ pub mod Before
 pub mod OwnKnows
 pub mod OwnFill
 pub mod OwnRun
-pub mod MoverLemmas
+pub mod OwnMover
 pub mod OwnMoves
 pub mod LearntLemmas

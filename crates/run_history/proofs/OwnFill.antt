@@ -1,6 +1,6 @@
 -- The stores that fill a block all stand, each at another place, and then the block is filled for its list.
-use Rattle.std.proofs.Common.{◌≡◌, ◌≢◌, ◌∙◌, refl, sym, subst, ap, ℕ, zero, suc, ◌+◌, ◌-◌, ◌<◌, ◌≤◌, ◌==◌, if◌then◌else◌, Bool, true, false, List, length, get_or, slice_get, Option, Some, None, All, AllPairs, inl, inr, arith, rules}
-use Rattle.std.proofs.lemmas.Bool.{cases_Bool, cases_eq}
+use Rattle.std.proofs.Common.{◌≡◌, ◌≢◌, ◌∙◌, refl, sym, subst, ap, ℕ, zero, suc, ◌+◌, ◌-◌, ◌<◌, ◌==◌, if◌then◌else◌, Bool, true, false, List, length, get_or, slice_get, Option, Some, All, AllPairs, inl, inr, arith}
+use Rattle.std.proofs.lemmas.Bool.{cases_eq}
 use Rattle.std.proofs.lemmas.Bool.Decides.{nat_tests}
 use Rattle.std.proofs.lemmas.Option.{slice_get-get_or}
 use Rattle.std.proofs.lemmas.List.Elements.{All-get_or, All-from_get_or}
@@ -23,7 +23,7 @@ use Rattle.fast_slow_engine.specs.declared.phases.Applying.TheVariants.{Fill, Ex
 use Rattle.fast_slow_engine.specs.Mechs.{Mech}
 use Rattle.fast_slow_engine.specs.PhaseTable.{fill_request, store_of, in_phase}
 use Rattle.run_history.specs.Ghosts.{Held}
-use Rattle.run_history.specs.Lists.{IsOffering, called}
+use Rattle.run_history.specs.Lists.{IsOffering}
 use Rattle.run_history.specs.Known.{Stands, KnowsFill, KnowsRun}
 use Rattle.run_history.proofs.WordLemmas.{put_here, put_beside}
 use Rattle.run_history.proofs.OwnKnows.{Knows}
@@ -125,7 +125,7 @@ filled_from world list form items good stood = record {
   op = stood 1 (omega arith);
   value = stood 2 (omega arith);
   stored = All-from_get_or (λ (store : ℕ × ℕ). world.words store.0 ≡ store.1) items (0, 0)
-  (λ k inside. stored_item form list.block list.call.seat list.call.number list.call.op items good world k inside (stood (suc (suc (suc k))) (omega (arith, inside))));
+      (λ k inside. stored_item form list.block list.call.seat list.call.number list.call.op items good world k inside (stood (suc (suc (suc k))) (omega (arith, inside))));
 }
 
 module _ {S W : Type 0} (form : NormalForm S W) where
@@ -150,15 +150,22 @@ module _ {S W : Type 0} (form : NormalForm S W) where
       let all : All (IsGoodStore form list.block) stores.items = subst (All (IsGoodStore form list.block)) (sym offering.made) good.stores in
       let distinct : AllPairs (λ (a b : ℕ × ℕ). a.0 ≢ b.0) stores.items = subst (AllPairs (λ (a b : ℕ × ℕ). a.0 ≢ b.0)) (sym offering.made) good.distinct in
       let still : IsOffered form after list held.offering held.since = record {
-        command = offered.command; ready = offered.ready; small = offered.small; entries = offered.entries;
+        command = offered.command;
+        ready = offered.ready;
+        small = offered.small;
+        entries = offered.entries;
         knows = laws.knows_kept world after held.offering list.call.op held.since offered.command shape offered.knows step;
       } in
       let stood : (k : ℕ) → k < made + 1 → Stands after (fill_request list.block mech.seat mech.number mech.op stores.items k) =
       fills_stand form list.block mech.seat mech.number mech.op stores.items all distinct made _ world after known.within is known.stored in
       filling (made + 1 == length stores.items + 3) run stores made since begun held mech after
       (λ more. record { offered = still; running = known.running; within = grind (arith, nat_tests, more, known.within); stored = stood })
-      (λ last. record { offered = still; running = known.running; filled = λ first some.
-        (let ends : made + 1 ≡ length stores.items + 3 = grind (arith, nat_tests, last) in
-        subst (IsFilled after list) offering.made
-        (filled_from after list form stores.items all
-        (λ k less. subst (λ (c : Called). Stands after (fill_request list.block c.seat c.number c.op stores.items k)) (sym offering.held_by.call) (stood k (subst (λ n. k < n) (sym ends) less))))); })
+      (λ last. record {
+        offered = still;
+        running = known.running;
+        filled = λ first some.
+            (let ends : made + 1 ≡ length stores.items + 3 = grind (arith, nat_tests, last) in
+            subst (IsFilled after list) offering.made
+            (filled_from after list form stores.items all
+            (λ k less. subst (λ (c : Called). Stands after (fill_request list.block c.seat c.number c.op stores.items k)) (sym offering.held_by.call) (stood k (subst (λ n. k < n) (sym ends) less)))));
+      })

@@ -1,6 +1,5 @@
 -- What a machine knows after a step of its search or its wrap-up.
-use Rattle.std.proofs.Common.{◌≡◌, ◌∙◌, refl, sym, subst, ap, ℕ, ◌+◌, ◌^◌, ◌<◌, ◌≤◌, ◌&&◌, nat_lt, if◌then◌else◌, Bool, true, false, List, length, Option, Some, None, inl, inr, arith, rules}
-use Rattle.std.proofs.lemmas.Bool.{cases_Bool}
+use Rattle.std.proofs.Common.{◌≡◌, refl, ap, ℕ, ◌^◌, ◌<◌, ◌&&◌, if◌then◌else◌, Bool, true, false, length, Option, Some, None, arith}
 use Rattle.lin_report.specs.declared.calls.Op.{Op}
 use Rattle.lin_report.specs.declared.calls.Outcome.{Outcome}
 use Rattle.lin_report.specs.declared.calls.Outcome.TheVariants.{Plain, ValueOf}
@@ -16,14 +15,13 @@ use Rattle.normal_traits.specs.NormalForm.{NormalForm}
 use Rattle.normal_traits.specs.Steps.{IsOffered}
 use Rattle.normal_traits.specs.Laws.{Laws, FoundWell, WrappedWell}
 use Rattle.cas_executor.specs.FastRuns.{FastWalk}
-use Rattle.fast_slow_engine.specs.declared.phases.Phase.{Phase}
-use Rattle.fast_slow_engine.specs.declared.phases.Phase.TheVariants.{Idle, Begin, Look, Generate, Apply, Wrap, Value, End}
-use Rattle.fast_slow_engine.specs.declared.phases.Generating.TheVariants.{Search, LookForBlock, Claim}
+use Rattle.fast_slow_engine.specs.declared.phases.Phase.TheVariants.{Generate, Apply, End}
+use Rattle.fast_slow_engine.specs.declared.phases.Generating.TheVariants.{LookForBlock, Claim}
 use Rattle.fast_slow_engine.specs.declared.phases.Applying.TheVariants.{Fill, Execute}
 use Rattle.fast_slow_engine.specs.Mechs.{Mech, block_of}
 use Rattle.fast_slow_engine.specs.PhaseTable.{holds_none, in_phase, offered, searched, told, with_hand, wrapped_up}
-use Rattle.run_history.specs.Ghosts.{Held, SeatGhost, gave_up, restarts, held_in, offered_block, newly_held}
-use Rattle.run_history.specs.Known.{KnowsIn, KnowsFill, KnowsRun, KnowsWrap}
+use Rattle.run_history.specs.Ghosts.{Held, gave_up, restarts, held_in, offered_block, newly_held}
+use Rattle.run_history.specs.Known.{KnowsIn, KnowsFill, KnowsRun}
 
 module _ {S W : Type 0} (form : NormalForm S W) where
   -- a machine knows this, with what is left of a list in its phase
@@ -75,7 +73,8 @@ module _ {S W : Type 0} (form : NormalForm S W) where
         opens_knows (form.needs_block mech.op) run stores new since begun held world
         (record { offered = is; running = (offer.some, offer.few); within = omega arith; stored = λ k less. absurd (omega (arith, less)) })
         (λ e. record {
-          offered = is; running = (offer.some, offer.few);
+          offered = is;
+          running = (offer.some, offer.few);
           filled = λ first some. (let none : block ≡ 0 = ap (λ c. if c then block_of mech.hand else 0) e in absurd (omega (arith, some, none)));
         })
 

@@ -1,20 +1,16 @@
 -- What the seat that moves knows after its move.
-use Rattle.std.proofs.Common.{◌≡◌, ◌∙◌, refl, sym, subst, ap, ℕ, ◌+◌, ◌^◌, ◌<◌, ◌≤◌, ◌==◌, nat_lt, if◌then◌else◌, Bool, true, false, List, ◌∷◌, length, slice_get, slice_set, Option, Some, None, All, inl, inr, arith, rules}
+use Rattle.std.proofs.Common.{◌≡◌, ◌∙◌, refl, sym, subst, ap, ℕ, ◌+◌, ◌<◌, ◌==◌, nat_lt, if◌then◌else◌, List, ◌∷◌, length, Option, Some, None, All, arith, rules}
 use Rattle.std.proofs.lemmas.Bool.Decides.{nat_tests}
-use Rattle.std.proofs.lemmas.Option.{slice_get_within}
-use Rattle.lin_report.specs.declared.calls.Op.{Op}
 use Rattle.lin_report.specs.Commands.{IsCommandOf}
 use Rattle.step_memory.specs.declared.steps.Request.{Request}
 use Rattle.step_memory.specs.declared.steps.Seen.{Seen}
 use Rattle.step_memory.specs.Step.{place_of, seen_of, word_after}
 use Rattle.arrayvec.specs.ArrayVec.{ArrayVec}
-use Rattle.node_arena.specs.MemoryMap.{block_place}
 use Rattle.normal_traits.specs.declared.form.Wrapped.{Wrapped}
 use Rattle.normal_traits.specs.declared.form.Wrapped.TheVariants as wrapped
-use Rattle.normal_traits.specs.declared.lists.Entry.{Entry}
-use Rattle.normal_traits.specs.World.{World, IsPassed, Stopped, is_word}
+use Rattle.normal_traits.specs.World.{World, Stopped}
 use Rattle.normal_traits.specs.NormalForm.{NormalForm}
-use Rattle.normal_traits.specs.Steps.{IsOffered, IsStep, Requested, with_word}
+use Rattle.normal_traits.specs.Steps.{Requested, with_word}
 use Rattle.normal_traits.specs.Laws.{Laws, FoundWell, IsGoodEntry, IsGoodStore, WrappedWell}
 use Rattle.cas_executor.specs.declared.fast_run.Execution.TheVariants as execution
 use Rattle.cas_executor.specs.FastRuns.{FastWalk, fast_execution, fast_fed}
@@ -24,21 +20,18 @@ use Rattle.fast_slow_engine.specs.declared.phases.Generating.TheVariants.{Search
 use Rattle.fast_slow_engine.specs.declared.phases.Applying.TheVariants.{Fill, Execute}
 use Rattle.fast_slow_engine.specs.declared.setup.Setup.{Setup}
 use Rattle.fast_slow_engine.specs.Mechs.{Mech, block_of}
-use Rattle.fast_slow_engine.specs.PhaseTable.{executed, fill_request, in_phase, mech_fed, mech_request, request_in, rests, stepped, wrapped_up}
-use Rattle.fast_slow_engine.specs.Runs.{Move, RunState, CanMove, begun, run_of}
+use Rattle.fast_slow_engine.specs.PhaseTable.{executed, fill_request, in_phase, mech_request, request_in, stepped, wrapped_up}
+use Rattle.fast_slow_engine.specs.Runs.{Move, begun, run_of}
 use Rattle.fast_slow_engine.proofs.SameCalls.{same_fed}
-use Rattle.run_laws.proofs.Steps.{at_set, move_steps}
-use Rattle.run_history.specs.Ghosts.{Held, SeatGhost, Ghost, begun_after, execution_restarts, held_in, list_after, newly_held, restarts, searches_anew, seat_stepped, stopped_in, world_stepped, ghost_of, world_of}
-use Rattle.run_history.specs.Lists.{HoldsIn, OffersList, WrapsList}
-use Rattle.run_history.specs.Known.{KnowsIn, KnowsFill, KnowsRun, KnowsWrap, KnowsWell, IsStillOffered, MakesCommand, OfHeld}
-use Rattle.run_history.proofs.Before.{Before, HandIn, HasBlock, IsStructured, NoneFrom, TookIn, mover}
-use Rattle.run_history.proofs.GrowLemmas.{own_seat}
-use Rattle.run_history.proofs.HeldLemmas.{begun_holds, ghost_moves, lists_held}
+use Rattle.run_history.specs.Ghosts.{Held, SeatGhost, begun_after, execution_restarts, held_in, list_after, newly_held, restarts, searches_anew, stopped_in, ghost_of, world_of}
+use Rattle.run_history.specs.Lists.{HoldsIn, OffersList}
+use Rattle.run_history.specs.Known.{KnowsIn, KnowsFill, KnowsRun, KnowsWrap, KnowsWell, IsStillOffered}
+use Rattle.run_history.proofs.Before.{Before, HandIn, TookIn, mover}
 use Rattle.run_history.proofs.WordLemmas.{world_words}
 use Rattle.run_history.proofs.OwnKnows.{Knows, HasSmall, tried_knows, searched_knows, looked_knows, claimed_knows, wrapped_knows}
 use Rattle.run_history.proofs.OwnFill.{fill_knows, fills_inside}
 use Rattle.run_history.proofs.OwnRun.{HasRun, all_at, executed_knows, goes_on, run_has, run_stopped}
-use Rattle.run_history.proofs.MoverLemmas.{Shown, makes_command, mover_command, mover_knows, mover_took, mover_hands, mover_holds, mover_block, moved, moved_seated, own_of, own_moved, seen_by, seat_moved}
+use Rattle.run_history.proofs.OwnMover.{Shown, makes_command, mover_command, mover_knows, mover_took, mover_hands, mover_holds, mover_block, moved, moved_seated, own_of, seen_by, seat_moved}
 
 module _ {S W : Type 0} (form : NormalForm S W) where
   -- the entries of a list that goes on took effect up to its stop
@@ -69,7 +62,10 @@ module _ {S W : Type 0} (form : NormalForm S W) where
 
     pub still_offered : (held : Held S) → IsStillOffered form world held → IsStillOffered form after held
     still_offered held is = record {
-      command = is.command; ready = is.ready; small = is.small; entries = is.entries;
+      command = is.command;
+      ready = is.ready;
+      small = is.small;
+      entries = is.entries;
       knows = laws.knows_kept world after held.offering held.list.call.op held.since is.command b.kept.shape is.knows shown.step;
     }
 
@@ -153,12 +149,14 @@ module _ {S W : Type 0} (form : NormalForm S W) where
           within = stopped.within;
           took = λ j less. took.0 j less (omega (arith, less, took.2));
           failed = λ less.
-            (let failed = stopped.failed less in
-            let fine : IsGoodEntry form world failed.entry = all_at (IsGoodEntry form world) list.entries held.stop failed.entry failed.listed (subst (All (IsGoodEntry form world)) (sym offered.entries) good.entries) in
-            record {
-              entry = failed.entry; listed = failed.listed; passed = shown.passed_stays failed.entry fine.versioned fine.word failed.passed;
-              lost = took.1 list held.stop refl (omega arith);
-            });
+              (let failed = stopped.failed less in
+              let fine : IsGoodEntry form world failed.entry = all_at (IsGoodEntry form world) list.entries held.stop failed.entry failed.listed (subst (All (IsGoodEntry form world)) (sym offered.entries) good.entries) in
+              record {
+                entry = failed.entry;
+                listed = failed.listed;
+                passed = shown.passed_stays failed.entry fine.versioned fine.word failed.passed;
+                lost = took.1 list held.stop refl (omega arith);
+              });
         }
 
     pub own_wrap : (w : W) (held : Held S) → one.phase ≡ Wrap w → KnowsWrap form world w held → WrappedWell form after held.list held.stop (form.feed_wrap_of w seen) (form.wrap_found_of w seen)
@@ -222,6 +220,6 @@ module _ {S W : Type 0} (form : NormalForm S W) where
         record {
           command = makes_command form new.phase new (subst (IsCommandOf form.client) (sym (same_fed form one seen).op) (mover_command form b));
           knows = subst (λ (o : SeatGhost S). KnowsIn form new.phase new o after) (sym (seat_moved form b))
-          (step_knows one.phase refl (mover_knows form b) (mover_holds form b) (mover_took form b) (mover_hands form b)
-          (λ block has. moved_small block has) took);
+              (step_knows one.phase refl (mover_knows form b) (mover_holds form b) (mover_took form b) (mover_hands form b)
+              (λ block has. moved_small block has) took);
         }

@@ -1,27 +1,24 @@
 -- What a machine knows after an exchange of its list, and where the list stops.
-use Rattle.std.proofs.Common.{◌≡◌, ◌≢◌, ◌∙◌, refl, sym, subst, ap, ℕ, ◌+◌, ◌<◌, ◌≤◌, ◌==◌, ◌&&◌, nat_lt, if◌then◌else◌, Bool, true, false, ◌⊎◌, List, [], ◌∷◌, ◌++◌, length, get_or, slice_get, Option, Some, None, All, inl, inr, arith, rules}
-use Rattle.std.proofs.lemmas.Bool.{cases_Bool, cases_eq, cases_lt, lt-ltb}
+use Rattle.std.proofs.Common.{◌≡◌, ◌≢◌, ◌∙◌, refl, sym, subst, ap, ℕ, ◌+◌, ◌<◌, ◌==◌, ◌&&◌, nat_lt, if◌then◌else◌, Bool, true, false, ◌⊎◌, List, [], ◌∷◌, ◌++◌, length, slice_get, Some, None, All, inl, inr, arith, rules}
+use Rattle.std.proofs.lemmas.Bool.{cases_eq}
 use Rattle.std.proofs.lemmas.Bool.Decides.{nat_tests}
 use Rattle.std.proofs.lemmas.Option.{slice_get_cases, slice_get_within, get_or_from_slice_get}
 use Rattle.std.proofs.lemmas.List.Elements.{All-get_or}
 use Rattle.lin_report.specs.declared.calls.Op.{Op}
 use Rattle.lin_report.specs.Commands.{IsCommandOf}
-use Rattle.step_memory.specs.declared.steps.Request.{Request}
 use Rattle.step_memory.specs.declared.steps.Request.TheVariants.{Exchange}
 use Rattle.step_memory.specs.declared.steps.Seen.{Seen}
-use Rattle.step_memory.specs.Step.{place_of, seen_at, seen_of}
+use Rattle.step_memory.specs.Step.{seen_at, seen_of}
 use Rattle.arrayvec.specs.ArrayVec.{ArrayVec}
-use Rattle.word_fields.specs.Versioned.{versioned_version}
 use Rattle.normal_traits.specs.declared.lists.Entry.{Entry}
-use Rattle.normal_traits.specs.declared.form.Wrapped.TheVariants as wrapped
-use Rattle.normal_traits.specs.World.{Listed, World, Among, IsPassed, Took, Failed, Stopped, is_word}
+use Rattle.normal_traits.specs.World.{Listed, World, Among, IsPassed, Took, Stopped, is_word}
 use Rattle.normal_traits.specs.World.Maker.{By}
 use Rattle.normal_traits.specs.NormalForm.{NormalForm}
-use Rattle.normal_traits.specs.Steps.{IsOffered, exchanged, listed_if}
+use Rattle.normal_traits.specs.Steps.{exchanged, listed_if}
 use Rattle.normal_traits.specs.Laws.{Laws, IsGoodEntry, WrappedWell}
 use Rattle.cas_executor.specs.declared.fast_run.Execution.{Execution}
 use Rattle.cas_executor.specs.declared.fast_run.Execution.TheVariants as execution
-use Rattle.cas_executor.specs.FastRuns.{FastWalk, exchange_of, fast_execution, fast_fed, fast_request}
+use Rattle.cas_executor.specs.FastRuns.{FastWalk, exchange_of, fast_execution}
 use Rattle.fast_slow_engine.specs.declared.phases.Phase.{Phase}
 use Rattle.fast_slow_engine.specs.declared.phases.Phase.TheVariants.{Apply}
 use Rattle.fast_slow_engine.specs.declared.phases.Applying.TheVariants.{Execute}
@@ -30,7 +27,6 @@ use Rattle.fast_slow_engine.specs.Mechs.{Mech}
 use Rattle.fast_slow_engine.specs.PhaseTable.{executed, spent, with_hand, mech_request, request_in}
 use Rattle.fast_slow_engine.specs.Runs.{Move, begun, run_of}
 use Rattle.run_history.specs.Ghosts.{Held, execution_restarts, stopped_in, uses_block, won_entry, ghost_of, world_of}
-use Rattle.run_history.specs.Lists.{IsOffering}
 use Rattle.run_history.specs.Known.{KnowsRun, IsStillOffered}
 use Rattle.run_history.specs.Moves.{Grows}
 use Rattle.run_history.proofs.Before.{NoneFrom}
@@ -49,7 +45,9 @@ among_more x (y ∷ newer) xs is = inr (among_more x newer xs is)
 -- an entry that took effect did so
 pub took_grows : (world after : World) (list : Listed) (j : ℕ) → Grows world after → Took world list j → Took after list j
 took_grows world after list j grows took = record {
-  entry = took.entry; cause = took.cause; listed = took.listed;
+  entry = took.entry;
+  cause = took.cause;
+  listed = took.listed;
   won = subst (Among _) (sym grows.journal.1) (among_more _ grows.journal.0 world.journal took.won);
 }
 
@@ -158,15 +156,22 @@ module _ {S W : Type 0} (form : NormalForm S W) where
             let request : mech_request form one ≡ Exchange entry.target entry.from entry.to = ap (λ (p : Phase S W). request_in form p one) is ∙ ap exchange_of has.2 in
             let fine : IsGoodEntry form world entry = all_at (IsGoodEntry form world) list.entries run.next entry listed (subst (All (IsGoodEntry form world)) (sym offered.entries) good.entries) in
             record {
-              grows = world_grows form setup older move; took = took; none = none; entries = entries;
+              grows = world_grows form setup older move;
+              took = took;
+              none = none;
+              entries = entries;
               won = λ won. (let found = won_found entry.target entry.from entry.to words (subst (λ r. (seen_of r words).won ≡ true) request won) in
-              subst (λ (w : World). Took w list run.next) (sym (entries_win form setup older move mech run stores held entry at is holds has.2 found.0 found.1)) (entry_took list run.next entry world listed));
+                  subst (λ (w : World). Took w list run.next) (sym (entries_win form setup older move mech run stores held entry at is holds has.2 found.0 found.1)) (entry_took list run.next entry world listed));
               lost = λ lost. (
                 sym (lost_leave form setup older move mech at lost),
-                (entry, listed, elim (fine.seen fine.clear) [
-                  | inl same ↦ absurd (lost_found entry.target entry.from entry.to words (inside entry.target fine.word) (subst (λ r. (seen_of r words).won ≡ false) request lost) same)
-                  | inr past ↦ past
-                ]),
+                (
+                  entry,
+                  listed,
+                  elim (fine.seen fine.clear) [
+                    | inl same ↦ absurd (lost_found entry.target entry.from entry.to words (inside entry.target fine.word) (subst (λ r. (seen_of r words).won ≡ false) request lost) same)
+                    | inr past ↦ past
+                  ],
+                ),
               );
             }
         | inr past ↦ absurd (omega (arith, past.0, known.running.0))

@@ -1,40 +1,29 @@
 -- What is known of the seat that moves, before its move.
-use Rattle.std.proofs.Common.{◌≡◌, ◌∙◌, refl, sym, subst, ap, ℕ, ◌+◌, ◌^◌, ◌<◌, ◌≤◌, ◌==◌, nat_lt, if◌then◌else◌, Bool, true, false, List, ◌∷◌, length, slice_get, slice_set, Option, Some, None, All, inl, inr, arith, rules}
-use Rattle.std.proofs.lemmas.Bool.Decides.{nat_tests}
+use Rattle.std.proofs.Common.{◌≡◌, ◌∙◌, refl, sym, ap, ℕ, ◌<◌, ◌≤◌, true, false, List, ◌∷◌, length, slice_get, Option, Some, None, rules}
 use Rattle.std.proofs.lemmas.Option.{slice_get_within}
 use Rattle.lin_report.specs.declared.calls.Op.{Op}
 use Rattle.lin_report.specs.Commands.{IsCommandOf}
-use Rattle.step_memory.specs.declared.steps.Request.{Request}
 use Rattle.step_memory.specs.declared.steps.Seen.{Seen}
-use Rattle.step_memory.specs.Step.{place_of, seen_of, word_after}
-use Rattle.arrayvec.specs.ArrayVec.{ArrayVec}
+use Rattle.step_memory.specs.Step.{seen_of}
 use Rattle.node_arena.specs.MemoryMap.{block_place}
-use Rattle.normal_traits.specs.declared.form.Wrapped.{Wrapped}
-use Rattle.normal_traits.specs.declared.form.Wrapped.TheVariants as wrapped
 use Rattle.normal_traits.specs.declared.lists.Entry.{Entry}
-use Rattle.normal_traits.specs.World.{World, IsPassed, Stopped, is_word}
+use Rattle.normal_traits.specs.World.{World, IsPassed, is_word}
 use Rattle.normal_traits.specs.NormalForm.{NormalForm}
-use Rattle.normal_traits.specs.Steps.{IsOffered, IsStep, Requested, with_word}
-use Rattle.normal_traits.specs.Laws.{Laws, IsGoodEntry, IsGoodStore, WrappedWell}
-use Rattle.cas_executor.specs.declared.fast_run.Execution.TheVariants as execution
-use Rattle.cas_executor.specs.FastRuns.{FastWalk, fast_execution, fast_fed}
+use Rattle.normal_traits.specs.Steps.{IsStep, Requested}
 use Rattle.fast_slow_engine.specs.declared.phases.Phase.{Phase}
 use Rattle.fast_slow_engine.specs.declared.phases.Phase.TheVariants.{Idle, Begin, Look, Generate, Apply, Wrap, Value, End}
-use Rattle.fast_slow_engine.specs.declared.phases.Generating.TheVariants.{Search, LookForBlock, Claim}
-use Rattle.fast_slow_engine.specs.declared.phases.Applying.TheVariants.{Fill, Execute}
+use Rattle.fast_slow_engine.specs.declared.phases.Generating.TheVariants.{Search}
 use Rattle.fast_slow_engine.specs.declared.setup.Setup.{Setup}
-use Rattle.fast_slow_engine.specs.Mechs.{Mech, block_of}
-use Rattle.fast_slow_engine.specs.PhaseTable.{executed, fill_request, in_phase, mech_fed, mech_request, request_in, rests, stepped, wrapped_up}
+use Rattle.fast_slow_engine.specs.Mechs.{Mech}
+use Rattle.fast_slow_engine.specs.PhaseTable.{mech_fed, mech_request, rests}
 use Rattle.fast_slow_engine.specs.Runs.{Move, RunState, CanMove, begun, run_of}
-use Rattle.fast_slow_engine.proofs.SameCalls.{same_fed}
 use Rattle.run_laws.proofs.Steps.{at_set, move_steps}
-use Rattle.run_history.specs.Ghosts.{Held, SeatGhost, Ghost, begun_after, execution_restarts, held_in, list_after, restarts, searches_anew, seat_stepped, stopped_in, world_stepped, ghost_of, world_of}
-use Rattle.run_history.specs.Lists.{HoldsIn, OffersList, WrapsList}
-use Rattle.run_history.specs.Known.{KnowsIn, KnowsFill, KnowsRun, KnowsWrap, KnowsWell, IsStillOffered, MakesCommand, OfHeld}
-use Rattle.run_history.proofs.Before.{Before, HandIn, HasBlock, IsStructured, NoneFrom, TookIn, mover}
+use Rattle.run_history.specs.Ghosts.{Held, SeatGhost, Ghost, seat_stepped, world_stepped, ghost_of, world_of}
+use Rattle.run_history.specs.Lists.{HoldsIn}
+use Rattle.run_history.specs.Known.{KnowsIn, MakesCommand}
+use Rattle.run_history.proofs.Before.{Before, HandIn, IsStructured, TookIn, mover}
 use Rattle.run_history.proofs.GrowLemmas.{own_seat}
 use Rattle.run_history.proofs.HeldLemmas.{begun_holds, ghost_moves, lists_held}
-use Rattle.run_history.proofs.WordLemmas.{world_words}
 
 module _ {S W : Type 0} (form : NormalForm S W) where
   -- ---- the machine that moves, with the call that it begins
