@@ -20,3 +20,9 @@ pub mod OtherLemmas
 pub mod AskLemmas
 pub mod EntrySteps
 pub mod AllowedSteps
+pub mod OwnKnows
+pub mod OwnFill
+pub mod OwnRun
+pub mod OwnMover
+pub mod OwnMoves
+pub mod LearntLemmas
