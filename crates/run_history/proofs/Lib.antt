@@ -1,3 +1,5 @@
+pub mod JournalLemmas
+pub mod WinLemmas
 pub mod WordLemmas
 pub mod GrowLemmas
 pub mod HeldLemmas

@@ -4,3 +4,4 @@ pub mod Lists
 pub mod OwnSteps
 pub mod Beside
 pub mod Entries
+pub mod Journals
