@@ -27,6 +27,10 @@ same_maker list other i j e = (cc, cc)
 abbrev ListedBy : {S : Type 0} → List Won → Option (Held S) → Won → Listed → Type 0
 ListedBy journal held won list = Among won journal ⊎ ((own : Held _) × (held ≡ Some own) × (own.list ≡ list))
 
+-- every identity in the journal is below this
+abbrev pub AreBelow : ℕ → List Won → Type 0
+AreBelow count journal = (won : Won) (list : Listed) (j : ℕ) → Among won journal → won.maker ≡ By list j → list.identity < count
+
 wins_came : {S W : Type 0} (phase : Phase S W) (held : Option (Held S)) (seen : Seen) (before after : World) (won : Won) (list : Listed) (j : ℕ) → Wins phase held seen before after
     → Among won after.journal → won.maker ≡ By list j → ListedBy before.journal held won list
 wins_came phase held seen before after won list j wins among maker =
@@ -59,10 +63,6 @@ module _ {S W : Type 0} (form : NormalForm S W) where
   pub won_came : (setup : Setup) (older : List Move) (move : Move) (won : Won) (list : Listed) (j : ℕ) → Among won (ghost_of form setup (move ∷ older)).journal → won.maker ≡ By list j
       → ListedBy (ghost_of form setup older).journal ((ghost_of form setup older).seats move.seat).held won list
   won_came setup older move won list j among maker = came_by setup older move (slice_get (run_of form setup older).mechs move.seat) won list j refl among maker
-
-  -- every identity in the journal is below this
-  abbrev pub AreBelow : ℕ → List Won → Type 0
-  AreBelow count journal = (won : Won) (list : Listed) (j : ℕ) → Among won journal → won.maker ≡ By list j → list.identity < count
 
   below_moved : (setup : Setup) (older : List Move) (move : Move) → AreBelow (length older) (ghost_of form setup older).journal → AreBelow (length older) (ghost_of form setup (move ∷ older)).journal
   below_moved setup older move below won list j among maker =

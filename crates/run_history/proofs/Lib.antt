@@ -1,5 +1,9 @@
 pub mod JournalLemmas
 pub mod WinLemmas
+pub mod MadeLemmas
+pub mod TookSteps
+pub mod TookLemmas
+pub mod OnceLemmas
 pub mod WordLemmas
 pub mod GrowLemmas
 pub mod HeldLemmas
