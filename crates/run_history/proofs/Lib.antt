@@ -4,6 +4,7 @@ pub mod MadeLemmas
 pub mod TookSteps
 pub mod TookLemmas
 pub mod OnceLemmas
+pub mod BlockLemmas
 pub mod WordLemmas
 pub mod GrowLemmas
 pub mod HeldLemmas

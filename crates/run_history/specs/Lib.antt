@@ -5,3 +5,4 @@ pub mod OwnSteps
 pub mod Beside
 pub mod Entries
 pub mod Journals
+pub mod Hands

@@ -4,6 +4,7 @@
 
 pub mod beside;
 pub mod entries;
+pub mod hands;
 pub mod journals;
 pub mod lists;
 pub mod moves;

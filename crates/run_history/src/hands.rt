@@ -1,0 +1,11 @@
+//! The blocks in hand, and the used blocks.
+ghost use Rattle.run_history.specs.Hands.{BlocksHeld, UsedClaimed, HandsUnused};
+
+use normal_traits::Normalized;
+
+/// A machine asks for a block where its operation needs one and it has none; it fills the block of its list
+/// before the first entry, and has it in hand while the list is executed. A list of an operation that needs no
+/// block has none.
+pub fn blocks_held<C: Normalized>()
+    ensures { BlocksHeld C.form }
+{}
