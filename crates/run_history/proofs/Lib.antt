@@ -5,6 +5,7 @@ pub mod TookSteps
 pub mod TookLemmas
 pub mod OnceLemmas
 pub mod BlockLemmas
+pub mod UsedLemmas
 pub mod WordLemmas
 pub mod GrowLemmas
 pub mod HeldLemmas

@@ -9,3 +9,9 @@ use normal_traits::Normalized;
 pub fn blocks_held<C: Normalized>()
     ensures { BlocksHeld C.form }
 {}
+
+/// Each used block was claimed, but for block 0, and is one of the run. The premise is that no move but a claim
+/// writes the claim counter.
+pub fn used_claimed<C: Normalized>()
+    ensures { UsedClaimed C.form }
+{}
