@@ -6,6 +6,7 @@ pub mod TookLemmas
 pub mod OnceLemmas
 pub mod BlockLemmas
 pub mod UsedLemmas
+pub mod HandLemmas
 pub mod WordLemmas
 pub mod GrowLemmas
 pub mod HeldLemmas

@@ -36,7 +36,7 @@ use Rattle.run_history.proofs.WinLemmas.{Wins, move_wins}
 module _ {S W : Type 0} (form : NormalForm S W) where
   -- ---- a walk loses at an entry
 
-  some_words : (setup : Setup) (moves : List Move) → AreMoves form setup moves → 0 < length (run_of form setup moves).words
+  pub some_words : (setup : Setup) (moves : List Move) → AreMoves form setup moves → 2 < length (run_of form setup moves).words
   some_words setup [] are = (let long = length-opening_words form.client setup.cap in omega (arith, long))
   some_words setup (move ∷ older) are =
       let state = run_of form setup older in
@@ -128,7 +128,8 @@ module _ {S W : Type 0} (form : NormalForm S W) where
       let seen = seen_of (mech_request form one) state.words in
       let new = mech_fed form one seen in
       let holds = begun_holds form move.begins is.mech own.held is.can (lists_held form setup older are.0 move.seat is.mech is.seated) in
-      let made = step_made form one.phase (length older) one seen own before after refl holds (loses_inside one.phase one state.words (some_words setup older are.0)) (move_wins form setup older move is.mech is.seated)
+      let some = some_words setup older are.0 in
+      let made = step_made form one.phase (length older) one seen own before after refl holds (loses_inside one.phase one state.words (omega (arith, some))) (move_wins form setup older move is.mech is.seated)
       (λ list same. fresh_made after list (length older) same (journal_before form setup older move))
       (begin_made move.begins is.mech before own.held (each move.seat is.mech is.seated)) in
       each_moved (λ seat mech. MadeOf mech.phase before ((ghost_of form setup older).seats seat).held) (λ seat mech. MadeOf mech.phase after ((ghost_of form setup (move ∷ older)).seats seat).held)

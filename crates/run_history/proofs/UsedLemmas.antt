@@ -97,7 +97,8 @@ module _ {S W : Type 0} where
         let state = run_of form setup older in
         Contains-append_right (claimed_by (slice_get state.mechs move.seat) move state) (claims_of form setup older) block has
 
-    used_before : (setup : Setup) (older : List Move) (move : Move) → AreMoves form setup (move ∷ older) → (block : ℕ) → (world_of form setup (move ∷ older)).used block ≡ true
+    -- a block that is used after a move was used before, or was in the hand of its seat
+    pub used_before : (setup : Setup) (older : List Move) (move : Move) → AreMoves form setup (move ∷ older) → (block : ℕ) → (world_of form setup (move ∷ older)).used block ≡ true
         → ((world_of form setup older).used block ≡ true) ⊎ ((0 < block) × (are : IsMove form (run_of form setup older) move) × (are.mech.hand ≡ Some block))
     used_before setup older move are block used =
         let is = are.1 in

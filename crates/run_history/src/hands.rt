@@ -15,3 +15,9 @@ pub fn blocks_held<C: Normalized>()
 pub fn used_claimed<C: Normalized>()
     ensures { UsedClaimed C.form }
 {}
+
+/// Under that premise each block in hand was claimed, is in no other hand, and no list uses it before the first
+/// entry of its own takes effect.
+pub fn hands_unused<C: Normalized>()
+    ensures { HandsUnused C.form }
+{}
