@@ -1,5 +1,5 @@
 -- The block in hand of a machine is that of its list.
-use Rattle.std.proofs.Common.{◌≡◌, ◌≢◌, ◌∙◌, refl, sym, subst, ap, ℕ, ◌+◌, ◌<◌, ◌==◌, ◌&&◌, nat_lt, if◌then◌else◌, Bool, true, false, List, [], ◌∷◌, length, slice_get, Option, Some, None, arith, rules}
+use Rattle.std.proofs.Common.{◌≡◌, ◌∙◌, refl, sym, subst, ap, ℕ, ◌+◌, ◌==◌, ◌&&◌, nat_lt, if◌then◌else◌, Bool, true, false, [], ◌∷◌, length, Option, Some, None, rules}
 use Rattle.lin_report.specs.declared.calls.Op.{Op}
 use Rattle.lin_report.specs.declared.calls.Outcome.{Outcome}
 use Rattle.lin_report.specs.declared.calls.Outcome.TheVariants.{Plain, ValueOf}
@@ -19,11 +19,9 @@ use Rattle.fast_slow_engine.specs.declared.phases.Phase.{Phase}
 use Rattle.fast_slow_engine.specs.declared.phases.Phase.TheVariants.{Idle, Begin, Look, Generate, Apply, Wrap, Value, End}
 use Rattle.fast_slow_engine.specs.declared.phases.Generating.TheVariants.{Search, LookForBlock, Claim}
 use Rattle.fast_slow_engine.specs.declared.phases.Applying.TheVariants.{Fill, Execute}
-use Rattle.fast_slow_engine.specs.declared.setup.Setup.{Setup}
 use Rattle.fast_slow_engine.specs.Mechs.{Mech, block_of}
 use Rattle.fast_slow_engine.specs.PhaseTable.{executed, holds_none, in_phase, mech_fed, mech_request, offered, searched, spent, stepped, told, with_hand, wrapped_up}
-use Rattle.fast_slow_engine.specs.Runs.{Move, RunState, IsMove, AreMoves, begun, run_of}
-use Rattle.run_laws.specs.Seats.{EachMech}
+use Rattle.fast_slow_engine.specs.Runs.{RunState, begun, run_of}
 use Rattle.run_laws.proofs.Steps.{move_steps}
 use Rattle.run_laws.proofs.SeatLemmas.{new_mech}
 use Rattle.run_laws.proofs.Summaries.{each_moved}

@@ -1,5 +1,5 @@
 -- The blocks in hand are not used before the first entry of their list takes effect.
-use Rattle.std.proofs.Common.{◌≡◌, ◌≢◌, ◌∙◌, refl, sym, subst, ap, ℕ, ◌+◌, ◌<◌, ◌≤◌, ◌==◌, ◌^◌, ◌&&◌, nat_lt, if◌then◌else◌, Bool, true, false, List, [], ◌∷◌, length, get_or, slice_get, Option, Some, None, ◌⊎◌, inl, inr, arith, rules}
+use Rattle.std.proofs.Common.{◌≡◌, ◌≢◌, ◌∙◌, refl, sym, subst, ap, ℕ, ◌+◌, ◌<◌, ◌==◌, ◌&&◌, nat_lt, if◌then◌else◌, Bool, true, false, List, [], ◌∷◌, length, get_or, slice_get, Option, Some, None, ◌⊎◌, inl, inr, arith, rules}
 use Rattle.std.proofs.lemmas.Bool.{cases_eq, lt-ltb}
 use Rattle.std.proofs.lemmas.Bool.Decides.{nat_tests}
 use Rattle.arrayvec.specs.ArrayVec.{ArrayVec}
@@ -7,7 +7,7 @@ use Rattle.lin_report.specs.declared.calls.Op.{Op}
 use Rattle.lin_report.specs.declared.calls.Outcome.{Outcome}
 use Rattle.lin_report.specs.declared.calls.Outcome.TheVariants.{Plain, ValueOf}
 use Rattle.step_memory.specs.declared.steps.Seen.{Seen}
-use Rattle.step_memory.specs.Step.{seen_of, words_after}
+use Rattle.step_memory.specs.Step.{seen_of}
 use Rattle.normal_traits.specs.declared.form.Wrapped.{Wrapped}
 use Rattle.normal_traits.specs.declared.form.Wrapped.TheVariants as wrapped
 use Rattle.normal_traits.specs.declared.lists.Entry.{Entry}
@@ -23,17 +23,17 @@ use Rattle.fast_slow_engine.specs.Mechs.{Mech}
 use Rattle.fast_slow_engine.specs.PhaseTable.{executed, mech_fed, mech_request, rests, spent, stepped, stopped, told, with_hand, wrapped_up}
 use Rattle.fast_slow_engine.specs.Runs.{Move, RunState, CanMove, IsMove, AreMoves, begun, run_of}
 use Rattle.run_laws.specs.Seats.{EachMech}
-use Rattle.run_laws.specs.Claims.{KeepsClaims, MoveKeepsClaims}
+use Rattle.run_laws.specs.Claims.{KeepsClaims}
 use Rattle.run_laws.proofs.ClaimKinds.{ClaimKind, claims, finds_none, keeps, claim_kind}
 use Rattle.run_laws.proofs.ClaimLemmas.{claims_hold}
 use Rattle.run_laws.proofs.SeatLemmas.{new_mech}
 use Rattle.run_laws.proofs.Steps.{move_steps, some_same}
 use Rattle.run_laws.proofs.Summaries.{each_moved}
-use Rattle.run_history.specs.Ghosts.{ghost_of, world_of}
-use Rattle.run_history.specs.Hands.{IsInHand, IsUnspent, HandsUnused}
+use Rattle.run_history.specs.Ghosts.{world_of}
+use Rattle.run_history.specs.Hands.{IsUnspent, HandsUnused}
 use Rattle.run_history.proofs.TookLemmas.{some_words}
 use Rattle.run_history.proofs.UsedLemmas.{begun_hand, claimed_within, executes_with, used_before, used_claimed, used_same}
-use Rattle.run_history.proofs.WinLemmas.{Wins, nothing, beside, takes, move_wins}
+use Rattle.run_history.proofs.WinLemmas.{nothing, beside, takes, move_wins}
 
 not_so : (b : Bool) → (b ≡ true → ⊥) → b ≡ false
 not_so true no_true = absurd (no_true refl)

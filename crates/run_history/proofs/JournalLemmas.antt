@@ -2,7 +2,7 @@
 use Rattle.std.proofs.Common.{◌≡◌, ◌∙◌, refl, sym, subst, ap, ℕ, ◌<◌, List, [], ◌∷◌, length, slice_get, Option, Some, None, ◌⊎◌, inl, inr, arith, rules}
 use Rattle.step_memory.specs.declared.steps.Seen.{Seen}
 use Rattle.step_memory.specs.Step.{seen_of}
-use Rattle.normal_traits.specs.World.{Listed, Maker, Won, World, Among, Took}
+use Rattle.normal_traits.specs.World.{Listed, Won, World, Among}
 use Rattle.normal_traits.specs.World.Maker.{By, Beside}
 use Rattle.normal_traits.specs.NormalForm.{NormalForm}
 use Rattle.normal_traits.specs.Steps.{IsFresh}
@@ -12,8 +12,8 @@ use Rattle.fast_slow_engine.specs.Mechs.{Mech}
 use Rattle.fast_slow_engine.specs.PhaseTable.{mech_request}
 use Rattle.fast_slow_engine.specs.Runs.{Move, begun, run_of}
 use Rattle.run_laws.proofs.Steps.{some_same}
-use Rattle.run_history.specs.Ghosts.{Held, Ghost, ghost_moved, ghost_of, world_of}
-use Rattle.run_history.specs.Journals.{IsIdentified, JournalIdentities}
+use Rattle.run_history.specs.Ghosts.{Held, ghost_moved, ghost_of, world_of}
+use Rattle.run_history.specs.Journals.{JournalIdentities}
 use Rattle.run_history.proofs.IdentityLemmas.{held_from, identities_below, identities_differ}
 use Rattle.run_history.proofs.WinLemmas.{Wins, nothing, beside, takes, move_wins}
 

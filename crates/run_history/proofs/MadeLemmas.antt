@@ -1,5 +1,5 @@
 -- How far a list took effect, where the journal grows.
-use Rattle.std.proofs.Common.{◌≡◌, ◌≢◌, ◌∙◌, refl, sym, subst, ap, ℕ, ◌+◌, ◌<◌, ◌≤◌, true, false, List, ◌∷◌, length, slice_get, Option, Some, None, inl, inr, arith, rules}
+use Rattle.std.proofs.Common.{◌≡◌, ◌≢◌, ◌∙◌, refl, sym, subst, ap, ℕ, ◌+◌, ◌<◌, ◌≤◌, true, false, ◌∷◌, length, slice_get, Option, Some, None, inl, inr, arith, rules}
 use Rattle.std.proofs.lemmas.Bool.{cases_eq}
 use Rattle.std.proofs.lemmas.Option.{slice_get_cases}
 use Rattle.arrayvec.specs.ArrayVec.{ArrayVec}
@@ -14,7 +14,7 @@ use Rattle.fast_slow_engine.specs.declared.phases.Applying.TheVariants.{Fill, Ex
 use Rattle.fast_slow_engine.specs.PhaseTable.{lists}
 use Rattle.run_laws.proofs.Steps.{some_same}
 use Rattle.run_history.specs.Ghosts.{Held}
-use Rattle.run_history.specs.Journals.{TookTo, TookIn}
+use Rattle.run_history.specs.Journals.{TookTo}
 use Rattle.run_history.proofs.JournalLemmas.{AreBelow, same_maker}
 use Rattle.run_history.proofs.WinLemmas.{Wins, nothing, beside, takes, won_by}
 

@@ -1,26 +1,20 @@
 -- Each exchange of a list takes effect at most once.
-use Rattle.std.proofs.Common.{◌≡◌, ◌≢◌, ◌∙◌, refl, sym, subst, ap, ℕ, ◌<◌, List, [], ◌∷◌, length, slice_get, Option, Some, All, AllPairs, inl, inr, arith, rules}
+use Rattle.std.proofs.Common.{◌≡◌, ◌∙◌, refl, sym, subst, ap, ℕ, List, [], ◌∷◌, Option, All, AllPairs, inl, inr, arith}
 use Rattle.std.proofs.lemmas.List.Elements.{All-cons, All-nil}
-use Rattle.arrayvec.specs.ArrayVec.{ArrayVec}
-use Rattle.step_memory.specs.declared.steps.Seen.{Seen}
-use Rattle.step_memory.specs.Step.{seen_of}
-use Rattle.normal_traits.specs.World.{Listed, Maker, Won, World, Among}
+use Rattle.normal_traits.specs.World.{Listed, Won, World, Among}
 use Rattle.normal_traits.specs.World.Maker.{By, Beside}
 use Rattle.normal_traits.specs.NormalForm.{NormalForm}
-use Rattle.cas_executor.specs.FastRuns.{FastWalk}
 use Rattle.fast_slow_engine.specs.declared.phases.Phase.{Phase}
 use Rattle.fast_slow_engine.specs.declared.phases.Phase.TheVariants.{Apply}
 use Rattle.fast_slow_engine.specs.declared.phases.Applying.TheVariants.{Execute}
-use Rattle.fast_slow_engine.specs.declared.setup.Setup.{Setup}
-use Rattle.fast_slow_engine.specs.PhaseTable.{mech_request}
-use Rattle.fast_slow_engine.specs.Runs.{Move, AreMoves, IsMove, begun, run_of}
+use Rattle.fast_slow_engine.specs.Runs.{begun}
 use Rattle.run_laws.proofs.Pairs.{pairs_cons, pairs_nil}
 use Rattle.run_history.specs.Ghosts.{Held, ghost_of, world_of}
 use Rattle.run_history.specs.Journals.{AreApart, WinsOnce}
 use Rattle.run_history.proofs.JournalLemmas.{same_maker}
 use Rattle.run_history.proofs.MadeLemmas.{MadeTo, MadeOf, no_beside}
 use Rattle.run_history.proofs.TookLemmas.{begin_made, lists_made}
-use Rattle.run_history.proofs.WinLemmas.{Wins, nothing, beside, takes, won_by, move_wins}
+use Rattle.run_history.proofs.WinLemmas.{nothing, beside, takes, won_by, move_wins}
 
 pub all_among : {X : Type 0} (P : X → Type 0) (xs : List X) → ((x : X) → Among x xs → P x) → All P xs
 all_among P [] each = All-nil P

@@ -1,6 +1,5 @@
 -- In every run a held list took effect up to where its machine is.
-use Rattle.std.proofs.Common.{◌≡◌, ◌≢◌, ◌∙◌, refl, sym, subst, ap, ℕ, ◌<◌, ◌==◌, nat_lt, if◌then◌else◌, true, false, List, [], ◌∷◌, length, slice_get, Option, Some, None, inl, inr, arith, rules}
-use Rattle.std.proofs.lemmas.Bool.{lt-ltb}
+use Rattle.std.proofs.Common.{◌≡◌, ◌≢◌, ◌∙◌, refl, sym, subst, ap, ℕ, ◌<◌, true, false, List, [], ◌∷◌, length, slice_get, Option, Some, None, arith}
 use Rattle.std.proofs.lemmas.Option.{slice_get_within}
 use Rattle.lin_report.specs.declared.calls.Op.{Op}
 use Rattle.step_memory.specs.declared.steps.Request.TheVariants.{Load}
@@ -9,20 +8,20 @@ use Rattle.step_memory.specs.Step.{seen_of}
 use Rattle.step_memory.proofs.Words.{length-words_after}
 use Rattle.node_arena.proofs.OpeningLemmas.{length-opening_words}
 use Rattle.normal_traits.specs.declared.lists.Entry.{Entry}
-use Rattle.normal_traits.specs.World.{Listed, World}
+use Rattle.normal_traits.specs.World.{World}
 use Rattle.normal_traits.specs.NormalForm.{NormalForm}
-use Rattle.cas_executor.specs.FastRuns.{FastWalk, exchange_of}
+use Rattle.cas_executor.specs.FastRuns.{exchange_of}
 use Rattle.fast_slow_engine.specs.declared.phases.Phase.{Phase}
 use Rattle.fast_slow_engine.specs.declared.phases.Phase.TheVariants.{Idle, Begin, Look, Generate, Apply, Wrap, Value, End}
 use Rattle.fast_slow_engine.specs.declared.phases.Applying.TheVariants.{Fill, Execute}
 use Rattle.fast_slow_engine.specs.declared.setup.Setup.{Setup}
 use Rattle.fast_slow_engine.specs.Mechs.{Mech}
-use Rattle.fast_slow_engine.specs.PhaseTable.{mech_fed, mech_request, request_in, stepped}
-use Rattle.fast_slow_engine.specs.Runs.{Move, RunState, CanMove, IsMove, AreMoves, begun, run_of}
+use Rattle.fast_slow_engine.specs.PhaseTable.{mech_fed, mech_request, request_in}
+use Rattle.fast_slow_engine.specs.Runs.{Move, RunState, IsMove, AreMoves, begun, run_of}
 use Rattle.run_laws.specs.Seats.{EachMech}
 use Rattle.run_laws.proofs.Steps.{move_steps}
 use Rattle.run_laws.proofs.Summaries.{each_moved}
-use Rattle.run_history.specs.Ghosts.{Held, SeatGhost, Ghost, held_in, list_after, seat_stepped, ghost_moved, ghost_of, world_of, world_stepped, world_with}
+use Rattle.run_history.specs.Ghosts.{Held, SeatGhost, Ghost, held_in, list_after, seat_stepped, ghost_of, world_of, world_stepped, world_with}
 use Rattle.run_history.specs.Journals.{TookIn, ListsTook}
 use Rattle.run_history.proofs.BesideLemmas.{seen_inside}
 use Rattle.run_history.proofs.GrowLemmas.{own_seat, others_stay}
@@ -31,7 +30,7 @@ use Rattle.run_history.proofs.IdentityLemmas.{identities_differ}
 use Rattle.run_history.proofs.JournalLemmas.{journal_before}
 use Rattle.run_history.proofs.MadeLemmas.{MadeTo, MadeIn, MadeOf, fresh_made, made_apart, took_to}
 use Rattle.run_history.proofs.TookSteps.{LosesInside, step_made}
-use Rattle.run_history.proofs.WinLemmas.{Wins, move_wins}
+use Rattle.run_history.proofs.WinLemmas.{move_wins}
 
 module _ {S W : Type 0} (form : NormalForm S W) where
   -- ---- a walk loses at an entry

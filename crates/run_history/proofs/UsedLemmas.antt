@@ -1,12 +1,11 @@
 -- The used blocks of a run were claimed.
-use Rattle.std.proofs.Common.{◌≡◌, ◌≢◌, ◌∙◌, refl, sym, subst, ap, ℕ, ◌<◌, ◌≤◌, ◌==◌, ◌||◌, ◌&&◌, nat_lt, if◌then◌else◌, Bool, true, false, List, [], ◌∷◌, ◌++◌, get_or, slice_get, Option, Some, None, ◌⊎◌, inl, inr, All, Contains, arith, rules}
+use Rattle.std.proofs.Common.{◌≡◌, ◌∙◌, refl, sym, subst, ap, ℕ, ◌<◌, ◌==◌, ◌||◌, ◌&&◌, nat_lt, if◌then◌else◌, Bool, true, false, List, [], ◌∷◌, get_or, slice_get, Option, Some, None, ◌⊎◌, inl, inr, Contains, arith, rules}
 use Rattle.std.proofs.lemmas.Bool.{cases_eq, cases_lt, le-ltb}
 use Rattle.std.proofs.lemmas.Bool.Decides.{nat_tests}
 use Rattle.std.proofs.lemmas.List.Elements.{Contains-append_right}
 use Rattle.arrayvec.specs.ArrayVec.{ArrayVec}
 use Rattle.lin_report.specs.declared.calls.Op.{Op}
-use Rattle.step_memory.specs.Step.{seen_of}
-use Rattle.normal_traits.specs.World.{Listed, World}
+use Rattle.normal_traits.specs.World.{Listed}
 use Rattle.normal_traits.specs.NormalForm.{NormalForm}
 use Rattle.normal_traits.specs.Steps.{using_block}
 use Rattle.cas_executor.specs.FastRuns.{FastWalk}
@@ -15,14 +14,13 @@ use Rattle.fast_slow_engine.specs.declared.phases.Phase.TheVariants.{Apply}
 use Rattle.fast_slow_engine.specs.declared.phases.Applying.TheVariants.{Execute}
 use Rattle.fast_slow_engine.specs.declared.setup.Setup.{Setup}
 use Rattle.fast_slow_engine.specs.Mechs.{Mech}
-use Rattle.fast_slow_engine.specs.PhaseTable.{mech_request}
 use Rattle.fast_slow_engine.specs.Runs.{Move, IsMove, AreMoves, begun, run_of}
 use Rattle.run_laws.specs.Claims.{IsClaimed, KeepsClaims, claimed_by, claims_of}
 use Rattle.run_laws.proofs.ClaimLemmas.{claims_hold}
 use Rattle.run_history.specs.Ghosts.{Held, uses_block, ghost_of, world_of}
-use Rattle.run_history.specs.Hands.{BlockIn, ExecutesWith, IsUsed, UsedClaimed}
+use Rattle.run_history.specs.Hands.{BlockIn, ExecutesWith, UsedClaimed}
 use Rattle.run_history.proofs.BlockLemmas.{begin_blocks, blocks_held}
-use Rattle.run_history.proofs.WinLemmas.{Wins, nothing, beside, takes, used_by, move_wins}
+use Rattle.run_history.proofs.WinLemmas.{nothing, beside, takes, used_by, move_wins}
 
 -- a block that the first entry of a list doesn't use is used after it only where it was before
 used_if : (b : Bool) (list : Listed) (used : ℕ → Bool) (block : ℕ) → (if b then using_block list.block used else used) block ≡ true → (used block ≡ true) ⊎ ((b ≡ true) × (block ≡ list.block))

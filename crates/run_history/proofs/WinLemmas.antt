@@ -1,12 +1,12 @@
 -- What a move adds to the won exchanges and to the used blocks.
-use Rattle.std.proofs.Common.{◌≡◌, ◌∙◌, refl, sym, subst, ap, ℕ, if◌then◌else◌, Bool, true, false, List, ◌∷◌, slice_get, Option, Some, None, ◌⊎◌, inl, inr, rules}
+use Rattle.std.proofs.Common.{◌≡◌, refl, subst, ℕ, if◌then◌else◌, Bool, true, false, List, ◌∷◌, slice_get, Option, Some, None}
 use Rattle.arrayvec.specs.ArrayVec.{ArrayVec}
 use Rattle.step_memory.specs.declared.steps.Request.{Request}
 use Rattle.step_memory.specs.declared.steps.Request.TheVariants.{Load, Store, Exchange, Add}
 use Rattle.step_memory.specs.declared.steps.Seen.{Seen}
 use Rattle.step_memory.specs.Step.{seen_of, words_after}
 use Rattle.normal_traits.specs.declared.lists.Entry.{Entry}
-use Rattle.normal_traits.specs.World.{Listed, Maker, Cause, Won, World, Among}
+use Rattle.normal_traits.specs.World.{Listed, Cause, Won, World}
 use Rattle.normal_traits.specs.World.Maker.{By, Beside}
 use Rattle.normal_traits.specs.NormalForm.{NormalForm}
 use Rattle.normal_traits.specs.Steps.{exchanged, listed_if, using_block}
@@ -19,7 +19,7 @@ use Rattle.fast_slow_engine.specs.declared.setup.Setup.{Setup}
 use Rattle.fast_slow_engine.specs.Mechs.{Mech}
 use Rattle.fast_slow_engine.specs.PhaseTable.{lists, mech_request}
 use Rattle.fast_slow_engine.specs.Runs.{Move, begun, run_of}
-use Rattle.run_history.specs.Ghosts.{Held, uses_block, with_block, won_beside, asked_beside, won_entry, asked_listed, world_stepped, ghost_of, world_of}
+use Rattle.run_history.specs.Ghosts.{Held, uses_block, won_beside, asked_beside, won_entry, asked_listed, world_stepped, ghost_of, world_of}
 use Rattle.run_history.proofs.OwnLemmas.{with_words, made_moved}
 
 -- the used blocks once entry j of a list took effect
