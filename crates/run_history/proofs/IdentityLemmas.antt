@@ -3,6 +3,7 @@ use Rattle.std.proofs.Common.{◌≡◌, ◌∙◌, refl, sym, subst, ap, ℕ, L
 use Rattle.std.proofs.lemmas.Bool.{cases_eq}
 use Rattle.step_memory.specs.declared.steps.Seen.{Seen}
 use Rattle.step_memory.specs.Step.{seen_of}
+use Rattle.normal_traits.specs.World.{Listed}
 use Rattle.normal_traits.specs.NormalForm.{NormalForm}
 use Rattle.cas_executor.specs.declared.fast_run.Execution.{Execution}
 use Rattle.cas_executor.specs.declared.fast_run.Execution.TheVariants.{Running, Stopped}
@@ -23,14 +24,14 @@ use Rattle.run_history.proofs.GrowLemmas.{own_seat, others_stay}
 none_some : {A B : Type 0} (x : A) → None ≡ Some x → B
 none_some x e = absurd (search rules)
 
--- the list is new, with this identity, or it is one that was held with the same identity
+-- the list is new, with this identity, or it is one that was held
 abbrev ComesOf : {S : Type 0} → ℕ → Option (Held S) → Held S → Type 0
-ComesOf identity older held = (held.list.identity ≡ identity) ⊎ ((old : Held _) × (older ≡ Some old) × (old.list.identity ≡ held.list.identity))
+ComesOf identity older held = (held.list.identity ≡ identity) ⊎ ((old : Held _) × (older ≡ Some old) × (old.list ≡ held.list))
 
 stopped_comes : {S : Type 0} (execution : Execution) (list : Option (Held S)) (held : Held S) (identity : ℕ) → stopped_in execution list ≡ Some held → ComesOf identity list held
 stopped_comes execution None held identity is = none_some held is
-stopped_comes Running (Some old) held identity is = inr (old, refl, ap (λ (h : Held _). h.list.identity) (some_same old held is))
-stopped_comes (Stopped stop) (Some old) held identity is = inr (old, refl, ap (λ (h : Held _). h.list.identity) (some_same _ held is))
+stopped_comes Running (Some old) held identity is = inr (old, refl, ap (λ (h : Held _). h.list) (some_same old held is))
+stopped_comes (Stopped stop) (Some old) held identity is = inr (old, refl, ap (λ (h : Held _). h.list) (some_same _ held is))
 
 module _ {S W : Type 0} where
   held_was : (phase : Phase S W) (list : Option (Held S)) (held : Held S) → held_in phase list ≡ Some held → list ≡ Some held
@@ -68,10 +69,10 @@ module _ {S W : Type 0} where
         let is : own.held ≡ Some held = ap (λ (o : SeatGhost S). o.held) (sym (own_seat move.seat own ghost.seats)) ∙ is in
         list_comes one.phase identity seen (ghost.seats move.seat) new held (held_was new.phase _ held is)
 
-    -- a list after a move, by its seat: only the seat that moves may have named it
-    pub held_comes : (setup : Setup) (older : List Move) (move : Move) (seat : ℕ) (held : Held S) → ((ghost_of form setup (move ∷ older)).seats seat).held ≡ Some held
-        → ((seat ≡ move.seat) × (held.list.identity ≡ length older)) ⊎ ((old : Held S) × (((ghost_of form setup older).seats seat).held ≡ Some old) × (old.list.identity ≡ held.list.identity))
-    held_comes setup older move seat held is =
+    -- a list after a move, by its seat: only the seat that moves may have named it, and else it was held
+    pub held_from : (setup : Setup) (older : List Move) (move : Move) (seat : ℕ) (held : Held S) → ((ghost_of form setup (move ∷ older)).seats seat).held ≡ Some held
+        → ((seat ≡ move.seat) × (held.list.identity ≡ length older)) ⊎ ((old : Held S) × (((ghost_of form setup older).seats seat).held ≡ Some old) × (old.list ≡ held.list))
+    held_from setup older move seat held is =
         let state = run_of form setup older in
         let ghost = ghost_of form setup older in
         elim (cases_eq seat move.seat) [
@@ -82,6 +83,15 @@ module _ {S W : Type 0} where
                 | inr old ↦ inr (old.0, subst (λ k. (ghost.seats k).held ≡ Some old.0) (sym same) old.1, old.2)
               ]
           | inr apart ↦ inr (held, ap (λ (o : SeatGhost S). o.held) (sym (others_stay form setup older move seat apart)) ∙ is, refl)
+        ]
+
+    -- the same for its identity
+    pub held_comes : (setup : Setup) (older : List Move) (move : Move) (seat : ℕ) (held : Held S) → ((ghost_of form setup (move ∷ older)).seats seat).held ≡ Some held
+        → ((seat ≡ move.seat) × (held.list.identity ≡ length older)) ⊎ ((old : Held S) × (((ghost_of form setup older).seats seat).held ≡ Some old) × (old.list.identity ≡ held.list.identity))
+    held_comes setup older move seat held is =
+        elim (held_from setup older move seat held is) [
+          | inl new ↦ inl new
+          | inr old ↦ inr (old.0, old.1, ap (λ (l : Listed). l.identity) old.2)
         ]
 
     pub identities_below : IdentitiesBelow form

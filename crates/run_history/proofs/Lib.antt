@@ -1,3 +1,12 @@
+pub mod JournalLemmas
+pub mod WinLemmas
+pub mod MadeLemmas
+pub mod TookSteps
+pub mod TookLemmas
+pub mod OnceLemmas
+pub mod BlockLemmas
+pub mod UsedLemmas
+pub mod HandLemmas
 pub mod WordLemmas
 pub mod GrowLemmas
 pub mod HeldLemmas

@@ -4,6 +4,8 @@
 
 pub mod beside;
 pub mod entries;
+pub mod hands;
+pub mod journals;
 pub mod lists;
 pub mod moves;
 pub mod own_steps;
