@@ -7,3 +7,4 @@ pub mod BesideLemmas
 pub mod EntryLemmas
 pub mod OpeningWorld
 pub mod Before
+pub mod Changing

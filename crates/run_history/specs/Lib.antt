@@ -5,3 +5,5 @@ pub mod OwnSteps
 pub mod Beside
 pub mod Entries
 pub mod Known
+pub mod Changes
+pub mod Tells
