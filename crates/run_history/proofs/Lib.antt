@@ -35,3 +35,4 @@ pub mod OwnRun
 pub mod OwnMover
 pub mod OwnMoves
 pub mod LearntLemmas
+pub mod Changing

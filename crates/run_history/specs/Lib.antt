@@ -7,3 +7,5 @@ pub mod Entries
 pub mod Known
 pub mod Journals
 pub mod Hands
+pub mod Changes
+pub mod Tells
