@@ -1,6 +1,5 @@
 -- What is known before a move, from which its step and what it leaves are shown.
-use Rattle.std.proofs.Common.{◌≡◌, ℕ, ◌<◌, ◌≤◌, true, false, ◌⊎◌, List, ◌∷◌, length, slice_get, Option, Some, None}
-use Rattle.arrayvec.specs.ArrayVec.{ArrayVec}
+use Rattle.std.proofs.Common.{◌≡◌, ℕ, ◌<◌, ◌≤◌, true, false, ◌⊎◌, List, length, Option, Some, None}
 use Rattle.step_memory.specs.declared.steps.Request.{Request}
 use Rattle.step_memory.specs.declared.steps.Request.TheVariants.{Load}
 use Rattle.step_memory.specs.Step.{place_of}
@@ -9,17 +8,15 @@ use Rattle.node_arena.specs.MemoryMap.{block_place}
 use Rattle.normal_traits.specs.World.{Listed, World, Took, is_word}
 use Rattle.normal_traits.specs.NormalForm.{NormalForm}
 use Rattle.normal_traits.specs.Steps.{IsFresh}
-use Rattle.cas_executor.specs.FastRuns.{FastWalk}
 use Rattle.fast_slow_engine.specs.declared.phases.Phase.{Phase}
 use Rattle.fast_slow_engine.specs.declared.phases.Phase.TheVariants as phase
-use Rattle.fast_slow_engine.specs.declared.phases.Generating.TheVariants.{Search, LookForBlock, Claim}
+use Rattle.fast_slow_engine.specs.declared.phases.Generating.TheVariants.{LookForBlock, Claim}
 use Rattle.fast_slow_engine.specs.declared.phases.Applying.TheVariants.{Fill, Execute}
 use Rattle.fast_slow_engine.specs.declared.setup.Setup.{Setup}
 use Rattle.fast_slow_engine.specs.Mechs.{Mech}
-use Rattle.fast_slow_engine.specs.PhaseTable.{mech_request}
-use Rattle.fast_slow_engine.specs.Runs.{Move, RunState, AreMoves, IsMove, begun, run_of}
+use Rattle.fast_slow_engine.specs.Runs.{Move, AreMoves, IsMove, begun, run_of}
 use Rattle.run_laws.specs.Seats.{EachMech}
-use Rattle.run_history.specs.Ghosts.{Held, SeatGhost, Ghost, ghost_of, world_of}
+use Rattle.run_history.specs.Ghosts.{Held, ghost_of, world_of}
 use Rattle.run_history.specs.Known.{OfHeld, IsKept}
 
 -- no list of this identity took effect at an entry from this on

@@ -1,7 +1,7 @@
 -- Which change a move makes, and to whom the lists of the journal belong.
-use Rattle.std.proofs.Common.{◌≡◌, ℕ, ◌⊎◌, List, ◌∷◌, slice_get, Option, Some}
+use Rattle.std.proofs.Common.{◌≡◌, ℕ, ◌⊎◌, List, ◌∷◌, slice_get, Some}
 use Rattle.lin_report.specs.Object.{object_of}
-use Rattle.normal_traits.specs.World.{Change, Listed, Won, World, Among}
+use Rattle.normal_traits.specs.World.{Change, Listed, Won, Among}
 use Rattle.normal_traits.specs.World.Maker.{By}
 use Rattle.normal_traits.specs.NormalForm.{NormalForm}
 use Rattle.normal_traits.specs.Steps.{IsStep, change_of}

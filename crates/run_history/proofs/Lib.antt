@@ -36,3 +36,5 @@ pub mod OwnMover
 pub mod OwnMoves
 pub mod LearntLemmas
 pub mod Changing
+pub mod StructureLemmas
+pub mod KeptLemmas

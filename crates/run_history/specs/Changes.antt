@@ -1,5 +1,5 @@
 -- The changes of a run by its ticks, and which calls made them.
-use Rattle.std.specs.Prelude.{◌≡◌, ℕ, ◌≤◌, nat_lt, if◌then◌else◌, List, [], ◌∷◌, length, slice_index}
+use Rattle.std.specs.Prelude.{◌≡◌, ℕ, nat_lt, if◌then◌else◌, List, [], ◌∷◌, length, slice_index}
 use Rattle.node_arena.specs.declared.places.TheConstants.{TICKS}
 use Rattle.normal_traits.specs.World.{Change, Listed, World, Among}
 use Rattle.normal_traits.specs.NormalForm.{NormalForm}

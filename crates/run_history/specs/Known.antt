@@ -8,7 +8,7 @@ use Rattle.word_fields.specs.Versioned.{versioned_version}
 use Rattle.node_arena.specs.declared.places.TheConstants.{TICKS, CLAIMS, HEAD, TAIL, FIRST_WORDS}
 use Rattle.normal_traits.specs.World.{World, Stopped}
 use Rattle.normal_traits.specs.NormalForm.{NormalForm}
-use Rattle.normal_traits.specs.Steps.{IsFilled, IsOffered, IsStep}
+use Rattle.normal_traits.specs.Steps.{IsFilled, IsOffered}
 use Rattle.cas_executor.specs.FastRuns.{FastWalk, IsRunning}
 use Rattle.fast_slow_engine.specs.declared.phases.Phase.{Phase}
 use Rattle.fast_slow_engine.specs.declared.phases.Phase.TheVariants as phase
@@ -17,7 +17,7 @@ use Rattle.fast_slow_engine.specs.declared.phases.Applying.TheVariants.{Fill, Ex
 use Rattle.fast_slow_engine.specs.declared.setup.Setup.{Setup}
 use Rattle.fast_slow_engine.specs.Mechs.{Mech}
 use Rattle.fast_slow_engine.specs.PhaseTable.{fill_request}
-use Rattle.fast_slow_engine.specs.Runs.{Move, AreMoves, run_of}
+use Rattle.fast_slow_engine.specs.Runs.{Move, run_of}
 use Rattle.run_laws.specs.Seats.{EachMech}
 use Rattle.run_laws.specs.Premises.{ClientLeaves}
 use Rattle.run_history.specs.Ghosts.{Held, SeatGhost, ghost_of, world_of}
