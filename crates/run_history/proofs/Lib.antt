@@ -38,3 +38,5 @@ pub mod LearntLemmas
 pub mod Changing
 pub mod StructureLemmas
 pub mod KeptLemmas
+pub mod ObeyLemmas
+pub mod RunLemmas

@@ -9,3 +9,4 @@ pub mod Journals
 pub mod Hands
 pub mod Changes
 pub mod Tells
+pub mod Runs

@@ -9,3 +9,4 @@ pub mod journals;
 pub mod lists;
 pub mod moves;
 pub mod own_steps;
+pub mod runs;
