@@ -166,9 +166,11 @@ value_note block e = absurd (omega (arith, same_field block 13 block 27 (omega a
 -- a note of a block is no versioned word
 note_plain : (block field : ℕ) → field < 12 → (block_place block field == FLAG || block_place block field == REGISTER || field_at (block_place block field) == 28) ≡ false
 note_plain block field low =
-    rw (ne_eqb (block_place block field) FLAG (λ e. absurd (omega (arith, low, same_field block field 0 16 (omega (arith, low)) (omega arith) e))),
-    ne_eqb (block_place block field) REGISTER (λ e. absurd (omega (arith, low, same_field block field 0 14 (omega (arith, low)) (omega arith) e))),
-    ne_eqb (field_at (block_place block field)) 28 (λ e. omega (arith, low, e, field_at-block_place block field (omega (arith, low))))) refl
+    rw (
+      ne_eqb (block_place block field) FLAG (λ e. absurd (omega (arith, low, same_field block field 0 16 (omega (arith, low)) (omega arith) e))),
+      ne_eqb (block_place block field) REGISTER (λ e. absurd (omega (arith, low, same_field block field 0 14 (omega (arith, low)) (omega arith) e))),
+      ne_eqb (field_at (block_place block field)) 28 (λ e. omega (arith, low, e, field_at-block_place block field (omega (arith, low)))),
+    ) refl
 
 offers : (world : World) (search : Search) (op : Op) (since block : ℕ) → Shape world → Knows search op world since → is_ready search → block < 2 ^ 17 → IsGoodOffer flagged_form world block (offer_of search op block)
 offers world (AtFlag o) op since block shape knows ready small = absurd ready
