@@ -10,3 +10,4 @@ pub mod Hands
 pub mod Changes
 pub mod Tells
 pub mod Runs
+pub mod Endings
