@@ -1,8 +1,9 @@
 -- A run: one step of one seat after the other, over one memory.
-use Rattle.std.specs.Prelude.{◌≡◌, ℕ, ◌<◌, Bool, true, false, List, [], ◌∷◌, ◌++◌, map, slice_get, slice_set, Option, Some, None, option_map, IsTrue}
+use Rattle.std.specs.Prelude.{◌≡◌, ℕ, ◌<◌, Bool, true, false, List, [], ◌∷◌, ◌++◌, map, flat_map, slice_get, slice_set, Option, Some, None, option_map, IsTrue}
 use Rattle.std.specs.List.{range_with_len}
 use Rattle.std.specs.Option.{option_to_list}
 use Rattle.lin_report.specs.declared.calls.Op.{Op}
+use Rattle.lin_report.specs.declared.calls.PendingCall.{PendingCall}
 use Rattle.lin_report.specs.declared.calls.Receipt.{Receipt}
 use Rattle.lin_report.specs.declared.events.Event.{Event}
 use Rattle.lin_report.specs.Commands.{is_command}
@@ -13,7 +14,7 @@ use Rattle.fast_slow_engine.specs.declared.setup.Setup.{Setup}
 use Rattle.fast_slow_engine.specs.declared.setup.Turn.{Turn}
 use Rattle.fast_slow_engine.specs.declared.setup.Turn.TheVariants.{Going, Returned}
 use Rattle.fast_slow_engine.specs.Mechs.{Mech}
-use Rattle.fast_slow_engine.specs.PhaseTable.{mech_request, mech_fed, mech_turn, mech_new, mech_started, mech_event, rests}
+use Rattle.fast_slow_engine.specs.PhaseTable.{mech_request, mech_fed, mech_turn, mech_new, mech_started, mech_event, mech_pending, rests}
 
 -- one step of a seat, with the operation that it begins where no call ran
 pub record Move : Type 0 where
@@ -32,6 +33,10 @@ pub record RunState (S W : Type 0) : Type 0 where
 abbrev pub returned : Turn → List Receipt
 returned Going = []
 returned (Returned receipt) = receipt ∷ []
+
+-- the calls that run, in order of their seats
+abbrev pub pending_of : {S W : Type 0} → List (Mech S W) → List PendingCall
+pending_of mechs = flat_map (λ mech. option_to_list (mech_pending mech)) mechs
 
 -- the machine with the call that it begins
 abbrev pub begun : {S W : Type 0} → Option Op → Mech S W → Mech S W
