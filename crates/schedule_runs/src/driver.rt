@@ -1,6 +1,6 @@
 //! Driving a core by a schedule: entry by entry, step by step.
-ghost use Rattle.std.specs.Prelude.{◌≡◌, ℕ, ◌<◌, All, length};
-ghost use Rattle.event_core.specs.Cores.{core_stepped, core_turn};
+ghost use Rattle.std.specs.Prelude.{◌≡◌, ℕ, ◌<◌, ◌||◌, All, length, not};
+ghost use Rattle.event_core.specs.Cores.{core_stepped, core_turn, next_listed};
 ghost use Rattle.schedule_runs.specs.Spans.{IsFirst, after_steps, ends_at, goes_on, reaches_at};
 ghost use Rattle.schedule_runs.specs.Orders.{Follows, IsMade};
 
@@ -53,7 +53,7 @@ fn go_to_end<C: Normalized>(core: &mut Core<C>, seat: u32)
     ensures files { core.new.files ≡ core.old.files }
 {
     for _ in 0..STEP_LIMIT {
-        if !steps_on(core, seat) {
+        if step_ends(core, seat) {
             return;
         }
     }
@@ -67,21 +67,32 @@ fn go_to_exchange<C: Normalized>(core: &mut Core<C>, seat: u32)
     ensures files { core.new.files ≡ core.old.files }
 {
     for _ in 0..STEP_LIMIT {
-        if !steps_on(core, seat) || core.next_is_listed(seat) {
+        if step_reaches(core, seat) {
             return;
         }
     }
 }
 
-/// Makes one step of a seat. Whether its call goes on.
-fn steps_on<C: Normalized>(core: &mut Core<C>, seat: u32) -> bool
+/// Makes one step of a seat. Whether it ends a call or finds the seat idle.
+fn step_ends<C: Normalized>(core: &mut Core<C>, seat: u32) -> bool
     requires seat { seat < length core.old.files }
     ensures step { core.new ≡ core_stepped C.form seat core.old }
-    ensures goes_on { result ≡ goes_on (core_turn C.form seat core.old) }
+    ensures ends { result ≡ not (goes_on (core_turn C.form seat core.old)) }
     ensures files { core.new.files ≡ core.old.files }
 {
     match core.step(seat) {
-        CoreTurn::Going => true,
-        CoreTurn::Idle | CoreTurn::Returned => false,
+        CoreTurn::Going => false,
+        CoreTurn::Idle | CoreTurn::Returned => true,
     }
+}
+
+/// Makes one step of a seat. Whether it ends a call or finds the seat idle, or the seat's next request is
+/// the exchange of an entry of a list.
+fn step_reaches<C: Normalized>(core: &mut Core<C>, seat: u32) -> bool
+    requires seat { seat < length core.old.files }
+    ensures step { core.new ≡ core_stepped C.form seat core.old }
+    ensures reaches { result ≡ (not (goes_on (core_turn C.form seat core.old)) || next_listed seat core.new) }
+    ensures files { core.new.files ≡ core.old.files }
+{
+    step_ends(core, seat) || core.next_is_listed(seat)
 }
