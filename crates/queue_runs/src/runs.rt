@@ -5,7 +5,8 @@ use event_core::Core;
 use fast_slow_engine::Setup;
 use lin_report::Client;
 use ms_queue::MsQueue;
-use script_reader::read_script;
+use schedule_runs::drive;
+use script_reader::{read_schedule, read_script};
 use std::alloc::Global;
 
 /// The failures after which a call would ask for help.
@@ -52,4 +53,16 @@ pub fn make_steps(core: &mut Core<MsQueue>, seat: u32, count: u32)
     for _ in 0..count {
         core.step(seat);
     }
+}
+
+/// Drives a run of two seats by a schedule. Whether it is one.
+pub fn drive_two(alloc: Global, core: &mut Core<MsQueue>, schedule: &[u8]) -> bool
+    requires { length core.old.files ≡ 2 }
+    ensures { core.new.files ≡ core.old.files }
+{
+    let Ok(entries) = read_schedule(alloc, schedule, 2) else {
+        return false;
+    };
+    drive(core, &entries);
+    true
 }
