@@ -126,7 +126,7 @@ module _ {S W : Type 0} (form : NormalForm S W) where
   rest_holds (Value reference) mech held free is = is
   rest_holds (End reply) mech held free is = is
 
-  begun_holds : (begins : Option Op) (mech : Mech S W) (held : Option (Held S)) → CanMove form begins mech → HoldsIn form mech.phase mech held
+  pub begun_holds : (begins : Option Op) (mech : Mech S W) (held : Option (Held S)) → CanMove form begins mech → HoldsIn form mech.phase mech held
       → HoldsIn form (begun begins mech).phase (begun begins mech) held
   begun_holds None mech held can is = is
   begun_holds (Some op) mech held can is = rest_holds mech.phase mech held can.0 is

@@ -7,4 +7,10 @@ pub mod BesideLemmas
 pub mod EntryLemmas
 pub mod OpeningWorld
 pub mod Before
+pub mod OwnKnows
+pub mod OwnFill
+pub mod OwnRun
+pub mod OwnMover
+pub mod OwnMoves
+pub mod LearntLemmas
 pub mod Changing

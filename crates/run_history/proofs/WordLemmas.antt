@@ -22,12 +22,12 @@ abbrev pub word_in : List ℕ → ℕ → ℕ
 word_in words at = get_or words at 0
 
 -- a word that was put stands at its place, and the others stay
-put_here : (place word : ℕ) (words : ℕ → ℕ) (at : ℕ) → at ≡ place → with_word place word words at ≡ word
+pub put_here : (place word : ℕ) (words : ℕ → ℕ) (at : ℕ) → at ≡ place → with_word place word words at ≡ word
 put_here place word words at same =
     let test : (at == place) ≡ true = grind (arith, nat_tests) in
     ap (λ b. if b then word else words at) test
 
-put_beside : (place word : ℕ) (words : ℕ → ℕ) (at : ℕ) → at ≢ place → with_word place word words at ≡ words at
+pub put_beside : (place word : ℕ) (words : ℕ → ℕ) (at : ℕ) → at ≢ place → with_word place word words at ≡ words at
 put_beside place word words at apart =
     let test : (at == place) ≡ false = grind (arith, nat_tests) in
     ap (λ b. if b then word else words at) test
