@@ -14,3 +14,4 @@ pub mod OwnMover
 pub mod OwnMoves
 pub mod LearntLemmas
 pub mod Changing
+pub mod ChangeLemmas
