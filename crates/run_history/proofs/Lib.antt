@@ -15,3 +15,4 @@ pub mod OwnMoves
 pub mod LearntLemmas
 pub mod Changing
 pub mod ChangeLemmas
+pub mod ReplyLemmas
