@@ -40,6 +40,9 @@ pair_among R x y xs pairs among =
     let inside = at.1 in
     subst (R x) at.2 (pairs 0 (suc at.0) x (omega arith) (omega (arith, inside)))
 
+pub none_some : {A B : Type 0} (list : Option A) (x : A) → list ≡ None → list ≡ Some x → B
+none_some list x is was = absurd (cc)
+
 module _ {S W : Type 0} (form : NormalForm S W) where
   -- what a step leaves of the changes and the won exchanges: both as they were, or an exchange beside the lists
   -- with its change, or one of the list that is held, with the list's change
@@ -134,9 +137,6 @@ module _ {S W : Type 0} (form : NormalForm S W) where
       moved_comes (length older) (slice_get state.mechs move.seat) move state (ghost_of form setup older) (run_of form setup (move ∷ older)).words
 
   -- ---- of the lists that are held
-
-  none_some : {A B : Type 0} (list : Option A) (x : A) → list ≡ None → list ≡ Some x → B
-  none_some list x is was = absurd (cc)
 
   -- a list that a machine holds is of its call
   pub held_called : (phase : Phase S W) (mech : Mech S W) (held : Option (Held S)) (h : Held S) → HoldsIn form phase mech held → held ≡ Some h → h.list.call ≡ called mech

@@ -16,3 +16,4 @@ pub mod LearntLemmas
 pub mod Changing
 pub mod ChangeLemmas
 pub mod ReplyLemmas
+pub mod JournalOwners
