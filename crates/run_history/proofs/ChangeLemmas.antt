@@ -1,5 +1,6 @@
 -- Which change a move makes.
 use Rattle.std.proofs.Common.{◌≡◌, ◌≢◌, refl, sym, subst, ap, ℕ, suc, ◌<◌, if◌then◌else◌, Bool, true, false, List, [], ◌∷◌, length, get_or, slice_get, Option, Some, None, AllPairs, inl, inr, arith}
+use Rattle.lin_report.specs.declared.calls.Client.{Client}
 use Rattle.lin_report.specs.Object.{object_of}
 use Rattle.lin_report.specs.Commands.{IsCommandOf}
 use Rattle.step_memory.specs.declared.steps.Request.{Request}
@@ -39,6 +40,10 @@ pair_among R x y xs pairs among =
     let at = among_at y xs among x in
     let inside = at.1 in
     subst (R x) at.2 (pairs 0 (suc at.0) x (omega arith) (omega (arith, inside)))
+
+-- the operation of each change is a command
+abbrev pub AreCommandsOf : Client → List Change → Type 0
+AreCommandsOf client changes = (change : Change) → Among change changes → IsCommandOf client change.list.call.op
 
 pub none_some : {A B : Type 0} (list : Option A) (x : A) → list ≡ None → list ≡ Some x → B
 none_some list x is was = absurd (cc)
@@ -177,9 +182,9 @@ module _ {S W : Type 0} (form : NormalForm S W) where
       (running_command held.mech.phase held.mech ((ghost_of form setup moves).seats seat).held held.held (lists_held form setup moves are seat held.mech held.seated) held.holds
       (kept.knows seat held.mech held.seated).command)
 
-  -- the operation of each change is a command of the client
+  -- so it is of the changes of a run
   abbrev pub AreCommands : Setup → List Move → Type 0
-  AreCommands setup moves = (change : Change) → Among change (world_of form setup moves).changes → IsCommandOf form.client change.list.call.op
+  AreCommands setup moves = AreCommandsOf form.client (world_of form setup moves).changes
 
   pub commands_open : (setup : Setup) → AreCommands setup []
   commands_open setup change among = absurd among

@@ -13,7 +13,7 @@ use Rattle.normal_traits.specs.Steps.{change_of, with_change}
 use Rattle.fast_slow_engine.specs.declared.setup.Setup.{Setup}
 use Rattle.fast_slow_engine.specs.Runs.{Move}
 use Rattle.run_history.specs.Ghosts.{world_of}
-use Rattle.run_history.proofs.ChangeLemmas.{change_comes}
+use Rattle.run_history.proofs.ChangeLemmas.{AreCommandsOf, change_comes}
 
 -- ---- each reply is that of the object
 
@@ -39,10 +39,6 @@ with_replied object None changes are = are
 with_replied object (Some list) changes are = one_replied object list changes are
 
 -- ---- each value that is told is in range
-
--- the operation of each change is a command
-abbrev pub AreCommandsOf : Client → List Change → Type 0
-AreCommandsOf client changes = (change : Change) → Among change changes → IsCommandOf client change.list.call.op
 
 -- what is held after commands alone has values in range
 pub held_in_range : (client : Client) (changes : List Change) → AreCommandsOf client changes → HoldsInRange client (held_after (object_of client) changes)
