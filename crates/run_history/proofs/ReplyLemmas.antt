@@ -71,7 +71,7 @@ among_split x [] among = absurd among
 among_split x (y ∷ ys) (inl same) = ([], ys, ap (λ z. z ∷ ys) (sym same))
 among_split x (y ∷ ys) (inr among) = let rest = among_split x ys among in (y ∷ rest.0, rest.1, ap (λ zs. y ∷ zs) rest.2)
 
--- and so does the reply of each change
+-- the reply of each change tells a value in range
 pub change_small : (client : Client) (changes : List Change) (change : Change) (value : ℕ) → AreReplied (object_of client) changes → AreCommandsOf client changes
     → Among change changes → change.reply ≡ Value value → value < 2 ^ 32
 change_small client changes change value replied are among is =
