@@ -40,3 +40,6 @@ pub mod StructureLemmas
 pub mod KeptLemmas
 pub mod ObeyLemmas
 pub mod RunLemmas
+pub mod ChangeLemmas
+pub mod ReplyLemmas
+pub mod JournalOwners
