@@ -35,4 +35,5 @@ pub mod OwnRun
 pub mod OwnMover
 pub mod OwnMoves
 pub mod LearntLemmas
+pub mod CountSteps
 pub mod Changing
