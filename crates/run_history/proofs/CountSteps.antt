@@ -1,26 +1,30 @@
 -- How many changes there were when a tick was drawn, after one more move.
 use Rattle.std.proofs.Common.{◌≡◌, ◌∙◌, refl, sym, subst, ap, ℕ, ◌+◌, ◌<◌, ◌≤◌, ◌==◌, nat_lt, if◌then◌else◌, Bool, true, false, List, [], ◌∷◌, ◌++◌, length, length-append, get_or, slice_get, Option, Some, None, inl, inr, arith, rules}
 use Rattle.std.proofs.lemmas.Bool.{cases_lt, lt-ltb, le-ltb}
+use Rattle.lin_report.specs.declared.calls.Op.{Op}
 use Rattle.step_memory.specs.declared.steps.Seen.{Seen}
 use Rattle.step_memory.specs.Step.{seen_of}
+use Rattle.step_memory.proofs.Words.{add_tells}
 use Rattle.normal_traits.specs.World.{World}
 use Rattle.normal_traits.specs.NormalForm.{NormalForm}
 use Rattle.fast_slow_engine.specs.declared.phases.Phase.{Phase}
 use Rattle.fast_slow_engine.specs.declared.phases.Phase.TheVariants.{Idle, Begin, Look, Generate, Apply, Wrap, Value, End}
 use Rattle.fast_slow_engine.specs.declared.setup.Setup.{Setup}
 use Rattle.fast_slow_engine.specs.Mechs.{Mech}
-use Rattle.fast_slow_engine.specs.PhaseTable.{mech_fed, mech_request, ticks_left}
-use Rattle.fast_slow_engine.specs.Runs.{Move, RunState, AreMoves, begun, run_of}
+use Rattle.fast_slow_engine.specs.PhaseTable.{mech_request, request_in, rests, stepped, ticks_left}
+use Rattle.fast_slow_engine.specs.Runs.{Move, RunState, AreMoves, CanMove, begun, run_of}
 use Rattle.run_laws.specs.Ticks.{KeepsTicks, draws_tick}
-use Rattle.run_laws.proofs.CallLemmas.{TicksGoOn, ticks_go_on}
-use Rattle.run_laws.proofs.StepKinds.{StepKind, begins, returns, goes}
+use Rattle.run_laws.proofs.Begins.{begin_stays}
+use Rattle.run_laws.proofs.CallLemmas.{ticks_go_on}
+use Rattle.run_laws.proofs.StepKinds.{begins, returns, goes}
 use Rattle.run_laws.proofs.Summaries.{Summary, summary, tick_of}
-use Rattle.run_history.specs.Ghosts.{Held, SeatGhost, ghost_of, searches_anew, world_of, world_stepped}
-use Rattle.run_history.specs.Moves.{Grows}
+use Rattle.run_history.specs.Ghosts.{Held, SeatGhost, begun_after, ghost_of, searches_anew, world_of, world_stepped}
 use Rattle.run_history.specs.Changes.{changes_at}
 use Rattle.run_history.specs.Tells.{CountsIn}
+use Rattle.run_history.proofs.Before.{Before, mover}
 use Rattle.run_history.proofs.GrowLemmas.{world_grows}
 use Rattle.run_history.proofs.OwnLemmas.{made_moved}
+use Rattle.run_history.proofs.OwnMover.{moved, own_moved, own_of, seen_by}
 
 -- the counter after a step is no lower
 tick_rises : {S W : Type 0} (state after : RunState S W) → Summary state after → tick_of state ≤ tick_of after
@@ -171,3 +175,63 @@ module _ {S W : Type 0} (form : NormalForm S W) where
       → (begun ≤ (if anew then later else since)) × ((if anew then later else since) ≤ later)
   since_right true begun since now later within more least most = (omega (arith, within, more), omega arith)
   since_right false begun since now later within more least most = (least refl, omega (arith, most refl, more))
+
+  begun_stays : (phase : Phase S W) (count before : ℕ) → ticks_left phase ≡ 1 → begun_after form phase count before ≡ before
+  begun_stays Idle count before one = absurd (omega (arith, one))
+  begun_stays Begin count before one = absurd (omega (arith, one))
+  begun_stays Look count before one = refl
+  begun_stays (Generate s step) count before one = refl
+  begun_stays (Apply run stores step) count before one = refl
+  begun_stays (Wrap w) count before one = refl
+  begun_stays (Value reference) count before one = refl
+  begun_stays (End reply) count before one = refl
+
+  -- what is known of the seat after a step in this phase
+  abbrev Stepped : Phase S W → Mech S W → Seen → SeatGhost S → ℕ → Option (Held S) → SeatGhost S
+  Stepped phase mech seen own later held = record { since = if searches_anew form phase mech.op seen then later else own.since; begun = begun_after form phase later own.begun; held = held }
+
+  going_counts : (phase : Phase S W) (mech : Mech S W) (seen : Seen) (own : SeatGhost S) (now later : ℕ) (at at' : ℕ → ℕ) (held : Option (Held S)) → ticks_left phase ≡ 1 → draws_tick phase ≡ false → now ≤ later
+      → (ticks_left phase ≡ 1 → at' mech.begin ≡ at mech.begin) → CountsIn form phase mech own now at
+      → CountsIn form (stepped form phase seen mech).phase (stepped form phase seen mech) (Stepped phase mech seen own later held) later at'
+  going_counts phase mech seen own now later at at' held one quiet more same counts =
+      let on = counts_on phase mech seen own now at one counts in
+      let still = begun_stays phase later own.begun one in
+      let since = since_right (searches_anew form phase mech.op seen) own.begun own.since now later on.within more on.since on.most in
+      counts_of (stepped form phase seen mech).phase (stepped form phase seen mech) (Stepped phase mech seen own later held) later at'
+      (still ∙ on.begun ∙ sym (same one) ∙ ap at' (sym (begin_stays form phase seen mech quiet)))
+      (omega (arith, still, since.0)) since.1
+
+  step_counts : (phase : Phase S W) (mech : Mech S W) (seen : Seen) (own : SeatGhost S) (now later : ℕ) (at at' : ℕ → ℕ) (held : Option (Held S)) → rests phase ≡ false → now ≤ later
+      → (ticks_left phase ≡ 1 → at' mech.begin ≡ at mech.begin) → (phase ≡ Begin → at' seen.before ≡ later) → CountsIn form phase mech own now at
+      → CountsIn form (stepped form phase seen mech).phase (stepped form phase seen mech) (Stepped phase mech seen own later held) later at'
+  step_counts Idle mech seen own now later at at' held runs more same drawn counts = absurd (search rules)
+  step_counts Begin mech seen own now later at at' held runs more same drawn counts = (sym (drawn refl), omega arith)
+  step_counts Look mech seen own now later at at' held runs more same drawn counts = going_counts Look mech seen own now later at at' held refl refl more same counts
+  step_counts (Generate s step) mech seen own now later at at' held runs more same drawn counts = going_counts (Generate s step) mech seen own now later at at' held refl refl more same counts
+  step_counts (Apply run stores step) mech seen own now later at at' held runs more same drawn counts = going_counts (Apply run stores step) mech seen own now later at at' held refl refl more same counts
+  step_counts (Wrap w) mech seen own now later at at' held runs more same drawn counts = going_counts (Wrap w) mech seen own now later at at' held refl refl more same counts
+  step_counts (Value reference) mech seen own now later at at' held runs more same drawn counts = going_counts (Value reference) mech seen own now later at at' held refl refl more same counts
+  step_counts (End reply) mech seen own now later at at' held runs more same drawn counts = tt
+
+  -- a call that runs has its begin tick from before the move
+  begun_below : (begins : Option Op) (mech : Mech S W) (tick : ℕ) → (ticks_left mech.phase ≡ 1 → mech.begin < tick) → ticks_left (begun begins mech).phase ≡ 1 → (begun begins mech).begin < tick
+  begun_below None mech tick below one = below one
+  begun_below (Some op) mech tick below one = absurd (omega (arith, one))
+
+  begun_runs : (begins : Option Op) (mech : Mech S W) → CanMove form begins mech → rests (begun begins mech).phase ≡ false
+  begun_runs None mech can = can
+  begun_runs (Some op) mech can = refl
+
+  -- those of the seat that moves
+  pub counts_moved : (setup : Setup) (older : List Move) (move : Move) (b : Before form setup older move) → KeepsTicks form setup (move ∷ older) → let one = mover form b in
+      CountsIn form one.phase one (own_of form b) (count_of setup older) (changes_at form setup older)
+      → CountsIn form (moved form b).phase (moved form b) (own_moved form b) (count_of setup (move ∷ older)) (changes_at form setup (move ∷ older))
+  counts_moved setup older move b keeps counts =
+      let one = mover form b in
+      let below = begun_below move.begins b.is.mech (tick_of (run_of form setup older)) ((ticks_go_on form setup older b.are keeps.0).begun move.seat b.is.mech b.is.seated) in
+      let words = (run_of form setup older).words in
+      step_counts one.phase one (seen_by form b) (own_of form b) (count_of setup older) (count_of setup (move ∷ older)) (changes_at form setup older) (changes_at form setup (move ∷ older)) (own_moved form b).held
+      (begun_runs move.begins b.is.mech b.is.can) (count_rises setup older move)
+      (λ left. at_stays setup older move one.begin (b.are, b.is) keeps (below left))
+      (λ is. ap (changes_at form setup (move ∷ older)) (ap (λ (p : Phase S W). (seen_of (request_in form p one) words).before) is ∙ add_tells 0 1 words)
+      ∙ at_drawn setup older move b.is.mech b.is.seated (ap draws_tick is)) counts
