@@ -36,4 +36,5 @@ pub mod OwnMover
 pub mod OwnMoves
 pub mod LearntLemmas
 pub mod CountSteps
+pub mod TellStays
 pub mod Changing
