@@ -10,12 +10,21 @@ use Rattle.lin_report.specs.Object.{Object, object_of}
 use Rattle.node_arena.specs.declared.places.TheConstants.{NODE_VALUE}
 use Rattle.node_arena.specs.MemoryMap.{block_at, field_at, node_place}
 use Rattle.node_arena.proofs.PlaceLemmas.{field_at-node_place, node_place_behind}
-use Rattle.normal_traits.specs.World.{Change, Listed, World, Among, ChangedBy, Observes, RightSince, StandsFor, first_changes, held_after, is_state, is_word}
+use Rattle.normal_traits.specs.World.{Called, Change, Listed, World, Among, ChangedBy, Observes, RightSince, StandsFor, first_changes, held_after, is_state, is_word}
 use Rattle.normal_traits.specs.NormalForm.{NormalForm}
-use Rattle.normal_traits.specs.Steps.{IsStep}
+use Rattle.normal_traits.specs.Steps.{IsStep, change_of}
 use Rattle.normal_traits.specs.Laws.{Laws, IsFixed}
 use Rattle.normal_traits.proofs.Stays.{word_stays}
+use Rattle.fast_slow_engine.specs.declared.setup.Setup.{Setup}
+use Rattle.fast_slow_engine.specs.Mechs.{Mech}
+use Rattle.fast_slow_engine.specs.Runs.{Move, AreMoves, run_of}
+use Rattle.run_laws.proofs.Steps.{some_same}
+use Rattle.run_laws.proofs.SeatLemmas.{seats_stay}
+use Rattle.run_history.specs.Ghosts.{Held, SeatGhost, ghost_of, world_of}
 use Rattle.run_history.specs.Moves.{Grows}
+use Rattle.run_history.specs.Changes.{IsOfCall, MadeBy, MadeNone}
+use Rattle.run_history.proofs.Changing.{Adds, IsHeldNow}
+use Rattle.run_history.proofs.Changing.Adds.{none, makes}
 use Rattle.run_history.proofs.PassedLemmas.{among_after}
 
 -- the first changes are the same with others in front
@@ -84,3 +93,104 @@ module _ {S W : Type 0} (form : NormalForm S W) (laws : Laws form) (world after 
 
   pub changed_still : (list : Listed) (outcome : Outcome) → IsFixed form outcome → ChangedBy world list outcome → ChangedBy after list outcome
   changed_still list outcome fixed = changed_after world after list outcome grows (λ reply. stands_still outcome reply fixed)
+
+-- ---- the change that a move makes
+
+module _ {S W : Type 0} (form : NormalForm S W) {setup : Setup} {older : List Move} {move : Move} (are : AreMoves form setup older) (adds : Adds form setup older move) where
+  abbrev world : World
+  world = world_of form setup older
+
+  abbrev after : World
+  after = world_of form setup (move ∷ older)
+
+  abbrev own_at : ℕ → SeatGhost S
+  own_at seat = (ghost_of form setup older).seats seat
+
+  -- the change is of a list that some seat holds
+  abbrev OfSome : Change → Type 0
+  OfSome change = (seat : ℕ) × IsHeldNow form setup older seat change.list
+
+  -- a change after the move was there before it, or is that of a list that is held
+  changed_from : (change : Change) → Adds form setup older move → Among change after.changes → Among change world.changes ⊎ OfSome change
+  changed_from change (none same) among = inl (subst (Among change) same among)
+  changed_from change (makes seat list held made) among =
+      front (subst (Among change) made among)
+    where
+      front : Among change (change_of (object_of form.client) list world.changes ∷ world.changes) → Among change world.changes ⊎ OfSome change
+      front (inl new) = inr (seat, subst (λ (c : Change). IsHeldNow form setup older seat c.list) (sym new) held)
+      front (inr old) = inl old
+
+  -- what is before a change is what was before it, or all that was there, and the list is held
+  split_from : (newer past : List Change) (change : Change) → Adds form setup older move → after.changes ≡ newer ++ change ∷ past
+      → ((front : List Change) × (world.changes ≡ front ++ change ∷ past)) ⊎ (OfSome change × (past ≡ world.changes))
+  split_from newer past change (none same) is = inl (newer, sym same ∙ is)
+  split_from newer past change (makes seat list held made) is =
+      front newer (sym made ∙ is)
+    where
+      front : (newer : List Change) → change_of (object_of form.client) list world.changes ∷ world.changes ≡ newer ++ change ∷ past
+          → ((front : List Change) × (world.changes ≡ front ++ change ∷ past)) ⊎ (OfSome change × (past ≡ world.changes))
+      front [] is =
+          let new : change_of (object_of form.client) list world.changes ≡ change = cc in
+          let rest : past ≡ world.changes = cc in
+          inr ((seat, subst (λ (c : Change). IsHeldNow form setup older seat c.list) new held), rest)
+      front (y ∷ ys) is = let rest : world.changes ≡ ys ++ change ∷ past = cc in inl (ys, rest)
+
+  -- a held list is of the call of its seat
+  seat_is : (seat : ℕ) (list : Listed) → IsHeldNow form setup older seat list → list.call.seat ≡ seat
+  seat_is seat list held = ap (λ (c : Called). c.seat) held.call ∙ ((seats_stay form setup older are).own seat held.mech held.seated).seat
+
+  -- of the machine of a seat, with the call that it begins
+  module _ (seat : ℕ) (mech : Mech S W) (own : mech.seat ≡ seat) where
+    -- a change of its call is an old one, or that of the list that it holds
+    own_change : (change : Change) → Among change after.changes → IsOfCall mech change → Among change world.changes ⊎ ((held : Held S) × ((own_at seat).held ≡ Some held) × (change.list ≡ held.list))
+    own_change change among is =
+        elim (changed_from change adds among) [
+          | inl old ↦ inl old
+          | inr new ↦
+              let same : new.0 ≡ seat = sym (seat_is new.0 change.list new.1) ∙ is.seat ∙ own in
+              inr (new.1.held, subst (λ k. (own_at k).held ≡ Some new.1.held) same new.1.holds, sym new.1.list_is)
+        ]
+
+    pub none_still : (own_at seat).held ≡ None → MadeNone world mech → MadeNone after mech
+    none_still empty made change among is =
+        elim (own_change change among is) [
+          | inl old ↦ made change old is
+          | inr new ↦ (let both : None ≡ Some new.0 = sym empty ∙ new.1 in absurd (cc))
+        ]
+
+    -- only a list that it holds makes one
+    pub by_still : (list : Listed) → ((held : Held S) → (own_at seat).held ≡ Some held → held.list ≡ list) → MadeBy list world mech → MadeBy list after mech
+    by_still list held_is made change among is =
+        elim (own_change change among is) [
+          | inl old ↦ made change old is
+          | inr new ↦ new.2 ∙ held_is new.0 new.1
+        ]
+
+    -- its changes were made after its begin tick
+    pub after_still : (begun : ℕ) → ((held : Held S) → (own_at seat).held ≡ Some held → begun ≤ length world.changes)
+        → ((newer past : List Change) (change : Change) → world.changes ≡ newer ++ change ∷ past → IsOfCall mech change → begun ≤ length past)
+        → (newer past : List Change) (change : Change) → after.changes ≡ newer ++ change ∷ past → IsOfCall mech change → begun ≤ length past
+    after_still begun since old newer past change is of_call =
+        elim (split_from newer past change adds is) [
+          | inl front ↦ old front.0 past change front.1 of_call
+          | inr new ↦
+              let same : new.0.0 ≡ seat = sym (seat_is new.0.0 change.list new.0.1) ∙ of_call.seat ∙ own in
+              let some = since new.0.1.held (subst (λ k. (own_at k).held ≡ Some new.0.1.held) same new.0.1.holds) in
+              let long : length past ≡ length world.changes = ap length new.1 in
+              omega (arith, some, long)
+        ]
+
+    -- and none is of a later call
+    pub before_still : (old : Mech S W) → slice_get (run_of form setup older).mechs seat ≡ Some old → old.number ≤ mech.number
+        → ((newer past : List Change) (change : Change) → world.changes ≡ newer ++ change ∷ past → change.list.call.seat ≡ mech.seat → change.list.call.number ≤ mech.number)
+        → (newer past : List Change) (change : Change) → after.changes ≡ newer ++ change ∷ past → change.list.call.seat ≡ mech.seat → change.list.call.number ≤ mech.number
+    before_still old at rises early newer past change is of_seat =
+        elim (split_from newer past change adds is) [
+          | inl front ↦ early front.0 past change front.1 of_seat
+          | inr new ↦
+              let same : new.0.0 ≡ seat = sym (seat_is new.0.0 change.list new.0.1) ∙ of_seat ∙ own in
+              let found = subst (λ k. slice_get (run_of form setup older).mechs k ≡ Some new.0.1.mech) same new.0.1.seated in
+              let alike : new.0.1.mech ≡ old = some_same new.0.1.mech old (sym found ∙ at) in
+              let number : change.list.call.number ≡ old.number = ap (λ (c : Called). c.number) new.0.1.call ∙ ap (λ (m : Mech S W). m.number) alike in
+              omega (arith, number, rises)
+        ]
