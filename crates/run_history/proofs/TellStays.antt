@@ -1,11 +1,11 @@
 -- What a call tells stays right where more changes are made.
-use Rattle.std.proofs.Common.{◌≡◌, ◌≢◌, ◌∙◌, refl, sym, subst, ap, ℕ, suc, ◌+◌, ◌-◌, ◌<◌, ◌≤◌, ◌==◌, ◌||◌, ◌&&◌, not, nat_le, Bool, true, false, ◌⊎◌, List, [], ◌∷◌, ◌++◌, drop, length, length-append, slice_get, Option, Some, None, inl, inr, arith}
+use Rattle.std.proofs.Common.{◌≡◌, ◌≢◌, ◌∙◌, refl, sym, subst, ap, ℕ, suc, ◌+◌, ◌-◌, ◌<◌, ◌≤◌, ◌==◌, ◌||◌, ◌&&◌, not, nat_le, Bool, true, false, ◌⊎◌, List, [], ◌∷◌, ◌++◌, drop, length, length-append, slice_get, slice_index, Option, Some, None, inl, inr, arith}
 use Rattle.std.proofs.lemmas.Bool.Decides.{nat_tests}
 use Rattle.lin_report.specs.declared.calls.Op.{Op}
 use Rattle.lin_report.specs.declared.calls.Outcome.{Outcome}
 use Rattle.lin_report.specs.declared.calls.Outcome.TheVariants.{Plain, ValueOf}
 use Rattle.lin_report.specs.declared.calls.Reply.{Reply}
-use Rattle.lin_report.specs.declared.calls.Reply.TheVariants.{Value}
+use Rattle.lin_report.specs.declared.calls.Reply.TheVariants as reply
 use Rattle.lin_report.specs.Object.{Object, object_of}
 use Rattle.node_arena.specs.declared.places.TheConstants.{NODE_VALUE}
 use Rattle.node_arena.specs.MemoryMap.{block_at, field_at, node_place}
@@ -15,17 +15,32 @@ use Rattle.normal_traits.specs.NormalForm.{NormalForm}
 use Rattle.normal_traits.specs.Steps.{IsStep, change_of}
 use Rattle.normal_traits.specs.Laws.{Laws, IsFixed}
 use Rattle.normal_traits.proofs.Stays.{word_stays}
+use Rattle.fast_slow_engine.specs.declared.phases.Phase.{Phase}
+use Rattle.fast_slow_engine.specs.declared.phases.Phase.TheVariants.{Idle, Begin, Look, Generate, Apply, Wrap, Value, End}
 use Rattle.fast_slow_engine.specs.declared.setup.Setup.{Setup}
 use Rattle.fast_slow_engine.specs.Mechs.{Mech}
 use Rattle.fast_slow_engine.specs.Runs.{Move, AreMoves, run_of}
 use Rattle.run_laws.proofs.Steps.{some_same}
 use Rattle.run_laws.proofs.SeatLemmas.{seats_stay}
+use Rattle.run_laws.proofs.ClaimLemmas.{claims_rise}
+use Rattle.run_laws.proofs.PremiseLemmas.{client_keeps_claims, client_keeps_ticks}
 use Rattle.run_history.specs.Ghosts.{Held, SeatGhost, ghost_of, world_of}
+use Rattle.run_history.specs.Lists.{HoldsIn}
 use Rattle.run_history.specs.Moves.{Grows}
-use Rattle.run_history.specs.Changes.{IsOfCall, MadeBy, MadeNone}
-use Rattle.run_history.proofs.Changing.{Adds, IsHeldNow}
+use Rattle.run_history.specs.Known.{OfHeld}
+use Rattle.run_history.specs.Changes.{IsOfCall, MadeBy, MadeNone, changes_at}
+use Rattle.run_history.specs.Tells.{CountsIn, EachTells, TellsIn, TellsRight, TellsWell}
+use Rattle.run_history.specs.Tells.TellsRight.{observed, changed}
+use Rattle.run_history.proofs.Changing.{Adds, IsHeldNow, Moved}
 use Rattle.run_history.proofs.Changing.Adds.{none, makes}
+use Rattle.run_history.proofs.CountSteps.{count_of, counts_kept}
+use Rattle.run_history.proofs.GrowLemmas.{others_stay, world_grows}
+use Rattle.run_history.proofs.HeldLemmas.{lists_held}
 use Rattle.run_history.proofs.PassedLemmas.{among_after}
+
+-- no list is held
+pub holds_none : {A B : Type 0} (list : Option A) (x : A) → list ≡ None → list ≡ Some x → B
+holds_none list x empty some = absurd (cc)
 
 -- the first changes are the same with others in front
 first_after : (count : ℕ) (newer changes : List Change) → count ≤ length changes → first_changes count (newer ++ changes) ≡ first_changes count changes
@@ -82,17 +97,17 @@ changed_after world after list outcome grows stands by =
 
 module _ {S W : Type 0} (form : NormalForm S W) (laws : Laws form) (world after : World) (shape : form.shape world) (step : IsStep form world after) (grows : Grows world after) where
   -- what an outcome stands for stays: the value that it names is never exchanged
-  pub stands_still : (outcome : Outcome) (reply : Reply) → IsFixed form outcome → StandsFor world outcome reply → StandsFor after outcome reply
-  stands_still (Plain reply') reply fixed is = is
-  stands_still (ValueOf reference) reply fixed is =
+  pub stands_still : (outcome : Outcome) (told : Reply) → IsFixed form outcome → StandsFor world outcome told → StandsFor after outcome told
+  stands_still (Plain reply') told fixed is = is
+  stands_still (ValueOf reference) told fixed is =
       let place = node_place reference 1 in
-      (grows.used (block_at place) is.0, ap Value (word_stays form laws world place fixed after shape (node_word world reference is.0) step) ∙ is.1)
+      (grows.used (block_at place) is.0, ap reply.Value (word_stays form laws world place fixed after shape (node_word world reference is.0) step) ∙ is.1)
 
   pub right_still : (op : Op) (since : ℕ) (outcome : Outcome) → IsFixed form outcome → RightSince (object_of form.client) world op since outcome → RightSince (object_of form.client) after op since outcome
-  right_still op since outcome fixed = right_after (object_of form.client) world after op since outcome grows (λ reply. stands_still outcome reply fixed)
+  right_still op since outcome fixed = right_after (object_of form.client) world after op since outcome grows (λ told. stands_still outcome told fixed)
 
   pub changed_still : (list : Listed) (outcome : Outcome) → IsFixed form outcome → ChangedBy world list outcome → ChangedBy after list outcome
-  changed_still list outcome fixed = changed_after world after list outcome grows (λ reply. stands_still outcome reply fixed)
+  changed_still list outcome fixed = changed_after world after list outcome grows (λ told. stands_still outcome told fixed)
 
 -- ---- the change that a move makes
 
@@ -194,3 +209,76 @@ module _ {S W : Type 0} (form : NormalForm S W) {setup : Setup} {older : List Mo
               let number : change.list.call.number ≡ old.number = ap (λ (c : Called). c.number) new.0.1.call ∙ ap (λ (m : Mech S W). m.number) alike in
               omega (arith, number, rises)
         ]
+
+-- ---- a seat that doesn't move
+
+module _ {S W : Type 0} (form : NormalForm S W) where
+  -- a seat that holds a list has counts
+  pub held_counts : (phase : Phase S W) (mech : Mech S W) (own : SeatGhost S) (now : ℕ) (at : ℕ → ℕ) (held : Held S) → HoldsIn form phase mech own.held → own.held ≡ Some held
+      → CountsIn form phase mech own now at → own.begun ≤ now
+  held_counts Idle mech own now at held is holds counts = holds_none own.held held is holds
+  held_counts Begin mech own now at held is holds counts = holds_none own.held held is holds
+  held_counts Look mech own now at held is holds counts = holds_none own.held held is holds
+  held_counts (Generate s step) mech own now at held is holds counts = holds_none own.held held is holds
+  held_counts (Apply run stores step) mech own now at held is holds counts = omega (arith, counts.1, counts.2)
+  held_counts (Wrap w) mech own now at held is holds counts = omega (arith, counts.1, counts.2)
+  held_counts (Value reference) mech own now at held is holds counts = holds_none own.held held is holds
+  held_counts (End reply) mech own now at held is holds counts = holds_none own.held held is holds
+
+  module _ {setup : Setup} {older : List Move} {move : Move} (m : Moved form setup older move) (adds : Adds form setup older move) where
+    abbrev grows : Grows (world_of form setup older) (world_of form setup (move ∷ older))
+    grows = world_grows form setup older move
+
+    -- of a machine of a seat, with the call that it begins
+    module _ (seat : ℕ) (mech : Mech S W) (own : mech.seat ≡ seat) where
+      abbrev known : SeatGhost S
+      known = (ghost_of form setup older).seats seat
+
+      pub right_stays : known.held ≡ None → (begun : ℕ) (outcome : Outcome) → TellsRight form (world_of form setup older) mech begun outcome → TellsRight form (world_of form setup (move ∷ older)) mech begun outcome
+      right_stays empty begun outcome (observed right fixed made) =
+          observed (right_still form m.laws (world_of form setup older) (world_of form setup (move ∷ older)) m.before.kept.shape m.step grows mech.op begun outcome fixed right) fixed
+          (none_still form m.before.are adds seat mech own empty made)
+      right_stays empty begun outcome (changed list call by fixed made) =
+          changed list call (changed_still form m.laws (world_of form setup older) (world_of form setup (move ∷ older)) m.before.kept.shape m.step grows list outcome fixed by) fixed
+          (by_still form m.before.are adds seat mech own list (λ held holds. holds_none known.held held empty holds) made)
+
+      pub held_stays : (held : Option (Held S)) → known.held ≡ held → OfHeld (λ (h : Held S). MadeBy h.list (world_of form setup older) mech) held
+          → OfHeld (λ (h : Held S). MadeBy h.list (world_of form setup (move ∷ older)) mech) held
+      held_stays None is made = made
+      held_stays (Some held) is made =
+          by_still form m.before.are adds seat mech own held.list (λ h holds. ap (λ (x : Held S). x.list) (some_same h held (sym holds ∙ is))) made
+
+      -- what it tells in a phase stays
+      pub tells_stay : (phase : Phase S W) (claims later : ℕ) → claims ≤ later → HoldsIn form phase mech known.held → TellsIn form phase mech known (world_of form setup older) claims
+          → TellsIn form phase mech known (world_of form setup (move ∷ older)) later
+      tells_stay Idle claims later more is told = tt
+      tells_stay Begin claims later more is told = none_still form m.before.are adds seat mech own is told
+      tells_stay Look claims later more is told = none_still form m.before.are adds seat mech own is told
+      tells_stay (Generate s step) claims later more is told = none_still form m.before.are adds seat mech own is told
+      tells_stay (Apply run stores step) claims later more is told = held_stays known.held refl told
+      tells_stay (Wrap w) claims later more is told = held_stays known.held refl told
+      tells_stay (Value reference) claims later more is told = right_stays is known.begun (ValueOf reference) told
+      tells_stay (End reply) claims later more is told =
+          elim told [
+            | inl right ↦ inl (right_stays is known.begun (Plain reply) right)
+            | inr left ↦ inr (left.0, record { none_left = omega (arith, left.1.none_left, more); unchanged = none_still form m.before.are adds seat mech own is left.1.unchanged })
+          ]
+
+    -- what holds of each other seat
+    pub tells_others : EachTells form setup older → (seat : ℕ) → seat ≢ move.seat → (mech : Mech S W) → slice_get (run_of form setup older).mechs seat ≡ Some mech
+        → TellsWell form setup (move ∷ older) mech ((ghost_of form setup (move ∷ older)).seats seat)
+    tells_others each seat apart mech at =
+        let known = (ghost_of form setup older).seats seat in
+        let told = each seat mech at in
+        let own = ((seats_stay form setup older m.before.are).own seat mech at).seat in
+        let holds = lists_held form setup older m.before.are seat mech at in
+        let ticks = client_keeps_ticks form setup (move ∷ older) m.kept.ticks in
+        let claims = client_keeps_claims form setup (move ∷ older) m.kept.claims in
+        subst (λ (o : SeatGhost S). TellsWell form setup (move ∷ older) mech o) (sym (others_stay form setup older move seat apart)) (record {
+          tells = tells_stay seat mech own mech.phase (slice_index (run_of form setup older).words 2) (slice_index (run_of form setup (move ∷ older)).words 2)
+              (claims_rise form setup older move (m.before.are, m.before.is) claims) holds told.tells;
+          counts = counts_kept form setup older move seat mech known (m.before.are, m.before.is) ticks at told.counts;
+          after = after_still form m.before.are adds seat mech own known.begun
+              (λ held is. held_counts mech.phase mech known (count_of form setup older) (changes_at form setup older) held holds is told.counts) told.after;
+          before = before_still form m.before.are adds seat mech own mech at (omega arith) told.before;
+        })
