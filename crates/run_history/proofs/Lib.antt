@@ -37,4 +37,5 @@ pub mod OwnMoves
 pub mod LearntLemmas
 pub mod CountSteps
 pub mod TellStays
+pub mod TellOwn
 pub mod Changing
