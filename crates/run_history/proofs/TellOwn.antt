@@ -13,7 +13,7 @@ use Rattle.arrayvec.specs.ArrayVec.{ArrayVec}
 use Rattle.step_memory.specs.declared.steps.Seen.{Seen}
 use Rattle.step_memory.specs.Step.{seen_of}
 use Rattle.step_memory.proofs.Words.{add_tells, load_tells}
-use Rattle.node_arena.specs.declared.places.TheConstants.{NODE_VALUE}
+use Rattle.node_arena.specs.declared.places.TheConstants.{CLAIMS, NODE_VALUE}
 use Rattle.node_arena.specs.MemoryMap.{block_at, node_place}
 use Rattle.node_arena.proofs.PlaceLemmas.{block_at-node_place}
 use Rattle.normal_traits.specs.declared.form.Found.{Found}
@@ -31,16 +31,22 @@ use Rattle.fast_slow_engine.specs.declared.phases.Generating.TheVariants.{Search
 use Rattle.fast_slow_engine.specs.declared.phases.Applying.TheVariants.{Fill, Execute}
 use Rattle.fast_slow_engine.specs.declared.setup.Setup.{Setup}
 use Rattle.fast_slow_engine.specs.Mechs.{Mech}
-use Rattle.fast_slow_engine.specs.PhaseTable.{executed, holds_none, in_phase, offered, request_in, rests, searched, stepped, told, with_hand, wrapped_up}
+use Rattle.fast_slow_engine.specs.PhaseTable.{executed, holds_none, in_phase, offered, request_in, rests, searched, spent, stepped, told, with_hand, wrapped_up}
 use Rattle.fast_slow_engine.specs.Runs.{Move, CanMove, begun, run_of}
-use Rattle.run_history.specs.Ghosts.{Held, SeatGhost, held_in, list_after, stopped_in, ghost_of, world_of}
-use Rattle.run_history.specs.Lists.{HoldsIn}
+use Rattle.run_laws.proofs.ClaimLemmas.{claims_rise}
+use Rattle.run_laws.proofs.PremiseLemmas.{client_keeps_claims}
+use Rattle.run_history.specs.Ghosts.{Held, SeatGhost, begun_after, execution_restarts, held_in, list_after, newly_held, restarts, searches_anew, stopped_at, stopped_in, world_of}
+use Rattle.run_history.specs.Lists.{HoldsIn, OffersList, WrapsList}
 use Rattle.run_history.specs.Known.{OfHeld}
 use Rattle.run_history.specs.Changes.{IsOfCall, MadeBy, MadeNone}
-use Rattle.run_history.specs.Tells.{TellsIn, TellsRight, TellsWell}
+use Rattle.run_history.specs.Tells.{CountsIn, TellsIn, TellsRight, TellsWell}
 use Rattle.run_history.specs.Tells.TellsRight.{observed, changed}
 use Rattle.run_history.proofs.Before.{Before, mover}
-use Rattle.run_history.proofs.OwnMover.{own_of}
+use Rattle.run_history.proofs.Changing.{Adds, Moved}
+use Rattle.run_history.proofs.LearntLemmas.{Learnt}
+use Rattle.run_history.proofs.MoverLemmas.{mover_seated}
+use Rattle.run_history.proofs.OwnMover.{mover_command, own_of, seen_by}
+use Rattle.run_history.proofs.TellStays.{held_stays, none_still, right_stays}
 
 -- a change among others is behind some of them
 among_behind : {X : Type 0} (x : X) (xs : List X) → Among x xs → (front : List X) × (rest : List X) × (xs ≡ front ++ x ∷ rest)
@@ -153,3 +159,110 @@ module _ {S W : Type 0} (form : NormalForm S W) where
       as_plain same (observed right fixed made) =
           observed (record { count = right.count; not_before = right.not_before; made = right.made; observes = right.observes; told = sym same ∙ right.told.1 }) tt made
       as_plain same (changed list call by fixed made) = changed list call (record { reply = by.reply; change = by.change; told = sym same ∙ by.told.1 }) tt made
+
+  -- ---- any step
+
+  module _ {setup : Setup} {older : List Move} {move : Move} (m : Moved form setup older move) (adds : Adds form setup older move) (learnt : Learnt form m.before) (small : TellsSmall (world_of form setup older)) where
+    abbrev world : World
+    world = world_of form setup older
+
+    abbrev after : World
+    after = world_of form setup (move ∷ older)
+
+    abbrev one : Mech S W
+    one = mover form m.before
+
+    abbrev seen : Seen
+    seen = seen_by form m.before
+
+    abbrev own : SeatGhost S
+    own = own_of form m.before
+
+    -- the claim counter before the move and after it
+    abbrev claims : ℕ
+    claims = slice_index (run_of form setup older).words CLAIMS
+
+    abbrev later : ℕ
+    later = slice_index (run_of form setup (move ∷ older)).words CLAIMS
+
+    claims_more : claims ≤ later
+    claims_more = claims_rise form setup older move (m.before.are, m.before.is) (client_keeps_claims form setup (move ∷ older) m.kept.claims)
+
+    pub one_seat : one.seat ≡ move.seat
+    one_seat = (mover_seated form setup older move m.before).seat
+
+    used_small : UsedSmall after
+    used_small block used = omega (arith, m.structured.used block used, setup.few_blocks)
+
+    none_after : own.held ≡ None → MadeNone world one → MadeNone after one
+    none_after empty made = none_still form m.before.are adds move.seat one one_seat empty made
+
+    held_after_move : (held : Option (Held S)) → own.held ≡ held → OfHeld (λ (h : Held S). MadeBy h.list world one) held → OfHeld (λ (h : Held S). MadeBy h.list after one) held
+    held_after_move held is made = held_stays form m adds move.seat one one_seat held is made
+
+    -- a dead list made no change, so its call made none
+    dead_none : (held : Held S) → MadeBy held.list after one → form.dead held.list after → MadeNone after one
+    dead_none held made dead change among is = m.laws.dead_unchanged after held.list change m.kept.shape dead among (made change among is)
+
+    -- an answer of a search is right since the begin tick
+    answered : (s : S) (outcome : Outcome) → one.phase ≡ Generate s Search → own.begun ≤ own.since → MadeNone after one → form.found_of s seen ≡ found.Answer outcome → TellsRight form after one own.begun outcome
+    answered s outcome is early made answer =
+        let told = learnt.answers s outcome is answer in
+        let right = told.0 in
+        observed (record { count = right.count; not_before = omega (arith, right.not_before, early); made = right.made; observes = right.observes; told = right.told }) told.1 made
+
+    wrap_after : (w : W) (since : ℕ) (held : Option (Held S)) → one.phase ≡ Wrap w → own.held ≡ held → WrapsList form one held → OfHeld (λ (h : Held S). MadeBy h.list after one) held
+        → Tells one (wrapped_up form (form.wrap_found_of w seen) (form.feed_wrap_of w seen) one) since own.begun held after later
+    wrap_after w since None is holds of_call made = absurd made
+    wrap_after w since (Some held) is holds of_call made =
+        wrapped_tells (form.wrap_found_of w seen) (form.feed_wrap_of w seen) one one since own.begun held after later used_small made
+        (λ outcome done. (let told = learnt.wraps w held outcome is holds done in changed held.list of_call.call told.0 told.1 made))
+        (λ restart. dead_none held made (learnt.restarts_dead held holds (ap (λ (p : Phase S W). searches_anew form p one.op seen) is ∙ ap restarts restart)))
+
+    run_after : (run : FastWalk) (stores : ArrayVec (ℕ × ℕ)) (since : ℕ) (ends : Execution) (held : Option (Held S)) → one.phase ≡ Apply run stores Execute → fast_execution run seen ≡ ends → own.held ≡ held
+        → OffersList form run stores one held → OfHeld (λ (h : Held S). MadeBy h.list after one) held
+        → Tells one (executed form ends (fast_fed run seen) stores one) since own.begun (stopped_in ends held) after later
+    run_after run stores since ends None is ends_so holds offers made = absurd made
+    run_after run stores since execution.Running (Some held) is ends_so holds offers made = made
+    run_after run stores since (execution.Stopped stop) (Some held) is ends_so holds offers made =
+        wrapped_tells (form.wrap_begun_of one.op run.entries stop) (form.begin_wrap_of one.op run.entries stop) (spent form stop one) one since own.begun (stopped_at (execution.Stopped stop) held) after later used_small made
+        (λ outcome done. (let told = learnt.runs run stores held stop outcome is holds ends_so done in changed held.list offers.held_by.call told.0 told.1 made))
+        (λ restart. dead_none held made (learnt.restarts_dead held holds
+        (ap (λ (p : Phase S W). searches_anew form p one.op seen) is ∙ ap (execution_restarts form one.op run.entries) ends_so ∙ ap restarts restart)))
+
+    -- what the request of a phase saw
+    saw : (phase : Phase S W) → one.phase ≡ phase → seen.before ≡ (seen_of (request_in form phase one) (run_of form setup older).words).before
+    saw phase is = ap (λ (p : Phase S W). (seen_of (request_in form p one) (run_of form setup older).words).before) is
+
+    -- no block is left where the counter was seen at cap
+    none_left : (before : ℕ) → before ≡ claims → nat_lt before one.setup.cap ≡ false → one.setup.cap ≤ later
+    none_left before is past =
+        elim (cases_lt before one.setup.cap) [
+          | inl less ↦ (let yes : nat_lt before one.setup.cap ≡ true = lt-ltb before one.setup.cap less in absurd (cc))
+          | inr more ↦ omega (arith, more, is, claims_more)
+        ]
+
+    -- what the seat that moves tells after its step
+    step_tells : (phase : Phase S W) (since now : ℕ) (at : ℕ → ℕ) → one.phase ≡ phase → rests phase ≡ false → HoldsIn form phase one own.held → CountsIn form phase one own now at → TellsIn form phase one own world claims
+        → (let new = stepped form phase seen one in Tells one new since (begun_after form phase (length after.changes) own.begun) (list_after form (length older) phase seen own new) after later)
+    step_tells Idle since now at is runs holds counts told = absurd (search rules)
+    step_tells Begin since now at is runs holds counts told = none_after holds told
+    step_tells Look since now at is runs holds counts told = none_after holds told
+    step_tells (Generate s Search) since now at is runs holds counts told =
+        searched_tells (form.found_of s seen) (form.feed_of s seen) one one since own.begun (newly_held form (length older) (form.feed_of s seen) own.since (searched form (form.found_of s seen) (form.feed_of s seen) one)) after later used_small
+        (none_after holds told) (λ outcome. answered s outcome is counts.1 (none_after holds told))
+    step_tells (Generate s LookForBlock) since now at is runs holds counts told =
+        looked_tells (nat_lt seen.before one.setup.cap) s one one since own.begun _ after later (none_after holds told)
+        (none_left seen.before (saw (Generate s LookForBlock) is ∙ load_tells 2 (run_of form setup older).words))
+    step_tells (Generate s Claim) since now at is runs holds counts told =
+        claimed_tells (nat_lt seen.before one.setup.cap) s (seen.before + 1) one one since own.begun _ after later (none_after holds told)
+        (none_left seen.before (saw (Generate s Claim) is ∙ add_tells 2 1 (run_of form setup older).words))
+    step_tells (Apply run stores (Fill made)) since now at is runs holds counts told = held_after_move own.held refl told
+    step_tells (Apply run stores Execute) since now at is runs holds counts told =
+        run_after run stores since (fast_execution run seen) own.held is refl refl holds (held_after_move own.held refl told)
+    step_tells (Wrap w) since now at is runs holds counts told = wrap_after w since own.held is refl holds (held_after_move own.held refl told)
+    step_tells (Value reference) since now at is runs holds counts told =
+        (let word = saw (Value reference) is ∙ load_tells (node_place reference 1) (run_of form setup older).words in
+        inl (right_stays form m adds move.seat one one_seat holds own.begun (Plain (reply.Value (seen.before % 2 ^ 32)))
+        (value_told world one own.begun reference seen.before small (mover_command form m.before) (sym word) told)))
+    step_tells (End answer) since now at is runs holds counts told = tt
