@@ -38,4 +38,5 @@ pub mod LearntLemmas
 pub mod CountSteps
 pub mod TellStays
 pub mod TellOwn
+pub mod TellLemmas
 pub mod Changing

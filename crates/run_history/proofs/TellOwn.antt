@@ -1,11 +1,10 @@
 -- What the seat that moves tells after its move.
-use Rattle.std.proofs.Common.{◌≡◌, ◌∙◌, refl, sym, subst, ap, ℕ, ◌+◌, ◌/◌, ◌%◌, ◌^◌, ◌<◌, ◌≤◌, ◌==◌, ◌&&◌, nat_lt, if◌then◌else◌, Bool, true, false, ◌⊎◌, List, [], ◌∷◌, ◌++◌, length, slice_get, slice_index, Option, Some, None, inl, inr, arith, rules}
+use Rattle.std.proofs.Common.{◌≡◌, ◌∙◌, refl, sym, subst, ap, ℕ, ◌+◌, ◌%◌, ◌^◌, ◌<◌, ◌≤◌, ◌&&◌, nat_lt, if◌then◌else◌, Bool, true, false, List, [], ◌∷◌, ◌++◌, length, slice_index, Option, Some, None, inl, inr, arith, rules}
 use Rattle.std.proofs.Math.Nat.{mod-eq_of_lt}
 use Rattle.std.proofs.lemmas.Bool.{cases_lt, lt-ltb}
 use Rattle.lin_report.specs.declared.calls.Op.{Op}
 use Rattle.lin_report.specs.declared.calls.Outcome.{Outcome}
 use Rattle.lin_report.specs.declared.calls.Outcome.TheVariants.{Plain, ValueOf}
-use Rattle.lin_report.specs.declared.calls.Reply.{Reply}
 use Rattle.lin_report.specs.declared.calls.Reply.TheVariants as reply
 use Rattle.lin_report.specs.Commands.{IsCommandOf}
 use Rattle.lin_report.specs.Object.{object_of}
@@ -20,7 +19,7 @@ use Rattle.normal_traits.specs.declared.form.Found.{Found}
 use Rattle.normal_traits.specs.declared.form.Found.TheVariants as found
 use Rattle.normal_traits.specs.declared.form.Wrapped.{Wrapped}
 use Rattle.normal_traits.specs.declared.form.Wrapped.TheVariants as wrapped
-use Rattle.normal_traits.specs.World.{Change, Listed, World, Among, StandsFor, first_changes, held_after}
+use Rattle.normal_traits.specs.World.{Change, Listed, World, Among, first_changes, held_after}
 use Rattle.normal_traits.specs.NormalForm.{NormalForm}
 use Rattle.cas_executor.specs.declared.fast_run.Execution.{Execution}
 use Rattle.cas_executor.specs.declared.fast_run.Execution.TheVariants as execution
@@ -32,13 +31,13 @@ use Rattle.fast_slow_engine.specs.declared.phases.Applying.TheVariants.{Fill, Ex
 use Rattle.fast_slow_engine.specs.declared.setup.Setup.{Setup}
 use Rattle.fast_slow_engine.specs.Mechs.{Mech}
 use Rattle.fast_slow_engine.specs.PhaseTable.{executed, holds_none, in_phase, offered, request_in, rests, searched, spent, stepped, told, with_hand, wrapped_up}
-use Rattle.fast_slow_engine.specs.Runs.{Move, CanMove, begun, run_of}
+use Rattle.fast_slow_engine.specs.Runs.{Move, begun, run_of}
 use Rattle.run_laws.proofs.ClaimLemmas.{claims_rise}
 use Rattle.run_laws.proofs.PremiseLemmas.{client_keeps_claims}
 use Rattle.run_history.specs.Ghosts.{Held, SeatGhost, begun_after, execution_restarts, held_in, list_after, newly_held, restarts, searches_anew, stopped_at, stopped_in, world_of}
 use Rattle.run_history.specs.Lists.{HoldsIn, OffersList, WrapsList}
 use Rattle.run_history.specs.Known.{OfHeld}
-use Rattle.run_history.specs.Changes.{IsOfCall, MadeBy, MadeNone}
+use Rattle.run_history.specs.Changes.{MadeBy, MadeNone}
 use Rattle.run_history.specs.Tells.{CountsIn, TellsIn, TellsRight, TellsWell}
 use Rattle.run_history.specs.Tells.TellsRight.{observed, changed}
 use Rattle.run_history.proofs.Before.{Before, mover}
@@ -243,7 +242,7 @@ module _ {S W : Type 0} (form : NormalForm S W) where
         ]
 
     -- what the seat that moves tells after its step
-    step_tells : (phase : Phase S W) (since now : ℕ) (at : ℕ → ℕ) → one.phase ≡ phase → rests phase ≡ false → HoldsIn form phase one own.held → CountsIn form phase one own now at → TellsIn form phase one own world claims
+    pub step_tells : (phase : Phase S W) (since now : ℕ) (at : ℕ → ℕ) → one.phase ≡ phase → rests phase ≡ false → HoldsIn form phase one own.held → CountsIn form phase one own now at → TellsIn form phase one own world claims
         → (let new = stepped form phase seen one in Tells one new since (begun_after form phase (length after.changes) own.begun) (list_after form (length older) phase seen own new) after later)
     step_tells Idle since now at is runs holds counts told = absurd (search rules)
     step_tells Begin since now at is runs holds counts told = none_after holds told

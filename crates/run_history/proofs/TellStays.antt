@@ -1,5 +1,5 @@
 -- What a call tells stays right where more changes are made.
-use Rattle.std.proofs.Common.{◌≡◌, ◌≢◌, ◌∙◌, refl, sym, subst, ap, ℕ, suc, ◌+◌, ◌-◌, ◌<◌, ◌≤◌, ◌==◌, ◌||◌, ◌&&◌, not, nat_le, Bool, true, false, ◌⊎◌, List, [], ◌∷◌, ◌++◌, drop, length, length-append, slice_get, slice_index, Option, Some, None, inl, inr, arith}
+use Rattle.std.proofs.Common.{◌≡◌, ◌≢◌, ◌∙◌, refl, sym, subst, ap, ℕ, suc, ◌-◌, ◌≤◌, ◌==◌, ◌||◌, ◌&&◌, not, nat_le, Bool, true, false, ◌⊎◌, List, [], ◌∷◌, ◌++◌, drop, length, length-append, slice_get, slice_index, Option, Some, None, inl, inr, arith}
 use Rattle.std.proofs.lemmas.Bool.Decides.{nat_tests}
 use Rattle.lin_report.specs.declared.calls.Op.{Op}
 use Rattle.lin_report.specs.declared.calls.Outcome.{Outcome}
