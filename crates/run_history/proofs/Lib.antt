@@ -40,3 +40,7 @@ pub mod TellStays
 pub mod TellOwn
 pub mod TellLemmas
 pub mod Changing
+pub mod ChangeLemmas
+pub mod ReplyLemmas
+pub mod JournalOwners
+pub mod SmallLemmas
