@@ -43,4 +43,4 @@ pub mod Changing
 pub mod ChangeLemmas
 pub mod ReplyLemmas
 pub mod JournalOwners
-pub mod SmallLemmas
+pub mod ChangesKept
