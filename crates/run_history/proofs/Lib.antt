@@ -47,3 +47,4 @@ pub mod RunLemmas
 pub mod ChangeLemmas
 pub mod ReplyLemmas
 pub mod JournalOwners
+pub mod ChangesKept
