@@ -35,6 +35,7 @@ pub mod OwnRun
 pub mod OwnMover
 pub mod OwnMoves
 pub mod LearntLemmas
+pub mod CountSteps
 pub mod Changing
 pub mod StructureLemmas
 pub mod KeptLemmas
