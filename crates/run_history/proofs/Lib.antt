@@ -37,6 +37,7 @@ pub mod OwnMoves
 pub mod LearntLemmas
 pub mod CountSteps
 pub mod Changing
+pub mod EndingLemmas
 pub mod StructureLemmas
 pub mod KeptLemmas
 pub mod ObeyLemmas
