@@ -38,6 +38,8 @@ pub mod LearntLemmas
 pub mod CountSteps
 pub mod Changing
 pub mod EndingLemmas
+pub mod LineLemmas
+pub mod AccountLemmas
 pub mod StructureLemmas
 pub mod KeptLemmas
 pub mod ObeyLemmas
