@@ -1,10 +1,8 @@
 -- All calls and all changes are accounted for, after one more move.
-use Rattle.std.proofs.Common.{rules, ◌≡◌, ◌≢◌, ◌∙◌, refl, sym, subst, ap, ℕ, ◌+◌, ◌<◌, ◌≤◌, false, ◌⊎◌, List, [], ◌∷◌, ◌++◌, length, slice_get, slice_index, Option, Some, None, All, AllPairs, Contains, get_or, inl, inr, arith}
-use Rattle.std.specs.Option.{option_to_list}
+use Rattle.std.proofs.Common.{rules, ◌≡◌, ◌≢◌, ◌∙◌, refl, sym, subst, ap, ℕ, ◌⊎◌, List, [], ◌∷◌, ◌++◌, slice_get, slice_index, Option, Some, None, All, AllPairs, Contains, get_or, inl, inr, arith}
 use Rattle.std.proofs.lemmas.Bool.{cases_eq}
-use Rattle.std.proofs.lemmas.List.Elements.{All-append, All-contains_itself, All-nil, All-weaker, Contains-append_left, Contains-append_right, Contains-push}
+use Rattle.std.proofs.lemmas.List.Elements.{All-append, All-nil, Contains-append_left, Contains-push}
 use Rattle.lin_report.specs.declared.calls.Op.{Op}
-use Rattle.lin_report.specs.declared.calls.Outcome.TheVariants.{Plain}
 use Rattle.lin_report.specs.declared.calls.Receipt.{Receipt}
 use Rattle.lin_report.specs.declared.calls.Reply.{Reply}
 use Rattle.lin_report.specs.Object.{object_of}
@@ -28,11 +26,11 @@ use Rattle.run_history.specs.Ghosts.{Held, SeatGhost, ghost_of, world_of}
 use Rattle.run_history.specs.Lists.{HoldsIn, called}
 use Rattle.run_history.specs.Known.{OfHeld}
 use Rattle.run_history.specs.Changes.{IsOfCall, MadeBy}
-use Rattle.run_history.specs.Tells.{EachTells, TellsIn, TellsRight}
+use Rattle.run_history.specs.Tells.{EachTells, TellsIn}
 use Rattle.run_history.specs.Tells.TellsRight.{observed, changed}
-use Rattle.run_history.specs.Endings.{CallsAccounted, HasEnded, IsMadeBy, MadeChange, StandsOver}
+use Rattle.run_history.specs.Endings.{CallsAccounted, HasEnded, IsMadeBy, StandsOver}
 use Rattle.run_history.specs.Endings.IsMadeBy.{runs, returned as has_line}
-use Rattle.run_history.proofs.Before.{Before, mover}
+use Rattle.run_history.proofs.Before.{mover}
 use Rattle.run_history.proofs.Changing.{Adds, IsHeldNow, Moved}
 use Rattle.run_history.proofs.Changing.Adds.{none, makes}
 use Rattle.run_history.proofs.EndingLemmas.{DifferentLists, ending_stays, first_differs, made_stays, same_change, stands_among, stands_in}

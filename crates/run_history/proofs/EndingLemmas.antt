@@ -1,10 +1,9 @@
 -- How the calls that returned ended stays as it was where more moves are made.
-use Rattle.std.proofs.Common.{◌≡◌, ◌≢◌, ◌∙◌, refl, sym, subst, ap, ℕ, suc, ◌+◌, ◌-◌, ◌<◌, ◌≤◌, ◌⊎◌, List, [], ◌∷◌, ◌++◌, drop, length, length-append, slice_index, All, AllPairs, inl, inr, arith}
+use Rattle.std.proofs.Common.{◌≡◌, ◌≢◌, ◌∙◌, refl, sym, subst, ap, ℕ, suc, ◌-◌, ◌<◌, ◌≤◌, ◌⊎◌, List, [], ◌∷◌, ◌++◌, drop, length, length-append, All, AllPairs, inl, inr, arith}
 use Rattle.std.proofs.lemmas.List.{append_assoc}
 use Rattle.std.proofs.lemmas.List.Elements.{All-head, All-tail}
-use Rattle.lin_report.specs.declared.calls.Op.{Op}
 use Rattle.lin_report.specs.declared.calls.Receipt.{Receipt}
-use Rattle.lin_report.specs.Object.{Object, object_of}
+use Rattle.lin_report.specs.Object.{object_of}
 use Rattle.normal_traits.specs.World.{Change, Among, Observes, first_changes, held_after}
 use Rattle.normal_traits.specs.NormalForm.{NormalForm}
 use Rattle.fast_slow_engine.specs.declared.setup.Setup.{Setup}
@@ -14,8 +13,7 @@ use Rattle.run_laws.specs.Ticks.{KeepsTicks}
 use Rattle.run_laws.proofs.CallLemmas.{HasEnded}
 use Rattle.run_laws.proofs.ClaimLemmas.{claims_rise}
 use Rattle.run_laws.proofs.Summaries.{tick_of}
-use Rattle.run_history.specs.Ghosts.{ghost_of, world_of}
-use Rattle.run_history.specs.Changes.{changes_at}
+use Rattle.run_history.specs.Ghosts.{ghost_of}
 use Rattle.run_history.specs.Endings.{HasSeen, MadeChange, StandsOver, WasRefused}
 use Rattle.run_history.specs.Endings as endings
 use Rattle.run_history.specs.Endings.HasEnded.{made, saw, refused}

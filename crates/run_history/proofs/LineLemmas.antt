@@ -1,5 +1,5 @@
 -- How a call that returns ends.
-use Rattle.std.proofs.Common.{rules, ◌≡◌, ◌≢◌, ◌∙◌, refl, sym, subst, ap, ℕ, ◌+◌, ◌<◌, ◌≤◌, ◌⊎◌, List, [], ◌∷◌, ◌++◌, length, slice_get, slice_index, Option, Some, None, All, inl, inr, arith}
+use Rattle.std.proofs.Common.{rules, ◌≡◌, ◌∙◌, refl, sym, subst, ap, ◌<◌, List, [], ◌∷◌, slice_index, Option, Some, None, All, inl, inr, arith}
 use Rattle.std.proofs.lemmas.List.Elements.{All-cons, All-nil}
 use Rattle.lin_report.specs.declared.calls.Op.{Op}
 use Rattle.lin_report.specs.declared.calls.Outcome.TheVariants.{Plain}
@@ -10,7 +10,7 @@ use Rattle.lin_report.specs.Object.{object_of}
 use Rattle.step_memory.specs.declared.steps.Seen.{Seen}
 use Rattle.step_memory.specs.Step.{seen_of}
 use Rattle.step_memory.proofs.Words.{add_tells}
-use Rattle.normal_traits.specs.World.{Called, Change, Listed, ChangedBy, Observes, RightSince, first_changes, held_after}
+use Rattle.normal_traits.specs.World.{Called, Change, Observes, RightSince, held_after}
 use Rattle.normal_traits.specs.NormalForm.{NormalForm}
 use Rattle.fast_slow_engine.specs.declared.phases.Phase.{Phase}
 use Rattle.fast_slow_engine.specs.declared.phases.Phase.TheVariants.{Idle, Begin, Look, Generate, Apply, Wrap, Value, End}
@@ -32,7 +32,7 @@ use Rattle.run_history.specs.Tells.{CountsIn, EachTells, TellsIn, TellsRight, Te
 use Rattle.run_history.specs.Tells.TellsRight.{observed, changed}
 use Rattle.run_history.specs.Endings.{HasEnded, HasSeen, MadeChange, StandsOver, WasRefused}
 use Rattle.run_history.specs.Endings.HasEnded.{made, saw, refused}
-use Rattle.run_history.proofs.Before.{Before, mover}
+use Rattle.run_history.proofs.Before.{mover}
 use Rattle.run_history.proofs.Changing.{Moved}
 use Rattle.run_history.proofs.CountSteps.{at_drawn, at_stays, count_of, count_rises}
 use Rattle.run_history.proofs.EndingLemmas.{among_stands, first_still, stands_below, stands_still}
