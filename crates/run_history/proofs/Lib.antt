@@ -36,6 +36,9 @@ pub mod OwnMover
 pub mod OwnMoves
 pub mod LearntLemmas
 pub mod CountSteps
+pub mod TellStays
+pub mod TellOwn
+pub mod TellLemmas
 pub mod Changing
 pub mod EndingLemmas
 pub mod LineLemmas
