@@ -13,7 +13,7 @@ use Rattle.normal_traits.specs.Steps.{change_of}
 use Rattle.fast_slow_engine.specs.declared.phases.Phase.{Phase}
 use Rattle.fast_slow_engine.specs.declared.phases.Phase.TheVariants.{Idle, Begin, Look, Generate, Apply, Wrap, Value, End}
 use Rattle.fast_slow_engine.specs.declared.setup.Setup.{Setup}
-use Rattle.fast_slow_engine.specs.Mechs.{Mech, SameCall}
+use Rattle.fast_slow_engine.specs.Mechs.{Mech}
 use Rattle.fast_slow_engine.specs.PhaseTable.{mech_turn, stepped, ticks_left, turn_in}
 use Rattle.fast_slow_engine.specs.Runs.{Move, RunState, CanMove, begun, returned, run_of}
 use Rattle.fast_slow_engine.proofs.SameCalls.{same_fed}
@@ -36,20 +36,13 @@ use Rattle.run_history.proofs.Changing.Adds.{none, makes}
 use Rattle.run_history.proofs.EndingLemmas.{DifferentLists, ending_stays, first_differs, made_stays, same_change, stands_among, stands_in}
 use Rattle.run_history.proofs.HeldLemmas.{lists_held}
 use Rattle.run_history.proofs.LineLemmas.{all_lines, all_moves, claims_kept, line_ends, line_of, made_by_line, of_call, tells_end, ticks_kept}
+use Rattle.run_history.proofs.TellLemmas.{called_same, none_made}
+use Rattle.run_history.proofs.TellStays.{holds_none}
 use Rattle.run_history.proofs.OwnMover.{moved, moved_seated, own_of, seen_by}
 
 -- what holds of all holds of each
 held_of : {X : Type 0} (P : X → Type 0) (xs : List X) (x : X) → All P xs → Contains xs x → P x
 held_of P xs x each has = subst P has.2 (each has.0 x has.1)
-
--- nothing stands in no changes
-none_stands : (change : Change) (older : List Change) → ¬ StandsOver [] change older
-none_stands change older stands =
-    at_front stands.0 stands.1
-  where
-    at_front : (newer : List Change) → ¬ ([] ≡ newer ++ change ∷ older)
-    at_front [] is = absurd (cc)
-    at_front (x ∷ xs) is = absurd (cc)
 
 module _ {S W : Type 0} (form : NormalForm S W) where
   -- a call that runs goes on, or returns
@@ -74,28 +67,19 @@ module _ {S W : Type 0} (form : NormalForm S W) where
     pub stays : (reply : Reply) → phase ≢ End reply
     pub only : MadeBy held.list world mech
 
-  holds_not : {X : Type 0} (list : Option (Held S)) (held : Held S) → list ≡ None → list ≡ Some held → X
-  holds_not list held empty is = absurd (cc)
-
   only_held : (list : Option (Held S)) (mech : Mech S W) (world : World) (held : Held S) → list ≡ Some held → OfHeld (λ (h : Held S). MadeBy h.list world mech) list → MadeBy held.list world mech
   only_held list mech world held is only = subst (λ (o : Option (Held S)). OfHeld (λ (h : Held S). MadeBy h.list world mech) o) is only
 
   offers_now : (phase : Phase S W) (mech : Mech S W) (own : SeatGhost S) (world : World) (claims : ℕ) (held : Held S) → own.held ≡ Some held → HoldsIn form phase mech own.held
       → TellsIn form phase mech own world claims → OffersNow phase mech world held
-  offers_now Idle mech own world claims held is holds tells = holds_not own.held held holds is
-  offers_now Begin mech own world claims held is holds tells = holds_not own.held held holds is
-  offers_now Look mech own world claims held is holds tells = holds_not own.held held holds is
-  offers_now (Generate s at) mech own world claims held is holds tells = holds_not own.held held holds is
+  offers_now Idle mech own world claims held is holds tells = holds_none own.held held holds is
+  offers_now Begin mech own world claims held is holds tells = holds_none own.held held holds is
+  offers_now Look mech own world claims held is holds tells = holds_none own.held held holds is
+  offers_now (Generate s at) mech own world claims held is holds tells = holds_none own.held held holds is
   offers_now (Apply run stores at) mech own world claims held is holds tells = record { one_left = refl; stays = λ reply e. absurd (search rules); only = only_held own.held mech world held is tells }
   offers_now (Wrap w) mech own world claims held is holds tells = record { one_left = refl; stays = λ reply e. absurd (search rules); only = only_held own.held mech world held is tells }
-  offers_now (Value reference) mech own world claims held is holds tells = holds_not own.held held holds is
-  offers_now (End reply) mech own world claims held is holds tells = holds_not own.held held holds is
-
-  abbrev call_as : ℕ → ℕ → Op → Called
-  call_as seat number op = record { seat = seat; number = number; op = op }
-
-  called_same : (new mech : Mech S W) → SameCall new mech → called new ≡ called mech
-  called_same new mech same = ap (λ s. call_as s new.number new.op) same.seat ∙ ap (λ n. call_as mech.seat n new.op) same.number ∙ ap (λ o. call_as mech.seat mech.number o) same.op
+  offers_now (Value reference) mech own world claims held is holds tells = holds_none own.held held holds is
+  offers_now (End reply) mech own world claims held is holds tells = holds_none own.held held holds is
 
   module _ {setup : Setup} {older : List Move} {move : Move} (m : Moved form setup older move) (each : EachTells form setup older) where
     abbrev state : RunState S W
@@ -257,6 +241,6 @@ module _ {S W : Type 0} (form : NormalForm S W) where
   pub accounted_open : (setup : Setup) → CallsAccounted form setup []
   accounted_open setup = record {
     ended = All-nil (HasEnded form setup []);
-    made = λ change past stands. absurd (none_stands change past stands);
-    once = λ change mate past rest stands below same number. none_stands change past stands;
+    made = λ change past stands. none_made stands.0 past change stands.1;
+    once = λ change mate past rest stands below same number. none_made stands.0 past change stands.1;
   }

@@ -1,5 +1,5 @@
 -- How the calls that returned ended stays as it was where more moves are made.
-use Rattle.std.proofs.Common.{◌≡◌, ◌≢◌, ◌∙◌, refl, sym, subst, ap, ℕ, suc, ◌-◌, ◌<◌, ◌≤◌, ◌⊎◌, List, [], ◌∷◌, ◌++◌, drop, length, length-append, All, AllPairs, inl, inr, arith}
+use Rattle.std.proofs.Common.{◌≡◌, ◌≢◌, ◌∙◌, sym, subst, ap, ℕ, suc, ◌<◌, ◌≤◌, ◌⊎◌, List, [], ◌∷◌, ◌++◌, length, length-append, All, AllPairs, inl, inr, arith}
 use Rattle.std.proofs.lemmas.List.{append_assoc}
 use Rattle.std.proofs.lemmas.List.Elements.{All-head, All-tail}
 use Rattle.lin_report.specs.declared.calls.Receipt.{Receipt}
@@ -19,22 +19,19 @@ use Rattle.run_history.specs.Endings as endings
 use Rattle.run_history.specs.Endings.HasEnded.{made, saw, refused}
 use Rattle.run_history.proofs.CountSteps.{at_stays, at_within, count_of}
 use Rattle.run_history.proofs.GrowLemmas.{world_grows}
+use Rattle.run_history.proofs.TellLemmas.{among_front}
+use Rattle.run_history.proofs.TellOwn.{among_behind}
+use Rattle.run_history.proofs.TellStays.{first_after}
 
 -- ---- changes that stand over others
 
-among_here : (newer : List Change) (change : Change) (older : List Change) → Among change (newer ++ change ∷ older)
-among_here [] change older = inl refl
-among_here (x ∷ xs) change older = inr (among_here xs change older)
-
 -- what stands over others is among all
 pub stands_among : (changes : List Change) (change : Change) (older : List Change) → StandsOver changes change older → Among change changes
-stands_among changes change older stands = subst (Among change) (sym stands.1) (among_here stands.0 change older)
+stands_among changes change older stands = subst (Among change) (sym stands.1) (among_front change stands.0 older)
 
 -- and what is among all stands over others
 pub among_stands : (changes : List Change) (change : Change) → Among change changes → (older : List Change) × StandsOver changes change older
-among_stands [] change among = absurd among
-among_stands (x ∷ xs) change (inl same) = (xs, ([], ap (λ (c : Change). c ∷ xs) (sym same)))
-among_stands (x ∷ xs) change (inr among) = let rest = among_stands xs change among in (rest.0, (x ∷ rest.1.0, ap (λ l. x ∷ l) rest.1.1))
+among_stands changes change among = let at = among_behind change changes among in (at.1, (at.0, at.2))
 
 -- it stands there with more in front
 pub stands_more : (changes more before : List Change) (change : Change) (older : List Change) → changes ≡ more ++ before → StandsOver before change older → StandsOver changes change older
@@ -82,13 +79,6 @@ same_change (x ∷ xs) change mate pairs (inr among) (inl there) same =
 same_change (x ∷ xs) change mate pairs (inr among) (inr other) same =
     same_change xs change mate (λ i j d before inside. pairs (suc i) (suc j) d (omega arith) (omega arith)) among other same
 
--- the first changes are the same with others in front
-first_with : (count : ℕ) (newer changes : List Change) → count ≤ length changes → first_changes count (newer ++ changes) ≡ first_changes count changes
-first_with count [] changes few = refl
-first_with count (change ∷ newer) changes few =
-    let more : length (change ∷ newer ++ changes) - count ≡ suc (length (newer ++ changes) - count) = omega (arith, length-append newer changes, few) in
-    ap (λ n. drop n (change ∷ newer ++ changes)) more ∙ first_with count newer changes few
-
 module _ {S W : Type 0} (form : NormalForm S W) (setup : Setup) (older : List Move) (move : Move) where
   -- the changes of the run after the move
   changes_grow : (newer : List Change) × ((ghost_of form setup (move ∷ older)).changes ≡ newer ++ (ghost_of form setup older).changes)
@@ -98,7 +88,7 @@ module _ {S W : Type 0} (form : NormalForm S W) (setup : Setup) (older : List Mo
   stands_still change past stands = stands_more (ghost_of form setup (move ∷ older)).changes changes_grow.0 (ghost_of form setup older).changes change past changes_grow.1 stands
 
   pub first_still : (count : ℕ) → count ≤ count_of form setup older → first_changes count (ghost_of form setup (move ∷ older)).changes ≡ first_changes count (ghost_of form setup older).changes
-  first_still count few = ap (first_changes count) changes_grow.1 ∙ first_with count changes_grow.0 (ghost_of form setup older).changes few
+  first_still count few = ap (first_changes count) changes_grow.1 ∙ first_after count changes_grow.0 (ghost_of form setup older).changes few
 
   -- ---- the calls that returned before the move
 
