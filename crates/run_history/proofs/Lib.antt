@@ -40,6 +40,9 @@ pub mod TellStays
 pub mod TellOwn
 pub mod TellLemmas
 pub mod Changing
+pub mod EndingLemmas
+pub mod LineLemmas
+pub mod AccountLemmas
 pub mod StructureLemmas
 pub mod KeptLemmas
 pub mod ObeyLemmas

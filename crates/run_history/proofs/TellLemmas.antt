@@ -1,8 +1,9 @@
 -- What each seat tells, at the opening and after each move.
-use Rattle.std.proofs.Common.{◌≡◌, ◌∙◌, refl, sym, subst, ℕ, ◌≤◌, false, List, [], ◌∷◌, ◌++◌, length, slice_get, slice_index, Option, Some, None, inl, inr, arith, rules}
+use Rattle.std.proofs.Common.{◌≡◌, ◌∙◌, refl, sym, subst, ℕ, ◌≤◌, IsTrue, false, List, [], ◌∷◌, ◌++◌, length, slice_get, slice_index, Option, Some, None, inl, inr, arith, rules}
 use Rattle.std.proofs.lemmas.Bool.{cases_eq}
 use Rattle.lin_report.specs.declared.calls.Outcome.{Outcome}
 use Rattle.lin_report.specs.declared.calls.Outcome.TheVariants.{Plain, ValueOf}
+use Rattle.lin_report.specs.Commands.{may_exhaust}
 use Rattle.lin_report.specs.Object.{object_of}
 use Rattle.normal_traits.specs.World.{Change, World, Among, RightSince}
 use Rattle.normal_traits.specs.NormalForm.{NormalForm}
@@ -33,11 +34,11 @@ use Rattle.run_history.proofs.TellOwn.{TellsSmall, mover_tells, one_seat, step_t
 use Rattle.run_history.proofs.TellStays.{after_still, before_still, held_counts, none_still, tells_others}
 
 -- what is behind some is among them
-among_front : {X : Type 0} (x : X) (front rest : List X) → Among x (front ++ x ∷ rest)
+pub among_front : {X : Type 0} (x : X) (front rest : List X) → Among x (front ++ x ∷ rest)
 among_front x [] rest = inl refl
 among_front x (y ∷ front) rest = inr (among_front x front rest)
 
-none_made : {A X : Type 0} (front rest : List X) (x : X) → [] ≡ front ++ x ∷ rest → A
+pub none_made : {A X : Type 0} (front rest : List X) (x : X) → [] ≡ front ++ x ∷ rest → A
 none_made [] rest x is = absurd (cc)
 none_made (y ∷ front) rest x is = absurd (cc)
 
@@ -54,7 +55,7 @@ module _ {S W : Type 0} where
   held_same new one world None same made = made
   held_same new one world (Some held) same made = λ change among is. made change among (of_same new one change same is)
 
-  called_same : (new one : Mech S W) → SameCall new one → called new ≡ called one
+  pub called_same : (new one : Mech S W) → SameCall new one → called new ≡ called one
   called_same new one same = λ i. record { seat = same.seat i; number = same.number i; op = same.op i }
 
   module _ (form : NormalForm S W) where
@@ -76,7 +77,7 @@ module _ {S W : Type 0} where
     tells_same (End reply) new one own world claims same told =
         elim told [
           | inl right ↦ inl (right_same new one world own.begun (Plain reply) same right)
-          | inr left ↦ inr (left.0, record { none_left = subst (λ (s : Setup). s.cap ≤ claims) (sym same.setup) left.1.none_left; unchanged = none_same new one world same left.1.unchanged })
+          | inr left ↦ inr (left.0, record { may = subst (λ op. IsTrue (may_exhaust op)) (sym same.op) left.1.may; none_left = subst (λ (s : Setup). s.cap ≤ claims) (sym same.setup) left.1.none_left; unchanged = none_same new one world same left.1.unchanged })
         ]
 
 module _ {S W : Type 0} (form : NormalForm S W) where

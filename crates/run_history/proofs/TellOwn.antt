@@ -1,12 +1,12 @@
 -- What the seat that moves tells after its move.
-use Rattle.std.proofs.Common.{◌≡◌, ◌∙◌, refl, sym, subst, ap, ℕ, ◌+◌, ◌%◌, ◌^◌, ◌<◌, ◌≤◌, ◌&&◌, nat_lt, if◌then◌else◌, Bool, true, false, List, [], ◌∷◌, ◌++◌, length, slice_index, Option, Some, None, inl, inr, arith, rules}
+use Rattle.std.proofs.Common.{◌≡◌, ◌∙◌, refl, sym, subst, ap, ℕ, ◌+◌, ◌%◌, ◌^◌, ◌<◌, ◌≤◌, ◌&&◌, nat_lt, if◌then◌else◌, IsTrue, Bool, true, false, List, [], ◌∷◌, ◌++◌, length, slice_index, Option, Some, None, inl, inr, arith, rules}
 use Rattle.std.proofs.Math.Nat.{mod-eq_of_lt}
 use Rattle.std.proofs.lemmas.Bool.{cases_lt, lt-ltb}
 use Rattle.lin_report.specs.declared.calls.Op.{Op}
 use Rattle.lin_report.specs.declared.calls.Outcome.{Outcome}
 use Rattle.lin_report.specs.declared.calls.Outcome.TheVariants.{Plain, ValueOf}
 use Rattle.lin_report.specs.declared.calls.Reply.TheVariants as reply
-use Rattle.lin_report.specs.Commands.{IsCommandOf}
+use Rattle.lin_report.specs.Commands.{IsCommandOf, may_exhaust}
 use Rattle.lin_report.specs.Object.{object_of}
 use Rattle.arrayvec.specs.ArrayVec.{ArrayVec}
 use Rattle.step_memory.specs.declared.steps.Seen.{Seen}
@@ -36,7 +36,7 @@ use Rattle.run_laws.proofs.ClaimLemmas.{claims_rise}
 use Rattle.run_laws.proofs.PremiseLemmas.{client_keeps_claims}
 use Rattle.run_history.specs.Ghosts.{Held, SeatGhost, begun_after, execution_restarts, held_in, list_after, newly_held, restarts, searches_anew, stopped_at, stopped_in, world_of}
 use Rattle.run_history.specs.Lists.{HoldsIn, OffersList, WrapsList}
-use Rattle.run_history.specs.Known.{OfHeld}
+use Rattle.run_history.specs.Known.{KnowsIn, OfHeld}
 use Rattle.run_history.specs.Changes.{MadeBy, MadeNone}
 use Rattle.run_history.specs.Tells.{CountsIn, TellsIn, TellsRight, TellsWell}
 use Rattle.run_history.specs.Tells.TellsRight.{observed, changed}
@@ -44,11 +44,11 @@ use Rattle.run_history.proofs.Before.{Before, mover}
 use Rattle.run_history.proofs.Changing.{Adds, Moved}
 use Rattle.run_history.proofs.LearntLemmas.{Learnt}
 use Rattle.run_history.proofs.MoverLemmas.{mover_seated}
-use Rattle.run_history.proofs.OwnMover.{mover_command, own_of, seen_by}
+use Rattle.run_history.proofs.OwnMover.{mover_command, mover_knows, own_of, seen_by}
 use Rattle.run_history.proofs.TellStays.{held_stays, none_still, right_stays}
 
 -- a change among others is behind some of them
-among_behind : {X : Type 0} (x : X) (xs : List X) → Among x xs → (front : List X) × (rest : List X) × (xs ≡ front ++ x ∷ rest)
+pub among_behind : {X : Type 0} (x : X) (xs : List X) → Among x xs → (front : List X) × (rest : List X) × (xs ≡ front ++ x ∷ rest)
 among_behind x [] among = absurd among
 among_behind x (y ∷ ys) (inl same) = ([], ys, ap (λ z. z ∷ ys) (sym same))
 among_behind x (y ∷ ys) (inr among) = let rest = among_behind x ys among in (y ∷ rest.0, rest.1, ap (λ zs. y ∷ zs) rest.2)
@@ -118,15 +118,15 @@ module _ {S W : Type 0} (form : NormalForm S W) where
   searched_tells found.Contended s mech one since begun held world claims small made answers = made
 
   -- no block may be left
-  looked_tells : (b : Bool) (s : S) (mech one : Mech S W) (since begun : ℕ) (list : Option (Held S)) (world : World) (claims : ℕ) → MadeNone world one → (b ≡ false → one.setup.cap ≤ claims)
+  looked_tells : (b : Bool) (s : S) (mech one : Mech S W) (since begun : ℕ) (list : Option (Held S)) (world : World) (claims : ℕ) → IsTrue (may_exhaust one.op) → MadeNone world one → (b ≡ false → one.setup.cap ≤ claims)
       → Tells one (if b then in_phase (Generate s Claim) mech else in_phase (End reply.Exhausted) mech) since begun list world claims
-  looked_tells true s mech one since begun list world claims made past = made
-  looked_tells false s mech one since begun list world claims made past = inr (refl, record { none_left = past refl; unchanged = made })
+  looked_tells true s mech one since begun list world claims may made past = made
+  looked_tells false s mech one since begun list world claims may made past = inr (refl, record { may = may; none_left = past refl; unchanged = made })
 
-  claimed_tells : (b : Bool) (s : S) (block : ℕ) (mech one : Mech S W) (since begun : ℕ) (held : Held S) (world : World) (claims : ℕ) → MadeNone world one → (b ≡ false → one.setup.cap ≤ claims)
+  claimed_tells : (b : Bool) (s : S) (block : ℕ) (mech one : Mech S W) (since begun : ℕ) (held : Held S) (world : World) (claims : ℕ) → IsTrue (may_exhaust one.op) → MadeNone world one → (b ≡ false → one.setup.cap ≤ claims)
       → Tells one (if b then offered form s (with_hand (Some block) mech) else in_phase (End reply.Exhausted) mech) since begun (Some held) world claims
-  claimed_tells true s block mech one since begun held world claims made past = none_by held.list one world made
-  claimed_tells false s block mech one since begun held world claims made past = inr (refl, record { none_left = past refl; unchanged = made })
+  claimed_tells true s block mech one since begun held world claims may made past = none_by held.list one world made
+  claimed_tells false s block mech one since begun held world claims may made past = inr (refl, record { may = may; none_left = past refl; unchanged = made })
 
   wrapped_tells : (what : Wrapped) (w : W) (mech one : Mech S W) (since begun : ℕ) (held : Held S) (world : World) (claims : ℕ) → UsedSmall world → MadeBy held.list world one
       → ((outcome : Outcome) → what ≡ wrapped.Done outcome → TellsRight form world one begun outcome) → (what ≡ wrapped.Restart → MadeNone world one)
@@ -241,6 +241,10 @@ module _ {S W : Type 0} (form : NormalForm S W) where
           | inr more ↦ omega (arith, more, is, claims_more)
         ]
 
+    -- a search that is ready is of an operation that may need a block
+    may_ask : (s : S) → form.is_ready s × form.knows s one.op world own.since → IsTrue (may_exhaust one.op)
+    may_ask s ready = (m.laws.lists world s one.op own.since (mover_command form m.before) ready.1 ready.0).1
+
     -- what the seat that moves tells after its step
     pub step_tells : (phase : Phase S W) (since now : ℕ) (at : ℕ → ℕ) → one.phase ≡ phase → rests phase ≡ false → HoldsIn form phase one own.held → CountsIn form phase one own now at → TellsIn form phase one own world claims
         → (let new = stepped form phase seen one in Tells one new since (begun_after form phase (length after.changes) own.begun) (list_after form (length older) phase seen own new) after later)
@@ -251,10 +255,12 @@ module _ {S W : Type 0} (form : NormalForm S W) where
         searched_tells (form.found_of s seen) (form.feed_of s seen) one one since own.begun (newly_held form (length older) (form.feed_of s seen) own.since (searched form (form.found_of s seen) (form.feed_of s seen) one)) after later used_small
         (none_after holds told) (λ outcome. answered s outcome is counts.1 (none_after holds told))
     step_tells (Generate s LookForBlock) since now at is runs holds counts told =
-        looked_tells (nat_lt seen.before one.setup.cap) s one one since own.begun _ after later (none_after holds told)
+        looked_tells (nat_lt seen.before one.setup.cap) s one one since own.begun _ after later
+        (may_ask s (subst (λ (p : Phase S W). KnowsIn form p one own world) is (mover_knows form m.before))) (none_after holds told)
         (none_left seen.before (saw (Generate s LookForBlock) is ∙ load_tells 2 (run_of form setup older).words))
     step_tells (Generate s Claim) since now at is runs holds counts told =
-        claimed_tells (nat_lt seen.before one.setup.cap) s (seen.before + 1) one one since own.begun _ after later (none_after holds told)
+        claimed_tells (nat_lt seen.before one.setup.cap) s (seen.before + 1) one one since own.begun _ after later
+        (may_ask s (subst (λ (p : Phase S W). KnowsIn form p one own world) is (mover_knows form m.before))) (none_after holds told)
         (none_left seen.before (saw (Generate s Claim) is ∙ add_tells 2 1 (run_of form setup older).words))
     step_tells (Apply run stores (Fill made)) since now at is runs holds counts told = held_after_move own.held refl told
     step_tells (Apply run stores Execute) since now at is runs holds counts told =

@@ -43,7 +43,7 @@ pub holds_none : {A B : Type 0} (list : Option A) (x : A) → list ≡ None → 
 holds_none list x empty some = absurd (cc)
 
 -- the first changes are the same with others in front
-first_after : (count : ℕ) (newer changes : List Change) → count ≤ length changes → first_changes count (newer ++ changes) ≡ first_changes count changes
+pub first_after : (count : ℕ) (newer changes : List Change) → count ≤ length changes → first_changes count (newer ++ changes) ≡ first_changes count changes
 first_after count [] changes few = refl
 first_after count (change ∷ newer) changes few =
     let more : length (change ∷ newer ++ changes) - count ≡ suc (length (newer ++ changes) - count) = omega (arith, length-append newer changes, few) in
@@ -261,7 +261,7 @@ module _ {S W : Type 0} (form : NormalForm S W) where
       tells_stay (End reply) claims later more is told =
           elim told [
             | inl right ↦ inl (right_stays is known.begun (Plain reply) right)
-            | inr left ↦ inr (left.0, record { none_left = omega (arith, left.1.none_left, more); unchanged = none_still form m.before.are adds seat mech own is left.1.unchanged })
+            | inr left ↦ inr (left.0, record { may = left.1.may; none_left = omega (arith, left.1.none_left, more); unchanged = none_still form m.before.are adds seat mech own is left.1.unchanged })
           ]
 
     -- what holds of each other seat

@@ -1,8 +1,9 @@
 -- What a call that is about to return tells, and by which list it made its change.
-use Rattle.std.specs.Prelude.{◌≡◌, ℕ, ◌≤◌, ◌⊎◌, List, ◌∷◌, ◌++◌, length, slice_index}
+use Rattle.std.specs.Prelude.{◌≡◌, ℕ, ◌≤◌, ◌⊎◌, IsTrue, List, ◌∷◌, ◌++◌, length, slice_index}
 use Rattle.lin_report.specs.declared.calls.Outcome.{Outcome}
 use Rattle.lin_report.specs.declared.calls.Outcome.TheVariants.{Plain, ValueOf}
 use Rattle.lin_report.specs.declared.calls.Reply.TheVariants.{Exhausted}
+use Rattle.lin_report.specs.Commands.{may_exhaust}
 use Rattle.lin_report.specs.Object.{object_of}
 use Rattle.node_arena.specs.declared.places.TheConstants.{CLAIMS}
 use Rattle.normal_traits.specs.World.{Change, Listed, World, ChangedBy, RightSince}
@@ -26,8 +27,9 @@ module _ {S W : Type 0} (form : NormalForm S W) where
     observed : RightSince (object_of form.client) world mech.op begun outcome → IsFixed form outcome → MadeNone world mech → TellsRight world mech begun outcome
     changed : (list : Listed) → list.call ≡ called mech → ChangedBy world list outcome → IsFixed form outcome → MadeBy list world mech → TellsRight world mech begun outcome
 
-  -- no block was left, so nothing was changed
+  -- no block was left for an operation that may need one, so nothing was changed
   pub record WasLeftNone (world : World) (mech : Mech S W) (claims : ℕ) : Type 0 where
+    pub may : IsTrue (may_exhaust mech.op)
     pub none_left : mech.setup.cap ≤ claims
     pub unchanged : MadeNone world mech
 
