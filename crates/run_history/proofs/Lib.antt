@@ -51,3 +51,4 @@ pub mod ChangeLemmas
 pub mod ReplyLemmas
 pub mod JournalOwners
 pub mod ChangesKept
+pub mod Accounted
