@@ -40,3 +40,4 @@ pub mod StructureLemmas
 pub mod KeptLemmas
 pub mod ObeyLemmas
 pub mod RunLemmas
+pub mod HistoryLemmas

@@ -11,3 +11,4 @@ pub mod Changes
 pub mod Tells
 pub mod Runs
 pub mod Endings
+pub mod Placed
