@@ -41,3 +41,4 @@ pub mod KeptLemmas
 pub mod ObeyLemmas
 pub mod RunLemmas
 pub mod HistoryLemmas
+pub mod PlacedLemmas
