@@ -42,3 +42,4 @@ pub mod ObeyLemmas
 pub mod RunLemmas
 pub mod HistoryLemmas
 pub mod PlacedLemmas
+pub mod LinearizedLemmas

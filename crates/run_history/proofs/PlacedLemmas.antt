@@ -19,6 +19,8 @@ use Rattle.lin_report.proofs.Sequences.{object_answers}
 use Rattle.node_arena.specs.declared.places.TheConstants.{CLAIMS}
 use Rattle.normal_traits.specs.World.{Called, Change, first_changes, held_after}
 use Rattle.normal_traits.specs.NormalForm.{NormalForm}
+use Rattle.fast_slow_engine.specs.declared.phases.Phase.{Phase}
+use Rattle.fast_slow_engine.specs.declared.phases.Phase.TheVariants.{Idle, Begin, Look, Generate, Apply, Wrap, Value, End}
 use Rattle.fast_slow_engine.specs.declared.setup.Setup.{Setup}
 use Rattle.fast_slow_engine.specs.Mechs.{Mech}
 use Rattle.fast_slow_engine.specs.PhaseTable.{mech_pending, pending_call, ticks_left}
@@ -29,9 +31,10 @@ use Rattle.placing_law.proofs.Placed.{placed_is_linearizable}
 use Rattle.run_laws.specs.Ticks.{pending_of, report_of_run}
 use Rattle.run_laws.proofs.StepKinds.{pending_open}
 use Rattle.run_laws.proofs.Steps.{some_same}
-use Rattle.run_history.specs.Ghosts.{ghost_of}
+use Rattle.run_history.specs.Ghosts.{SeatGhost, ghost_of}
 use Rattle.run_history.specs.Lists.{called}
 use Rattle.run_history.specs.Changes.{changes_at}
+use Rattle.run_history.specs.Tells.{CountsIn, EachTells}
 use Rattle.run_history.specs.Endings.{StandsOver, HasSeen, HasEnded, made, saw, refused, IsMadeBy, runs, returned, CallsAccounted}
 use Rattle.run_history.specs.Placed.{placed, history_of}
 use Rattle.run_history.proofs.HistoryLemmas.{length_history, at_place, change_at, held_before, held_first, placed_once}
@@ -75,11 +78,13 @@ of_call call = record { seat = call.seat; number = call.number; op = call.op }
 
 module _ {S W : Type 0} (form : NormalForm S W) where
   -- what a run's calls are placed by: each is accounted for, each reply is the object's after the older changes,
-  -- the counts at the ticks rise to that of all changes, and a change of a call that runs came after its begin
+  -- after which what is held is in range, the counts at the ticks rise to that of all changes, and a change of a
+  -- call that runs came after its begin
   pub record Placeable (setup : Setup) (moves : List Move) : Type 0 where
     pub accounted : CallsAccounted form setup moves
     pub replied : (newer older : List Change) (change : Change) → (ghost_of form setup moves).changes ≡ newer ++ change ∷ older
         → change.reply ≡ ((object_of form.client).apply change.list.call.op (held_after (object_of form.client) older)).1
+    pub ranged : (newer older : List Change) → (ghost_of form setup moves).changes ≡ newer ++ older → HoldsInRange form.client (held_after (object_of form.client) older)
     pub rises : (tick later : ℕ) → tick ≤ later → changes_at form setup moves tick ≤ changes_at form setup moves later
     pub within : (tick : ℕ) → changes_at form setup moves tick ≤ length (ghost_of form setup moves).changes
     pub begun : (seat : ℕ) (mech : Mech S W) → slice_get (run_of form setup moves).mechs seat ≡ Some mech → ticks_left mech.phase ≡ 1
@@ -174,21 +179,19 @@ module _ {S W : Type 0} (form : NormalForm S W) where
     first_split : (count : ℕ) → changes ≡ take (length changes - count) changes ++ first_changes count changes
     first_split count = sym (take-append-drop (length changes - count) changes)
 
-    reply_of : (r : Receipt) → ((newer older : List Change) → changes ≡ newer ++ older → HoldsInRange form.client (held_after object older))
-        → IsCommandOf form.client r.op → HasEnded form setup moves r → IsReplyTo r.op r.reply
-    reply_of r ranges command (made change older m) =
+    reply_of : (r : Receipt) → IsCommandOf form.client r.op → HasEnded form setup moves r → IsReplyTo r.op r.reply
+    reply_of r command (made change older m) =
         let is : change.reply ≡ _ = replies_there change older r.op m.stands (ap (λ (c : Called). c.op) m.call) in
         subst (IsReplyTo r.op) (sym is ∙ m.reply)
-        (reply_fits form.client r.op (held_after object older) command (ranges (m.stands.0 ++ change ∷ []) older (m.stands.1 ∙ sym (append_assoc m.stands.0 (change ∷ []) older))))
-    reply_of r ranges command (saw seen) =
+        (reply_fits form.client r.op (held_after object older) command (can.ranged (m.stands.0 ++ change ∷ []) older (m.stands.1 ∙ sym (append_assoc m.stands.0 (change ∷ []) older))))
+    reply_of r command (saw seen) =
         subst (IsReplyTo r.op) (sym seen.told)
-        (reply_fits form.client r.op (held_after object (first_changes seen.count changes)) command (ranges (take (length changes - seen.count) changes) (first_changes seen.count changes) (first_split seen.count)))
-    reply_of r ranges command (refused none) = subst (IsReplyTo r.op) (sym none.exhausted) (record { named = none.may; value = omega arith })
+        (reply_fits form.client r.op (held_after object (first_changes seen.count changes)) command (can.ranged (take (length changes - seen.count) changes) (first_changes seen.count changes) (first_split seen.count)))
+    reply_of r command (refused none) = subst (IsReplyTo r.op) (sym none.exhausted) (record { named = none.may; value = omega arith })
 
-    -- what is held after any first changes being in range, each reply is one of the table
-    pub replies_fit : ((newer older : List Change) → changes ≡ newer ++ older → HoldsInRange form.client (held_after object older))
-        → All (λ r. IsCommandOf form.client r.op) report.receipts → All (λ r. IsReplyTo r.op r.reply) report.receipts
-    replies_fit ranges commands k d inside = reply_of (get_or report.receipts k d) ranges (commands k d inside) (can.accounted.ended k d inside)
+    -- each command is given a reply of the table
+    pub replies_fit : All (λ r. IsCommandOf form.client r.op) report.receipts → All (λ r. IsReplyTo r.op r.reply) report.receipts
+    replies_fit commands k d inside = reply_of (get_or report.receipts k d) (commands k d inside) (can.accounted.ended k d inside)
 
     none_left : (r : Receipt) → HasEnded form setup moves r → r.reply ≡ Exhausted → setup.cap ≤ slice_index (run_of form setup moves).words CLAIMS
     none_left r (made change older m) exhausted =
@@ -199,3 +202,26 @@ module _ {S W : Type 0} (form : NormalForm S W) where
     -- only where no block was left is a call told so
     pub exhausted_only : All (λ (r : Receipt). r.reply ≡ Exhausted → setup.cap ≤ slice_index (run_of form setup moves).words CLAIMS) report.receipts
     exhausted_only k d inside = none_left (get_or report.receipts k d) (can.accounted.ended k d inside)
+
+-- ---- a change of a call that runs came after its begin tick
+
+module _ {S W : Type 0} (form : NormalForm S W) where
+  begun_count : (phase : Phase S W) (mech : Mech S W) (own : SeatGhost S) (now : ℕ) (at : ℕ → ℕ) → ticks_left phase ≡ 1 → CountsIn form phase mech own now at → own.begun ≡ at mech.begin
+  begun_count Idle mech own now at one counts = absurd (omega (arith, one))
+  begun_count Begin mech own now at one counts = absurd (omega (arith, one))
+  begun_count Look mech own now at one counts = counts.0
+  begun_count (Generate search generating) mech own now at one counts = counts.0
+  begun_count (Apply run stores applying) mech own now at one counts = counts.0
+  begun_count (Wrap wrap) mech own now at one counts = counts.0
+  begun_count (Value reference) mech own now at one counts = counts.0
+  begun_count (End reply) mech own now at one counts = counts.0
+
+  -- what each seat tells says so
+  pub begun_by : (setup : Setup) (moves : List Move) → EachTells form setup moves → (seat : ℕ) (mech : Mech S W) → slice_get (run_of form setup moves).mechs seat ≡ Some mech
+      → ticks_left mech.phase ≡ 1 → (newer older : List Change) (change : Change) → (ghost_of form setup moves).changes ≡ newer ++ change ∷ older → change.list.call ≡ called mech
+      → changes_at form setup moves mech.begin ≤ length older
+  begun_by setup moves tells seat mech at one newer older change is call =
+      let own = tells seat mech at in
+      let same = begun_count mech.phase mech ((ghost_of form setup moves).seats seat) (length (ghost_of form setup moves).changes) (changes_at form setup moves) one own.counts in
+      let after = own.after newer older change is (record { seat = ap (λ (c : Called). c.seat) call; number = ap (λ (c : Called). c.number) call }) in
+      omega (arith, same, after)

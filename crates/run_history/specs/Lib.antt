@@ -12,3 +12,4 @@ pub mod Tells
 pub mod Runs
 pub mod Endings
 pub mod Placed
+pub mod Linearized
