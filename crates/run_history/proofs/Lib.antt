@@ -43,3 +43,6 @@ pub mod RunLemmas
 pub mod HistoryLemmas
 pub mod PlacedLemmas
 pub mod LinearizedLemmas
+pub mod ChangeLemmas
+pub mod ReplyLemmas
+pub mod JournalOwners
