@@ -35,6 +35,10 @@ pub mod OwnRun
 pub mod OwnMover
 pub mod OwnMoves
 pub mod LearntLemmas
+pub mod CountSteps
+pub mod TellStays
+pub mod TellOwn
+pub mod TellLemmas
 pub mod Changing
 pub mod StructureLemmas
 pub mod KeptLemmas

@@ -19,7 +19,7 @@ use Rattle.run_history.specs.Known.{Stands}
 use Rattle.run_history.proofs.StillLemmas.{BlockStays}
 
 -- what is in a list is in it with more in front
-among_after : {X : Type 0} (x : X) (newer older : List X) → Among x older → Among x (newer ++ older)
+pub among_after : {X : Type 0} (x : X) (newer older : List X) → Among x older → Among x (newer ++ older)
 among_after x [] older is = is
 among_after x (y ∷ ys) older is = inr (among_after x ys older is)
 
