@@ -50,3 +50,4 @@ pub mod LinearizedLemmas
 pub mod ChangeLemmas
 pub mod ReplyLemmas
 pub mod JournalOwners
+pub mod PlaceableLemmas
