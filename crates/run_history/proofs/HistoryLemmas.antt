@@ -52,8 +52,8 @@ change_at (change ∷ older) place within = elim (cases_order place (length olde
 
 -- ---- the first changes
 
-pub first_none_left : (count : ℕ) (change : Change) (older : List Change) → count ≤ length older → first_changes count (change ∷ older) ≡ first_changes count older
-first_none_left count change older within =
+pub first_of_older : (count : ℕ) (change : Change) (older : List Change) → count ≤ length older → first_changes count (change ∷ older) ≡ first_changes count older
+first_of_older count change older within =
     let one : suc (length older) - count ≡ suc (length older - count) = omega (arith, within) in
     ap (λ n. drop n (change ∷ older)) one
 
@@ -63,15 +63,15 @@ first_all count changes within =
     ap (λ n. drop n changes) none
 
 pub first_older : (newer : List Change) (change : Change) (older : List Change) → first_changes (length older) (newer ++ change ∷ older) ≡ older
-first_older [] change older = first_none_left (length older) change older (omega arith) ∙ first_all (length older) older (omega arith)
+first_older [] change older = first_of_older (length older) change older (omega arith) ∙ first_all (length older) older (omega arith)
 first_older (other ∷ newer) change older =
-    first_none_left (length older) other (newer ++ change ∷ older) (omega (arith, length-append newer (change ∷ older))) ∙ first_older newer change older
+    first_of_older (length older) other (newer ++ change ∷ older) (omega (arith, length-append newer (change ∷ older))) ∙ first_older newer change older
 
 take_front : (count : ℕ) (change : Change) (older : List Change) → count ≤ length older → take count (history_of older) ≡ history_of (first_changes count older)
     → take count (history_of (change ∷ older)) ≡ history_of (first_changes count (change ∷ older))
 take_front count change older within is =
     take-append-le count (history_of older) (placed change ∷ []) (omega (arith, within, length_history older)) ∙ is
-    ∙ ap history_of (sym (first_none_left count change older within))
+    ∙ ap history_of (sym (first_of_older count change older within))
 
 pub take_history : (count : ℕ) (changes : List Change) → count ≤ length changes → take count (history_of changes) ≡ history_of (first_changes count changes)
 take_history count [] within = take_all count [] (omega arith) ∙ ap history_of (sym (first_all count [] (omega arith)))
