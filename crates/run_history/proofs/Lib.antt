@@ -52,3 +52,7 @@ pub mod ReplyLemmas
 pub mod JournalOwners
 pub mod ChangesKept
 pub mod Accounted
+pub mod HistoryLemmas
+pub mod PlacedLemmas
+pub mod LinearizedLemmas
+pub mod PlaceableLemmas

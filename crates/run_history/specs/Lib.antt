@@ -11,3 +11,5 @@ pub mod Changes
 pub mod Tells
 pub mod Runs
 pub mod Endings
+pub mod Placed
+pub mod Linearized

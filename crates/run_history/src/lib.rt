@@ -6,6 +6,7 @@ pub mod beside;
 pub mod entries;
 pub mod hands;
 pub mod journals;
+pub mod linearized;
 pub mod lists;
 pub mod moves;
 pub mod own_steps;
