@@ -24,11 +24,11 @@ use Rattle.fast_slow_engine.specs.declared.phases.Phase.TheVariants.{Idle, Begin
 use Rattle.fast_slow_engine.specs.declared.setup.Setup.{Setup}
 use Rattle.fast_slow_engine.specs.Mechs.{Mech}
 use Rattle.fast_slow_engine.specs.PhaseTable.{mech_pending, pending_call, ticks_left}
-use Rattle.fast_slow_engine.specs.Runs.{Move, run_of}
+use Rattle.fast_slow_engine.specs.Runs.{Move, run_of, pending_of}
 use Rattle.placing_law.specs.Placing.{IsMade, HasObserved, IsAccounted, IsPlaced, change_of, held_at}
 use Rattle.placing_law.specs.Placing as placing
 use Rattle.placing_law.proofs.Placed.{placed_is_linearizable}
-use Rattle.run_laws.specs.Ticks.{pending_of, report_of_run}
+use Rattle.run_laws.specs.Ticks.{report_of_run}
 use Rattle.run_laws.proofs.StepKinds.{pending_open}
 use Rattle.run_laws.proofs.Steps.{some_same}
 use Rattle.run_history.specs.Ghosts.{SeatGhost, ghost_of}
