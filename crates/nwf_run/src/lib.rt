@@ -3,15 +3,10 @@
 #![tactic(auto)]
 
 pub use outside::{Failed, Files, FilesInMemory, HostFiles, HostOut, Sink, SinkInMemory};
-pub use replay::replay_main;
 
-mod accepting;
-mod one_seat;
+mod judging;
 pub mod outside;
 mod reading;
-pub mod replay;
 mod stops;
-#[cfg(test)]
-mod tests;
 mod words;
 mod writing;

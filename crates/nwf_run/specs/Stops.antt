@@ -1,0 +1,21 @@
+-- Why a top call ends without a report, and what it says then.
+use Rattle.std.specs.Prelude.{ℕ, List, ◌++◌, codes, decimal}
+use Rattle.script_reader.specs.declared.causes.Refusal.{Refusal}
+use Rattle.script_reader.specs.Outcomes.{cause_number}
+use Rattle.nwf_run.specs.declared.stops.Stop.{Stop}
+use Rattle.nwf_run.specs.declared.stops.Stop.TheVariants.{Usage, Refused, ReadFault, NoMemory}
+
+-- the status of a stop
+abbrev pub status_of : Stop → ℕ
+status_of Usage = 2
+status_of (Refused file refusal) = 3
+status_of (ReadFault file) = 4
+status_of NoMemory = 6
+
+-- the line that is written for it
+abbrev pub message_of : Stop → List ℕ
+message_of Usage = codes "nwf: usage\n"
+message_of (Refused file refusal) =
+    codes "nwf: refused file " ++ decimal file ++ codes " line " ++ decimal refusal.line ++ codes " cause " ++ decimal (cause_number refusal.cause) ++ codes "\n"
+message_of (ReadFault file) = codes "nwf: read fault file " ++ decimal file ++ codes "\n"
+message_of NoMemory = codes "nwf: no memory\n"
