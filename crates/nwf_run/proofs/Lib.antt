@@ -2,3 +2,4 @@ pub mod FirstNamed
 pub mod Known
 pub mod CutFiles
 pub mod JudgedFiles
+pub mod SameOrder
