@@ -1,3 +1,4 @@
 pub mod SeatLemmas
 pub mod Seating
 pub mod CoreLemmas
+pub mod PendingLemmas

@@ -12,7 +12,7 @@ use Rattle.std.specs.List.{range_with_len}
 use Rattle.node_arena.specs.Opening.{opening_words}
 use Rattle.lin_report.specs.declared.calls.Receipt.{Receipt}
 use Rattle.lin_report.specs.declared.events.Event.{Event}
-use Rattle.event_core.specs.Cores.{HasRoom, core_new, core_of, new_seats}
+use Rattle.event_core.specs.Cores.{IsSeated, core_new, core_of, new_seats}
 use Rattle.event_core.proofs.CoreLemmas.{rebuilt}
 
 -- so many seats stand, and the others come from the files that are left
@@ -95,6 +95,11 @@ module _ {S W F : Type 0} (commands : F → List Op) (form : NormalForm S W) (se
       let right = sum_by-cons (λ f. length (commands f)) file files in
       omega (arith, fresh_events (seat + 1) files, left, right)
 
+  -- they are as many as the files
+  fresh_count : (seat : ℕ) (files : List F) → length (new_seats {S = S} {W = W} setup seat (map commands files)) ≡ length files
+  fresh_count seat [] = refl
+  fresh_count seat (file ∷ files) = ap suc (fresh_count (seat + 1) files)
+
   -- they are those of an opening run
   fresh_files : (seat : ℕ) (files : List F) → map (λ (s : Seat S W). s.file) (new_seats {S = S} {W = W} setup seat (map commands files)) ≡ map commands files
   fresh_files seat [] = refl
@@ -112,8 +117,11 @@ module _ {S W F : Type 0} (commands : F → List Op) (form : NormalForm S W) (se
       (ap (map (λ (x : Seat S W). x.mech)) s ∙ fresh_mechs 0 files ∙ ap (λ n. map (λ at. mech_new at setup) (range_with_len 0 n)) count) r e
 
   pub fresh_room : (seats : List (Seat S W)) (files : List F) (commanded lines line_room events event_room : ℕ) → seats ≡ new_seats setup 0 (map commands files)
-      → commanded ≡ sum_by (λ file. length (commands file)) files → lines ≡ 0 → events ≡ 0 → commanded ≤ line_room → 4 * commanded ≤ event_room
-      → HasRoom seats lines line_room events event_room
-  fresh_room seats files commanded lines line_room events event_room s c l e lr er =
-      subst (λ x. HasRoom x lines line_room events event_room) (sym s)
-      (record { for_lines = omega (arith, fresh_lines 0 files, c, l, lr); for_events = omega (arith, fresh_events 0 files, c, e, er) })
+      → commanded ≡ sum_by (λ file. length (commands file)) files → lines ≡ 0 → events ≡ 0 → commanded ≤ line_room → 4 * commanded ≤ event_room → length files ≡ setup.seats
+      → IsSeated setup seats lines line_room events event_room
+  fresh_room seats files commanded lines line_room events event_room s c l e lr er count =
+      subst (λ x. IsSeated setup x lines line_room events event_room) (sym s)
+      (record {
+        count = fresh_count 0 files ∙ count;
+        room = record { for_lines = omega (arith, fresh_lines 0 files, c, l, lr); for_events = omega (arith, fresh_events 0 files, c, e, er) };
+      })

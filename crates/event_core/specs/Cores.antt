@@ -1,5 +1,5 @@
 -- A run over command files, as a core holds it, and what a step of a seat makes of it.
-use Rattle.std.specs.Prelude.{ℕ, ◌+◌, ◌≤◌, List, [], ◌∷◌, map, sum_by, slice_get, Option, Some, None}
+use Rattle.std.specs.Prelude.{◌≡◌, ℕ, ◌+◌, ◌≤◌, List, [], ◌∷◌, map, length, sum_by, slice_get, Bool, false, Option, Some, None}
 use Rattle.lin_report.specs.declared.calls.Op.{Op}
 use Rattle.lin_report.specs.declared.calls.Receipt.{Receipt}
 use Rattle.lin_report.specs.declared.events.Event.{Event}
@@ -9,7 +9,7 @@ use Rattle.fast_slow_engine.specs.declared.setup.Setup.{Setup}
 use Rattle.fast_slow_engine.specs.declared.setup.Turn.{Turn}
 use Rattle.fast_slow_engine.specs.declared.setup.Turn.TheVariants as turn
 use Rattle.fast_slow_engine.specs.Mechs.{Mech}
-use Rattle.fast_slow_engine.specs.PhaseTable.{mech_new, mech_request, mech_turn}
+use Rattle.fast_slow_engine.specs.PhaseTable.{lists, mech_new, mech_request, mech_turn}
 use Rattle.fast_slow_engine.specs.Runs.{Move, RunState, begun, next_move, opening_run, run_step}
 use Rattle.event_core.specs.declared.cores.CoreTurn.{CoreTurn}
 use Rattle.event_core.specs.declared.cores.CoreTurn.TheVariants.{Idle, Going, Returned}
@@ -30,6 +30,11 @@ core_of setup words seats receipts events =
 pub record HasRoom {S W : Type 0} (seats : List (Seat S W)) (lines line_room events event_room : ℕ) : Type 0 where
   pub for_lines : lines + sum_by lines_owed seats ≤ line_room
   pub for_events : events + sum_by events_owed seats ≤ event_room
+
+-- there is a seat for each of the setup, and that room
+pub record IsSeated {S W : Type 0} (setup : Setup) (seats : List (Seat S W)) (lines line_room events event_room : ℕ) : Type 0 where
+  pub count : length seats ≡ setup.seats
+  pub room : HasRoom seats lines line_room events event_room
 
 -- after the move of a seat, where it has one
 abbrev pub after_move : {S W : Type 0} → NormalForm S W → Option Move → RunState S W → RunState S W
@@ -56,6 +61,14 @@ turn_after form (Some move) state = turn_by form (slice_get state.mechs move.sea
 -- what a step of a seat answers: Idle where it has no move, Returned where its call ends
 abbrev pub core_turn : {S W : Type 0} → NormalForm S W → ℕ → CoreView S W → CoreTurn
 core_turn form seat view = turn_after form (next_move view.files seat view.state) view.state
+
+-- whether the next request of a seat is the exchange of an entry of a list
+abbrev pub lists_in : {S W : Type 0} → Option (Mech S W) → Bool
+lists_in None = false
+lists_in (Some mech) = lists mech.phase
+
+abbrev pub next_listed : {S W : Type 0} → ℕ → CoreView S W → Bool
+next_listed seat view = lists_in (slice_get view.state.mechs seat)
 
 -- a run of these files that made no step
 abbrev pub core_new : {S W : Type 0} → NormalForm S W → Setup → List (List Op) → CoreView S W

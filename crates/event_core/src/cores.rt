@@ -7,8 +7,9 @@ ghost use Rattle.fast_slow_engine.specs.Runs.{returned};
 ghost use Rattle.event_core.specs.Cores.{core_new, core_turn_of, new_seats};
 
 use crate::seats::Seat;
+use arrayvec::ArrayVec;
 use fast_slow_engine::{Setup, Turn};
-use lin_report::{Event, NoMemory, Op, Receipt};
+use lin_report::{Event, NoMemory, Op, PendingCall, Receipt};
 use node_arena::opening_words;
 use normal_traits::Normalized;
 use std::alloc::Global;
@@ -38,22 +39,22 @@ pub struct Core<C: Normalized> {
 
 impl<C: Normalized> Model for Core<C> {
     ghost use Rattle.std.specs.Prelude.{vec_len, vec_capacity};
-    ghost use Rattle.event_core.specs.Cores.{CoreView, HasRoom, core_of};
+    ghost use Rattle.event_core.specs.Cores.{CoreView, IsSeated, core_of};
 
     ghost Value = { CoreView C.Search C.Wrap };
 
     ghost view = { λ c. core_of c.setup c.cells c.seats.items c.receipts.items c.events.items };
 
-    ghost invariant = { λ c. HasRoom c.seats.items (vec_len c.receipts) (vec_capacity c.receipts) (vec_len c.events) (vec_capacity c.events) };
+    ghost invariant = { λ c. IsSeated c.setup c.seats.items (vec_len c.receipts) (vec_capacity c.receipts) (vec_len c.events) (vec_capacity c.events) };
 }
 
 impl<C: Normalized> Core<C> {
-    ghost use Rattle.fast_slow_engine.specs.Mechs.{Mech};
-    ghost use Rattle.fast_slow_engine.specs.PhaseTable.{lists};
     ghost use Rattle.std.specs.Prelude.{IsPermutation};
     ghost use Rattle.std.specs.List.Sorted.{IsNonDecreasingBy};
+    ghost use Rattle.lin_report.specs.declared.calls.PendingCall.{PendingCall};
     ghost use Rattle.lin_report.specs.declared.calls.Receipt.{Receipt};
-    ghost use Rattle.event_core.specs.Cores.{core_stepped, core_turn, with_receipts};
+    ghost use Rattle.fast_slow_engine.specs.Runs.{pending_of};
+    ghost use Rattle.event_core.specs.Cores.{core_stepped, core_turn, next_listed, with_receipts};
 
     /// The run of these files that made no step, one seat for each. All room is made here: after
     /// `NoMemory` the files are gone, and nothing else is left.
@@ -96,7 +97,7 @@ impl<C: Normalized> Core<C> {
     /// such step.
     pub fn next_is_listed(&self, seat: u32) -> bool
         requires seat { seat < length self.now.files }
-        ensures { (mech : Mech C.Search C.Wrap) → slice_get self.now.state.mechs seat ≡ Some mech → result ≡ lists mech.phase }
+        ensures { result ≡ next_listed seat self.now }
     {
         self.seats[seat as usize].next_is_listed()
     }
@@ -115,6 +116,19 @@ impl<C: Normalized> Core<C> {
         ensures kept { self.new ≡ with_receipts self.new.state.receipts self.old }
     {
         self.receipts.sort_unstable_by_key(|receipt| receipt.begin);
+    }
+
+    /// The calls that run, in rising order of begin.
+    pub fn pending(&self) -> ArrayVec<PendingCall, 8>
+        ensures calls { IsPermutation (pending_of self.now.state.mechs) result.items }
+        ensures order { IsNonDecreasingBy (λ (p : PendingCall). p.begin) result.items }
+    {
+        let mut pending = ArrayVec::new();
+        for seat in &self.seats {
+            add_pending(&mut pending, seat.pending());
+        }
+        pending.sort_unstable_by_key(|call| call.begin);
+        pending
     }
 
     /// The events, in order of the steps.
@@ -186,6 +200,16 @@ fn note(events: &mut Vec<Event>, event: Option<Event>)
 {
     if let Some(event) = event {
         events.push_reserved(event);
+    }
+}
+
+/// Puts a call that runs last, where there is one.
+fn add_pending(pending: &mut ArrayVec<PendingCall, 8>, call: Option<PendingCall>)
+    requires { length pending.old.items < 8 }
+    ensures { pending.new.items ≡ pending.old.items ++ option_to_list call }
+{
+    if let Some(call) = call {
+        pending.push(call);
     }
 }
 

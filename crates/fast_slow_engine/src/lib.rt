@@ -5,7 +5,7 @@ pub use machine::Machine;
 pub use phases::{Applying, Generating, Phase};
 pub use setup::{Setup, Turn};
 
-pub mod call;
+mod call;
 mod fast;
 pub mod machine;
 pub mod phases;

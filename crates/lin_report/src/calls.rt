@@ -31,8 +31,8 @@ pub const REM: u8 = 7;
 pub const GET: u8 = 8;
 
 /// One operation: which command by its code, with the numbers that the command takes. A number that
-/// it doesn't take is 0.
-#[derive(Clone, Copy, Debug, PartialEq, Eq)]
+/// it doesn't take is 0. The default has a code that no command has; it only fills unused room.
+#[derive(Clone, Copy, Debug, Default, PartialEq, Eq)]
 pub struct Op {
     pub code: u8,
     pub key: u32,
@@ -62,8 +62,9 @@ pub enum Outcome {
 }
 
 /// Whether a call was made by its own seat alone, or was published for others to finish.
-#[derive(Clone, Copy, Debug, PartialEq, Eq)]
+#[derive(Clone, Copy, Debug, Default, PartialEq, Eq)]
 pub enum Path {
+    #[default]
     Fast,
     Slow,
 }
@@ -81,8 +82,8 @@ pub struct Receipt {
     pub path: Path,
 }
 
-/// A call that has begun and has no answer yet.
-#[derive(Clone, Copy, Debug, PartialEq, Eq)]
+/// A call that has begun and has no answer yet. The default is no call; it only fills unused room.
+#[derive(Clone, Copy, Debug, Default, PartialEq, Eq)]
 pub struct PendingCall {
     pub seat: u32,
     pub number: u32,

@@ -15,10 +15,10 @@ use Rattle.fast_slow_engine.specs.declared.phases.Phase.TheVariants.{Idle, Begin
 use Rattle.fast_slow_engine.specs.declared.setup.Setup.{Setup}
 use Rattle.fast_slow_engine.specs.Mechs.{Mech}
 use Rattle.fast_slow_engine.specs.PhaseTable.{mech_pending, pending_call, receipt_of, rests, ticks_left}
-use Rattle.fast_slow_engine.specs.Runs.{Move, RunState, AreMoves, moves_over, next_move, run_of, with_move}
+use Rattle.fast_slow_engine.specs.Runs.{Move, RunState, AreMoves, moves_over, next_move, pending_of, run_of, with_move}
 use Rattle.run_laws.specs.Seats.{EachMech, IsSeated}
 use Rattle.run_laws.specs.Files.{FilesFit, RunsFile, IsFileRun}
-use Rattle.run_laws.specs.Ticks.{KeepsTicks, TicksOnce, pending_of, report_of_run}
+use Rattle.run_laws.specs.Ticks.{KeepsTicks, TicksOnce, report_of_run}
 use Rattle.run_laws.specs.Reports.{RunsReport}
 use Rattle.run_laws.proofs.Pairs.{all_map, pairs_append, pairs_map, pairs_nil, pairs_one}
 use Rattle.run_laws.proofs.SeatLemmas.{seats_stay}

@@ -1,7 +1,5 @@
 -- The tick counter, and the report of a run.
-use Rattle.std.specs.Prelude.{◌≡◌, ℕ, ◌==◌, nat_lt, if◌then◌else◌, count_by, Bool, true, false, List, [], ◌∷◌, length, slice_get, slice_index, flat_map, Some}
-use Rattle.std.specs.Option.{option_to_list}
-use Rattle.lin_report.specs.declared.calls.PendingCall.{PendingCall}
+use Rattle.std.specs.Prelude.{◌≡◌, ℕ, ◌==◌, nat_lt, if◌then◌else◌, count_by, Bool, true, false, List, [], ◌∷◌, length, slice_get, slice_index, Some}
 use Rattle.lin_report.specs.Calls.{Report, report_of}
 use Rattle.lin_report.specs.Report.{ticks_of}
 use Rattle.step_memory.specs.declared.steps.Request.{Request}
@@ -12,8 +10,8 @@ use Rattle.fast_slow_engine.specs.declared.phases.Phase.{Phase}
 use Rattle.fast_slow_engine.specs.declared.phases.Phase.TheVariants as phase
 use Rattle.fast_slow_engine.specs.declared.setup.Setup.{Setup}
 use Rattle.fast_slow_engine.specs.Mechs.{Mech}
-use Rattle.fast_slow_engine.specs.PhaseTable.{mech_pending, mech_request}
-use Rattle.fast_slow_engine.specs.Runs.{Move, RunState, AreMoves, begun, run_of}
+use Rattle.fast_slow_engine.specs.PhaseTable.{mech_request}
+use Rattle.fast_slow_engine.specs.Runs.{Move, RunState, AreMoves, begun, pending_of, run_of}
 
 -- the request leaves the word at the place as it was
 abbrev pub LeavesWord : ℕ → Request → List ℕ → Type 0
@@ -24,10 +22,6 @@ abbrev pub draws_tick : {S W : Type 0} → Phase S W → Bool
 draws_tick phase.Begin = true
 draws_tick (phase.End reply) = true
 draws_tick _ = false
-
--- the calls that run, in order of their seats
-abbrev pub pending_of : {S W : Type 0} → List (Mech S W) → List PendingCall
-pending_of mechs = flat_map (λ mech. option_to_list (mech_pending mech)) mechs
 
 -- the report of a run: the calls that returned and those that run
 abbrev pub report_of_run : {S W : Type 0} → RunState S W → Report

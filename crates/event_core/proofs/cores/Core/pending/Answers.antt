@@ -1,0 +1,13 @@
+use Rattle.std.proofs.Common.{rules}
+use Rattle.std.proofs.lemmas.List.Sorted.{IsNonDecreasingBy-from_sort_by_key}
+use Rattle.arrayvec.proofs.ArrayVecLemmas.{items-with_items}
+use Rattle.event_core.proofs.PendingLemmas.{gathered}
+use Rattle.event_core.proofs.cores.Core.pending.Goals as goal
+
+pub loop-seat-preserved : goal.loop-seat-preserved
+loop-seat-preserved g c = gathered _ _ c.seat-item.result _ _ _ c.loop-seat.invariant (search rules) c.seat-item.is c.pending.ensures c.add_pending.ensures
+
+pub returns-clause-order : goal.returns-clause-order
+returns-clause-order g c =
+    rw (items-with_items c.loop-seat.pending c.sort_unstable_by_key.new.self (search rules))
+    (IsNonDecreasingBy-from_sort_by_key (λ r. r.begin) _ c.sort_unstable_by_key.ensures.sorted (λ a r q k. search rules))
