@@ -5,14 +5,15 @@ use Rattle.std.specs.FinMap as map
 use Rattle.std.specs.Ordering.{nat_cmp}
 use Rattle.std.proofs.lemmas.Bool.{eqb-true, eq-eqb, ne_eqb, or_left}
 use Rattle.std.proofs.lemmas.List.Elements.{All-nil, All-cons}
+use Rattle.std.proofs.lemmas.List.Kept.{AllPairs-cons}
 use Rattle.word_fields.specs.Versioned.{versioned_value, versioned_bit, versioned_version}
 use Rattle.lin_report.specs.declared.calls.Op.{Op}
 use Rattle.lin_report.specs.declared.calls.Client.TheVariants.{Tree}
 use Rattle.lin_report.specs.Object.{map_object}
 use Rattle.lin_report.specs.Commands.{may_exhaust}
 use Rattle.node_arena.specs.Opening.{opening_word}
-use Rattle.node_arena.specs.MemoryMap.{field_at}
-use Rattle.node_arena.proofs.PlaceLemmas.{field_at-block_place}
+use Rattle.node_arena.specs.MemoryMap.{block_place, field_at}
+use Rattle.node_arena.proofs.PlaceLemmas.{field_at-block_place, same_field}
 use Rattle.step_memory.specs.declared.steps.Seen.{Seen}
 use Rattle.normal_traits.specs.declared.form.Found.TheVariants as found
 use Rattle.normal_traits.specs.declared.form.Wrapped.TheVariants as wrapped
@@ -24,7 +25,7 @@ use Rattle.flagged_register.specs.Register.{FLAG, REGISTER, note_place, flag_val
 use Rattle.flagged_register.specs.Register.Help.{Deciding}
 use Rattle.flagged_register.specs.Register.Search.{AtFlag, AtRegister, Named, Helping}
 use Rattle.flagged_register.specs.Meanings.{Flagged, Shape, IsOver, IsSpent, EachChanges, flagged_block, flagger, adds_beside, WasRead, Knows, Dead, is_ready, flagged_form, IsGone}
-use Rattle.flagged_register.proofs.Basics.{all_among, word_of, flag_value_below, note_register, note_flag, decided_once}
+use Rattle.flagged_register.proofs.Basics.{all_among, word_of, flag_value_below, note_register, note_flag, note_decision, value_decision, decided_once}
 use Rattle.flagged_register.proofs.Effects.{Effect, made_won, cleared_won, decided_won}
 use Rattle.flagged_register.proofs.Effects.Effect.{quiet, sets, makes, decides, clears}
 use Rattle.flagged_register.proofs.Journal.{took_of, flagged_of, flagger_flagged}
@@ -159,6 +160,16 @@ good_decision block = record {
   versioned = λ e. omega arith;
 }
 
+value_note : (block : ℕ) → value_at block ≢ note_place block
+value_note block e = absurd (omega (arith, same_field block 13 block 27 (omega arith) (omega arith) e))
+
+-- a note of a block is no versioned word
+note_plain : (block field : ℕ) → field < 12 → (block_place block field == FLAG || block_place block field == REGISTER || field_at (block_place block field) == 28) ≡ false
+note_plain block field low =
+    rw (ne_eqb (block_place block field) FLAG (λ e. absurd (omega (arith, low, same_field block field 0 16 (omega (arith, low)) (omega arith) e))),
+    ne_eqb (block_place block field) REGISTER (λ e. absurd (omega (arith, low, same_field block field 0 14 (omega (arith, low)) (omega arith) e))),
+    ne_eqb (field_at (block_place block field)) 28 (λ e. omega (arith, low, e, field_at-block_place block field (omega (arith, low))))) refl
+
 offers : (world : World) (search : Search) (op : Op) (since block : ℕ) → Shape world → Knows search op world since → is_ready search → block < 2 ^ 17 → IsGoodOffer flagged_form world block (offer_of search op block)
 offers world (AtFlag o) op since block shape knows ready small = absurd ready
 offers world (AtRegister o flag) op since block shape knows ready small = absurd ready
@@ -170,6 +181,12 @@ offers world (Named o flag register) op since block shape knows ready small = re
   stores = All-cons (IsGoodStore flagged_form block) (value_at block, op.value) ((note_place block, register) ∷ (decision_place block, 0) ∷ []) (good_value block op.value knows.1.1.value)
       (All-cons (IsGoodStore flagged_form block) (note_place block, register) ((decision_place block, 0) ∷ []) (good_store block register knows.1.1.fits)
       (All-cons (IsGoodStore flagged_form block) (decision_place block, 0) [] (good_decision block) (All-nil (IsGoodStore flagged_form block))));
+  distinct = AllPairs-cons (λ (a b : ℕ × ℕ). a.0 ≢ b.0) (value_at block, op.value) ((note_place block, register) ∷ (decision_place block, 0) ∷ [])
+      (All-cons (λ (b : ℕ × ℕ). value_at block ≢ b.0) (note_place block, register) ((decision_place block, 0) ∷ []) (value_note block)
+      (All-cons (λ (b : ℕ × ℕ). value_at block ≢ b.0) (decision_place block, 0) [] (value_decision block block) (All-nil (λ (b : ℕ × ℕ). value_at block ≢ b.0))))
+      (AllPairs-cons (λ (a b : ℕ × ℕ). a.0 ≢ b.0) (note_place block, register) ((decision_place block, 0) ∷ [])
+      (All-cons (λ (b : ℕ × ℕ). note_place block ≢ b.0) (decision_place block, 0) [] (note_decision block block) (All-nil (λ (b : ℕ × ℕ). note_place block ≢ b.0)))
+      (λ i j d order low. absurd (omega (arith, order, low))));
   count = omega arith;
 }
 offers world (Helping o help) op since block shape knows ready small = absurd ready
@@ -291,6 +308,7 @@ flagged_laws = record {
   causes_bounded = λ world shape. all_among (λ (won : Won). (world.used won.cause.block ≡ true) × (won.cause.kind < 8)) world.journal (λ item among. bounded world item.cause (shape.spent item among));
   begins_asking = λ op command. tt;
   begins_knowing = λ world op command shape. (omega arith, refl);
+  notes_plain = λ block field some low. note_plain block field low;
   knows_kept = λ world after search op since command shape knows step. knows_later world after shape (later world after shape (effect_of world after shape step)) search op since knows;
   follows_kept = λ world after help list stop shape follows step. helps_later world after shape (later world after shape (effect_of world after shape step)) help list follows;
   dead_kept = λ world after list shape dead step. dead_later world after list shape dead (effect_of world after shape step);

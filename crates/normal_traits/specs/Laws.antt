@@ -54,13 +54,14 @@ pub record IsGoodStore {S W : Type 0} (form : NormalForm S W) (block : ℕ) (sto
   pub word : store.1 < 2 ^ 64
   pub versioned : form.is_versioned store.0 ≡ true → store.1 < 2 ^ 24
 
--- an offer: one or two entries with different targets, and the stores
+-- an offer: one or two entries with different targets, and the stores, each at another place
 pub record IsGoodOffer {S W : Type 0} (form : NormalForm S W) (world : World) (block : ℕ) (offer : Offered) : Type 0 where
   pub some : 0 < length offer.entries
   pub few : length offer.entries ≤ 2
   pub entries : All (IsGoodEntry form world) offer.entries
   pub apart : AllPairs (λ (a b : Entry). a.target ≢ b.target) offer.entries
   pub stores : All (IsGoodStore form block) offer.stores
+  pub distinct : AllPairs (λ (a b : ℕ × ℕ). a.0 ≢ b.0) offer.stores
   pub count : length offer.stores ≤ 20
 
 -- the value that an outcome names stands at a place that is never exchanged, so it stays
@@ -102,6 +103,8 @@ pub record Laws {S W : Type 0} (form : NormalForm S W) : Type 0 where
   -- a search that begins asks, and knows what holds now
   pub begins_asking : (op : Op) → IsCommandOf form.client op → form.asks (form.begin_of op)
   pub begins_knowing : (world : World) (op : Op) → IsCommandOf form.client op → form.shape world → form.knows (form.begin_of op) op world (length world.changes)
+  -- the notes of a block other than 0, which the engine stores, are no versioned words
+  pub notes_plain : (block field : ℕ) → 0 < block → field < 12 → form.is_versioned (block_place block field) ≡ false
   -- what a search knows and a wrap-up follows stays true, and a dead list stays dead, whatever anyone does
   pub knows_kept : (world after : World) (search : S) (op : Op) (since : ℕ) → IsCommandOf form.client op → form.shape world → form.knows search op world since → IsStep form world after → form.knows search op after since
   pub follows_kept : (world after : World) (wrap : W) (list : Listed) (stop : ℕ) → form.shape world → form.follows wrap list stop world → IsStep form world after → form.follows wrap list stop after

@@ -11,6 +11,7 @@ use Rattle.queue_laws.specs.Wrap.{wrap_asked}
 use Rattle.queue_laws.specs.Shape.{IsQueue}
 use Rattle.queue_laws.specs.Knowledge.{IsDead}
 use Rattle.queue_laws.specs.Form.{queue_form}
+use Rattle.queue_laws.proofs.Places.{note_not_versioned}
 use Rattle.queue_laws.proofs.Later.{later, went, went_later, asked_clear, wrap_asked_clear, some_entry}
 use Rattle.queue_laws.proofs.Kept.{knows_later, follows_later, dead_later}
 use Rattle.queue_laws.proofs.Keeps.{shape_keeps}
@@ -47,6 +48,7 @@ laws =
       causes_bounded = causes_within;
       begins_asking = λ op command. begins_asking op;
       begins_knowing = λ world op command queue. begins_knowing world op command;
+      notes_plain = λ block field some low. note_not_versioned block field low;
       knows_kept = λ world after searched op since command queue knows step. knows_later world after queue (later world after step) searched op since knows;
       follows_kept = λ world after wrap list stop queue follows step. follows_later world after queue (later world after step) wrap list stop follows;
       dead_kept = λ world after list queue dead step. dead_later world after list (later world after step) dead;

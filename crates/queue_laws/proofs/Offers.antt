@@ -1,8 +1,9 @@
 -- Why a search of the queue gives up, and what is true of the list that it names.
 use Rattle.std.proofs.Common.{◌≡◌, ℕ, ◌^◌, ◌<◌, ◌≤◌, Bool, true, false, not, cond, eqb, ◌||◌, List, [], ◌∷◌, length, refl, sym, ap, ◌∙◌, subst, inl, inr, arith}
-use Rattle.std.specs.Prelude.{All, IsTrue}
+use Rattle.std.specs.Prelude.{◌≢◌, All, AllPairs, IsTrue}
 use Rattle.std.proofs.lemmas.Bool.{true≢false, false≢true, eqb-true, cond-true, cond-false}
 use Rattle.std.proofs.lemmas.List.Elements.{All-nil, All-cons}
+use Rattle.std.proofs.lemmas.List.Kept.{AllPairs-cons}
 use Rattle.lin_report.specs.declared.calls.Op.{Op}
 use Rattle.lin_report.specs.declared.calls.Reply.TheVariants.{Empty}
 use Rattle.lin_report.specs.declared.calls.Outcome.TheVariants.{Plain}
@@ -26,7 +27,7 @@ use Rattle.queue_laws.specs.Chain.{node_block, is_listable}
 use Rattle.queue_laws.specs.Shape.{IsQueue}
 use Rattle.queue_laws.specs.Knowledge.{Learnt, Serves}
 use Rattle.queue_laws.specs.Form.{queue_form}
-use Rattle.queue_laws.proofs.Places.{value_not_versioned, next_listable}
+use Rattle.queue_laws.proofs.Places.{value_not_versioned, next_listable, apart_fields}
 use Rattle.queue_laws.proofs.Kept.{next_place_is, next_place_word, next_place_versioned}
 use Rattle.queue_laws.proofs.Keeps.{puts_is}
 
@@ -95,15 +96,16 @@ lists (TakeNext head tail) op ready serves = absurd ready
 lists (TakeHelp tail next) op ready serves = absurd ready
 
 -- one entry is good where it is
-one_entry : (world : World) (block : ℕ) (entry : Entry) (stores : List (ℕ × ℕ)) → IsGoodEntry queue_form world entry → All (IsGoodStore queue_form block) stores → length stores ≤ 20
+one_entry : (world : World) (block : ℕ) (entry : Entry) (stores : List (ℕ × ℕ)) → IsGoodEntry queue_form world entry → All (IsGoodStore queue_form block) stores → AllPairs (λ (a b : ℕ × ℕ). a.0 ≢ b.0) stores → length stores ≤ 20
     → IsGoodOffer queue_form world block (record { entries = entry ∷ []; stores = stores })
-one_entry world block entry stores good stored few =
+one_entry world block entry stores good stored differ few =
     record {
       some = omega arith;
       few = omega arith;
       entries = All-cons (IsGoodEntry queue_form world) entry [] good (All-nil (IsGoodEntry queue_form world));
       apart = λ i j d order low. absurd (omega arith);
       stores = stored;
+      distinct = differ;
       count = few;
     }
 
@@ -111,7 +113,15 @@ pub take_offers : (world : World) (head next block : ℕ) → IsQueue world → 
 take_offers world head next block queue l =
     one_entry world block (record { target = HEAD; from = head; to = moved_word head next }) []
     (record { word = refl; versioned = refl; listable = refl; clear = l.0.clear; seen = l.0.seen; changed = (versioned_value next, value_below next, refl) })
-    (All-nil (IsGoodStore queue_form block)) (omega arith)
+    (All-nil (IsGoodStore queue_form block)) (λ i j d order low. absurd (omega arith)) (omega arith)
+
+-- the places of a put's two stores differ
+two_differ : (block value : ℕ) → AllPairs (λ (a b : ℕ × ℕ). a.0 ≢ b.0) ((node_place (reference_to block 1) NODE_VALUE, value) ∷ (node_place (reference_to block 1) NODE_NEXT, 0) ∷ [])
+two_differ block value =
+    AllPairs-cons (λ (a b : ℕ × ℕ). a.0 ≢ b.0) (node_place (reference_to block 1) NODE_VALUE, value) ((node_place (reference_to block 1) NODE_NEXT, 0) ∷ [])
+    (All-cons (λ (b : ℕ × ℕ). node_place (reference_to block 1) NODE_VALUE ≢ b.0) (node_place (reference_to block 1) NODE_NEXT, 0) []
+    (apart_fields block block NODE_VALUE NODE_NEXT (omega arith) (omega arith) (λ e. omega (arith, e))) (All-nil (λ (b : ℕ × ℕ). node_place (reference_to block 1) NODE_VALUE ≢ b.0)))
+    (λ i j d order low. absurd (omega (arith, order, low)))
 
 pub put_offers : (world : World) (tail next value block : ℕ) → IsQueue world → Learnt (PutReady tail next) world → value < 2 ^ 32 → block < 2 ^ 17 → IsGoodOffer queue_form world block (put_offer tail next value block)
 put_offers world tail next value block queue l fits small =
@@ -145,7 +155,7 @@ put_offers world tail next value block queue l fits small =
       versioned = λ is. omega arith;
     })
     (All-nil (IsGoodStore queue_form block))))
-    (omega arith)
+    (two_differ block value) (omega arith)
 
 pub offers : (world : World) (searched : QueueSearch) (op : Op) (block : ℕ) → IsCommandOf Queue op → IsQueue world → Serves searched op → Learnt searched world → IsReady searched → block < 2 ^ 17 → IsGoodOffer queue_form world block (offered searched op block)
 offers world (PutReady tail next) op block command queue serves l ready small =

@@ -2,8 +2,8 @@
 use Rattle.std.proofs.Common.{◌≡◌, ◌≢◌, ℕ, ◌+◌, ◌<◌, Bool, true, false, not, eqb, leb, ◌||◌, ◌&&◌, refl, sym, ap, ◌∙◌, arith}
 use Rattle.std.proofs.lemmas.Bool.{true≢false, ne_eqb, eq-eqb, le-leb, cond-true, cond-false, or_right}
 use Rattle.node_arena.specs.declared.places.TheConstants.{HEAD, TAIL, NODE_VALUE, NODE_NEXT}
-use Rattle.node_arena.specs.MemoryMap.{node_place, block_at, field_at, reference_to, NamesNode}
-use Rattle.node_arena.proofs.PlaceLemmas.{node_place_behind, block_at-node_place, field_at-node_place, block-reference_to, node_named-reference_to, same_node}
+use Rattle.node_arena.specs.MemoryMap.{block_place, node_place, block_at, field_at, reference_to, NamesNode}
+use Rattle.node_arena.proofs.PlaceLemmas.{block_place_behind, field_at-block_place, node_place_behind, block_at-node_place, field_at-node_place, block-reference_to, node_named-reference_to, same_node}
 use Rattle.normal_traits.specs.World.{World, is_word, is_state}
 use Rattle.normal_traits.specs.Steps.{with_word}
 use Rattle.queue_laws.specs.Chain.{is_versioned, is_listable, is_next}
@@ -95,3 +95,11 @@ value_not_versioned block =
     let low = node_place_behind (reference_to block 1) NODE_VALUE in
     let at = field_of_place block NODE_VALUE (omega arith) in
     rw (ne_eqb place 20 (λ e. omega (arith, low)), ne_eqb place 21 (λ e. omega (arith, low)), ne_eqb (field_at place) 14 (λ e. omega (arith, at)), le-leb 32 place low) refl
+
+-- a note of a block is no versioned word
+pub note_not_versioned : (block field : ℕ) → field < 12 → is_versioned (block_place block field) ≡ false
+note_not_versioned block field low =
+    let place = block_place block field in
+    let behind = block_place_behind block field in
+    let at = field_at-block_place block field (omega (arith, low)) in
+    rw (ne_eqb place 20 (λ e. omega (arith, behind)), ne_eqb place 21 (λ e. omega (arith, behind)), ne_eqb (field_at place) 14 (λ e. omega (arith, at, low)), le-leb 32 place behind) refl

@@ -2,7 +2,7 @@
 use Rattle.std.proofs.Common.{rules, arith, ◌≡◌, ◌∙◌, refl, sym, subst, ap, ℕ, ◌+◌, ◌-◌, ◌<◌, ◌≤◌, Bool, true, false, List, [], ◌∷◌, length, slice_get, slice_index_or, Option, Some, None, option_map, IsTrue, All}
 use Rattle.std.proofs.lemmas.Option.{get_or_from_slice_get, slice_get_within}
 use Rattle.lin_report.specs.declared.calls.Op.{Op}
-use Rattle.lin_report.specs.Commands.{is_command}
+use Rattle.lin_report.specs.Commands.{IsCommandOf}
 use Rattle.lin_report.specs.Report.{file_of}
 use Rattle.step_memory.specs.Step.{seen_of}
 use Rattle.normal_traits.specs.NormalForm.{NormalForm}
@@ -76,11 +76,11 @@ module _ {S W : Type 0} where
   }
 
   module _ (form : NormalForm S W) where
-    can_move : (file : List Op) (begins : Option Op) (mech : Mech S W) → length file ≤ 65535 → All (λ op. IsTrue (is_command form.client op)) file → IsNext begins file mech → CanMove form begins mech
+    can_move : (file : List Op) (begins : Option Op) (mech : Mech S W) → length file ≤ 65535 → All (λ op. IsCommandOf form.client op) file → IsNext begins file mech → CanMove form begins mech
     can_move file None mech few commands next = next
     can_move file (Some op) mech few commands next =
         let inside = slice_get_within file mech.number op next.1 in
-        (next.0, omega arith, subst (λ o. IsTrue (is_command form.client o)) (get_or_from_slice_get file mech.number op op next.1) (commands mech.number op inside))
+        (next.0, omega arith, subst (λ o. IsCommandOf form.client o) (get_or_from_slice_get file mech.number op op next.1) (commands mech.number op inside))
 
     run_more : (setup : Setup) (files : List (List Op)) (moves : List Move) (move : Move) → FilesFit form.client setup files → IsFileRun form setup files moves
         → IsNextOf files (run_of form setup moves).mechs move → IsFileRun form setup files (move ∷ moves)
@@ -90,7 +90,7 @@ module _ {S W : Type 0} where
         let own : slice_index_or files move.seat next.file ≡ next.file = get_or_from_slice_get files move.seat next.file next.file next.filed in
         let file : file_of files move.seat ≡ next.file = get_or_from_slice_get files move.seat next.file [] next.filed in
         let few = subst (λ (f : List Op). length f ≤ 65535) own (fit.few move.seat next.file inside) in
-        let commands = subst (λ (f : List Op). All (λ op. IsTrue (is_command form.client op)) f) own (fit.commands move.seat next.file inside) in
+        let commands = subst (λ (f : List Op). All (λ op. IsCommandOf form.client op) f) own (fit.commands move.seat next.file inside) in
         let mech = begun move.begins next.mech in
         let seen = seen_of (mech_request form mech) state.words in
         let old = subst (λ f. RunsFile f next.mech) file (run.runs move.seat next.mech next.seated) in

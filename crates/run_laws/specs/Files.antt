@@ -1,8 +1,8 @@
 -- A run over command files makes their commands.
-use Rattle.std.specs.Prelude.{◌≡◌, ℕ, ◌-◌, ◌<◌, ◌≤◌, false, List, length, slice_get, Some, All, IsTrue}
+use Rattle.std.specs.Prelude.{◌≡◌, ℕ, ◌-◌, ◌<◌, ◌≤◌, false, List, length, slice_get, Some, All}
 use Rattle.lin_report.specs.declared.calls.Client.{Client}
 use Rattle.lin_report.specs.declared.calls.Op.{Op}
-use Rattle.lin_report.specs.Commands.{is_command}
+use Rattle.lin_report.specs.Commands.{IsCommandOf}
 use Rattle.lin_report.specs.Report.{file_of}
 use Rattle.normal_traits.specs.NormalForm.{NormalForm}
 use Rattle.fast_slow_engine.specs.declared.setup.Setup.{Setup}
@@ -15,7 +15,7 @@ use Rattle.run_laws.specs.Seats.{EachMech}
 pub record FilesFit (client : Client) (setup : Setup) (files : List (List Op)) : Type 0 where
   pub count : length files ≡ setup.seats
   pub few : All (λ file. length file ≤ 65535) files
-  pub commands : All (λ file. All (λ op. IsTrue (is_command client op)) file) files
+  pub commands : All (λ file. All (λ op. IsCommandOf client op) file) files
 
 -- the call of the machine is the command of the file with its number, counted from 1, and as many calls
 -- have begun as its number says; a report names its commands by this
