@@ -3,3 +3,4 @@ pub mod Known
 pub mod CutFiles
 pub mod JudgedFiles
 pub mod SameOrder
+pub mod Writable

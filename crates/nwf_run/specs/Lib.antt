@@ -5,3 +5,4 @@ pub mod Words
 pub mod Stops
 pub mod Said
 pub mod Judging
+pub mod Writable
