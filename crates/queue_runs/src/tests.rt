@@ -1,8 +1,11 @@
 //! Worked runs, by the lines of their calls.
 use crate::runs::{make_steps, one_file, two_files};
 use event_core::CoreTurn;
+use fast_slow_engine::{Machine, Setup, Turn};
 use lin_report::calls::{PUT, TAKE};
-use lin_report::{Op, Path, Receipt, Reply};
+use lin_report::{Op, Path, PendingCall, Receipt, Reply};
+use ms_queue::MsQueue;
+use step_memory::Seen;
 
 const PUT_7: Op = Op {
     code: PUT,
@@ -27,6 +30,53 @@ fn line(seat: u32, number: u32, op: Op, reply: Reply, begin: u64, end: u64) -> R
         end,
         path: Path::Fast,
     }
+}
+
+/// Call NUMBER of a seat, which runs on its fast path.
+fn waiting(seat: u32, number: u32, op: Op, begin: u64) -> PendingCall {
+    PendingCall {
+        seat,
+        number,
+        op,
+        begin,
+        path: Path::Fast,
+    }
+}
+
+#[test]
+fn a_call_is_pending_from_its_begin_tick_on(rt: HostRuntime) {
+    let setup = Setup {
+        seats: 2,
+        cap: 8,
+        limit: 3,
+    };
+    let mut machine = Machine::<MsQueue>::new(1, setup);
+    machine.start(ONE_TAKE);
+    assert_eq!(rt; machine.pending(), None);
+    let seen = Seen {
+        before: 5,
+        won: true,
+    };
+    assert_eq!(rt; machine.feed(seen), Turn::Going);
+    assert_eq!(rt; machine.pending(), Some(waiting(1, 1, ONE_TAKE, 5)));
+}
+
+#[test]
+fn calls_are_pending_in_order_of_their_begin_ticks(rt: HostRuntime) {
+    let Some(mut core) = two_files(rt.alloc(), b"put 7\n", b"take\n", 8) else {
+        panic!(rt; "no memory")
+    };
+    make_steps(&mut core, 1, 1);
+    make_steps(&mut core, 0, 2);
+    assert_eq!(rt;
+        core.pending().as_slice(),
+        [waiting(1, 1, ONE_TAKE, 0), waiting(0, 1, PUT_7, 1)].as_slice()
+    );
+    make_steps(&mut core, 1, 16);
+    assert_eq!(rt;
+        core.pending().as_slice(),
+        [waiting(0, 1, PUT_7, 1)].as_slice()
+    );
 }
 
 #[test]

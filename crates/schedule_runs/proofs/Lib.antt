@@ -1,0 +1,4 @@
+pub mod SpanLemmas
+pub mod OrderLemmas
+pub mod NameLemmas
+pub mod LoopLemmas

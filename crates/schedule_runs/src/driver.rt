@@ -1,0 +1,87 @@
+//! Driving a core by a schedule: entry by entry, step by step.
+ghost use Rattle.std.specs.Prelude.{◌≡◌, ℕ, ◌<◌, All, length};
+ghost use Rattle.event_core.specs.Cores.{core_stepped, core_turn};
+ghost use Rattle.schedule_runs.specs.Spans.{IsFirst, after_steps, ends_at, goes_on, reaches_at};
+ghost use Rattle.schedule_runs.specs.Orders.{Follows, IsMade};
+
+use event_core::{Core, CoreTurn};
+use normal_traits::Normalized;
+use script_reader::{ScheduleEntry, Span};
+
+/// The most steps of one entry.
+const STEP_LIMIT: u32 = 16_384;
+
+/// Makes the entries of a schedule, one after the other. It takes no memory and cannot fail.
+pub fn drive<C: Normalized>(core: &mut Core<C>, schedule: &[ScheduleEntry])
+    requires seats { All (λ entry. entry.seat < length core.old.files) schedule.now }
+    ensures follows { Follows C.form schedule.now core.old core.new }
+    ensures files { core.new.files ≡ core.old.files }
+{
+    for entry in schedule {
+        follow(core, *entry);
+    }
+}
+
+/// Makes one entry.
+fn follow<C: Normalized>(core: &mut Core<C>, entry: ScheduleEntry)
+    requires seat { entry.seat < length core.old.files }
+    ensures made { IsMade C.form entry core.old core.new }
+    ensures files { core.new.files ≡ core.old.files }
+{
+    match entry.span {
+        Span::Steps(count) => make_steps(core, entry.seat, count),
+        Span::ToEnd => go_to_end(core, entry.seat),
+        Span::ToExchange => go_to_exchange(core, entry.seat),
+    }
+}
+
+/// Makes so many steps of a seat.
+fn make_steps<C: Normalized>(core: &mut Core<C>, seat: u32, count: u32)
+    requires seat { seat < length core.old.files }
+    ensures steps { core.new ≡ after_steps C.form seat core.old count }
+    ensures files { core.new.files ≡ core.old.files }
+{
+    for _ in 0..count {
+        core.step(seat);
+    }
+}
+
+/// Makes steps of a seat until one ends a call or finds the seat idle.
+fn go_to_end<C: Normalized>(core: &mut Core<C>, seat: u32)
+    requires seat { seat < length core.old.files }
+    ensures steps { (n : ℕ) × IsFirst (ends_at C.form seat core.old) n × (core.new ≡ after_steps C.form seat core.old n) }
+    ensures files { core.new.files ≡ core.old.files }
+{
+    for _ in 0..STEP_LIMIT {
+        if !steps_on(core, seat) {
+            return;
+        }
+    }
+}
+
+/// Makes steps of a seat, one at least, until its next request is the exchange of an entry of a list, or a
+/// step ends a call or finds the seat idle.
+fn go_to_exchange<C: Normalized>(core: &mut Core<C>, seat: u32)
+    requires seat { seat < length core.old.files }
+    ensures steps { (n : ℕ) × IsFirst (reaches_at C.form seat core.old) n × (core.new ≡ after_steps C.form seat core.old n) }
+    ensures files { core.new.files ≡ core.old.files }
+{
+    for _ in 0..STEP_LIMIT {
+        if !steps_on(core, seat) || core.next_is_listed(seat) {
+            return;
+        }
+    }
+}
+
+/// Makes one step of a seat. Whether its call goes on.
+fn steps_on<C: Normalized>(core: &mut Core<C>, seat: u32) -> bool
+    requires seat { seat < length core.old.files }
+    ensures step { core.new ≡ core_stepped C.form seat core.old }
+    ensures goes_on { result ≡ goes_on (core_turn C.form seat core.old) }
+    ensures files { core.new.files ≡ core.old.files }
+{
+    match core.step(seat) {
+        CoreTurn::Going => true,
+        CoreTurn::Idle | CoreTurn::Returned => false,
+    }
+}
