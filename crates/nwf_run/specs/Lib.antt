@@ -6,3 +6,4 @@ pub mod Stops
 pub mod Said
 pub mod Judging
 pub mod Writable
+pub mod Replaying

@@ -3,10 +3,13 @@
 #![tactic(auto)]
 
 pub use outside::{Failed, Files, FilesInMemory, HostFiles, HostOut, Sink, SinkInMemory};
+pub use replay::replay_main;
 
 mod judging;
 pub mod outside;
 mod reading;
+pub mod replay;
+mod running;
 mod stops;
 mod words;
 mod writing;
