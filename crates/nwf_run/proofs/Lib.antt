@@ -4,3 +4,4 @@ pub mod CutFiles
 pub mod JudgedFiles
 pub mod SameOrder
 pub mod Writable
+pub mod RunReports
