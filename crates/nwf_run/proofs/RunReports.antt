@@ -40,7 +40,6 @@ exhausted_is Empty h = absurd (search rules)
 exhausted_is Absent h = absurd (search rules)
 exhausted_is Exhausted h = refl
 
-
 module _ {S W : Type 0} (state : RunState S W) (receipts : List Receipt) (pending : List PendingCall) (lines : IsPermutation state.receipts receipts) (calls : IsPermutation (pending_of state.mechs) pending) where
   pub can_write : (most : ℕ) → IsNonDecreasingBy (λ (r : Receipt). r.begin) receipts → IsNonDecreasingBy (λ (p : PendingCall). p.begin) pending → CanBeWritten state most → CanWrite (report_of receipts pending) (Some 0)
   can_write most order opened can =
@@ -62,8 +61,7 @@ module _ {S W : Type 0} (state : RunState S W) (receipts : List Receipt) (pendin
   pub marked : (mark : Bool) → mark ≡ list_any (λ (r : Receipt). reply_is_exhausted r.reply) receipts → (mark ≡ true) ↔ Any (λ (r : Receipt). r.reply ≡ Exhausted) state.receipts
   marked mark is =
       let test : Receipt → Bool = λ r. reply_is_exhausted r.reply in
-      let same : mark ≡ list_any test state.receipts = is ∙ sym (list_any-IsPermutation test state.receipts receipts lines) in
-      (
+      let same : mark ≡ list_any test state.receipts = is ∙ sym (list_any-IsPermutation test state.receipts receipts lines) in (
         λ yes. let (k, r, within, at, h) = Any-from_list_any test state.receipts (sym same ∙ yes) in (k, r, within, at, exhausted_is r.reply h),
         λ (k, r, within, at, h). same ∙ list_any-from_Any test state.receipts (k, r, within, at, ap reply_is_exhausted h),
       )

@@ -43,8 +43,8 @@ module _ {X : Type 0} (key : X → ℕ) where
   apart_pairs (x ∷ xs) apart =
       AllPairs-cons (λ x y. key x ≢ key y) x xs
       (λ k d within same.
-        let t = key (get_or xs k d) in
-        omega (arith, apart t, sum_by-cons (hits t) x xs, is_own x t (sym same), counted_at xs k d within))
+      let t = key (get_or xs k d) in
+      omega (arith, apart t, sum_by-cons (hits t) x xs, is_own x t (sym same), counted_at xs k d within))
       (apart_pairs xs (λ t. omega (arith, apart t, sum_by-cons (hits t) x xs)))
 
   -- keys rise from place to place
@@ -64,9 +64,9 @@ module _ {X : Type 0} (key : X → ℕ) where
       let below : X → ℕ = λ y. cond (nat_lt (key y) (key x)) 1 0 in
       let own : below x ≡ 0 = ap (λ b. cond b 1 0) (le-ltb (key x) (key x) (omega arith)) in
       let none : All (λ y. below y ≤ 0) xs = λ k e inside.
-        let less : key x < key (get_or xs k e) = rise 0 (suc k) e (omega arith) (omega (arith, inside)) in
-        let is : below (get_or xs k e) ≡ 0 = ap (λ b. cond b 1 0) (le-ltb (key (get_or xs k e)) (key x) (omega (arith, less))) in
-        omega (arith, is) in
+      let less : key x < key (get_or xs k e) = rise 0 (suc k) e (omega arith) (omega (arith, inside)) in
+      let is : below (get_or xs k e) ≡ 0 = ap (λ b. cond b 1 0) (le-ltb (key (get_or xs k e)) (key x) (omega (arith, less))) in
+      omega (arith, is) in
       omega (arith, sum_by-cons below x xs, own, sum_by-le below 0 xs none)
   place (x ∷ xs) rise (suc k) d within =
       let below : X → ℕ = λ y. cond (nat_lt (key y) (key (get_or xs k d))) 1 0 in

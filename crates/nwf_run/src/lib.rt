@@ -11,5 +11,7 @@ mod reading;
 pub mod replay;
 mod running;
 mod stops;
+#[cfg(test)]
+mod tests;
 mod words;
 mod writing;

@@ -11,9 +11,8 @@ returns-in-Ok-clause-reads g c =
 
 pub returns-in-Err-Refused-clause-reads : goal.returns-in-Err-Refused-clause-reads
 returns-in-Err-Refused-clause-reads g c =
-    let outcome = subst (λ r. ReadsAs r (script_outcome c.args.client c.deref.result.now)) (c.in-Err-Refused.is ∙ ap Err c.in-Err-Refused.field-0-is) c.read_script.ensures.outcome in
-    (
+    let outcome = subst (λ r. ReadsAs r (script_outcome c.args.client c.deref.result.now)) (c.in-Err-Refused.is ∙ ap Err c.in-Err-Refused.field-0-is) c.read_script.ensures.outcome in (
       refl,
       judged_script c.args.client (g.F.Files.held c.args.files.now c.args.name.now) c.in_ok-bytes.bytes.items (Err c.in-Err-Refused.refusal) c.in_ok-bytes.ensures.bytes
-      (ap (script_outcome c.args.client) (sym c.deref.ensures.value) ∙ outcome),
+          (ap (script_outcome c.args.client) (sym c.deref.ensures.value) ∙ outcome),
     )

@@ -11,9 +11,8 @@ returns-in-Ok-clause-reads g c =
 
 pub returns-in-Err-Refused-clause-reads : goal.returns-in-Err-Refused-clause-reads
 returns-in-Err-Refused-clause-reads g c =
-    let outcome = subst (λ r. ReadsAs r (schedule_outcome c.args.seats c.deref.result.now)) (c.in-Err-Refused.is ∙ ap Err c.in-Err-Refused.field-0-is) c.read_schedule.ensures.outcome in
-    (
+    let outcome = subst (λ r. ReadsAs r (schedule_outcome c.args.seats c.deref.result.now)) (c.in-Err-Refused.is ∙ ap Err c.in-Err-Refused.field-0-is) c.read_schedule.ensures.outcome in (
       refl,
       judged_schedule c.args.seats (g.F.Files.held c.args.files.now c.args.name.now) c.in_ok-bytes.bytes.items (Err c.in-Err-Refused.refusal) c.in_ok-bytes.ensures.bytes
-      (ap (schedule_outcome c.args.seats) (sym c.deref.ensures.value) ∙ outcome),
+          (ap (schedule_outcome c.args.seats) (sym c.deref.ensures.value) ∙ outcome),
     )

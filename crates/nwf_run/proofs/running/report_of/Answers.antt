@@ -43,14 +43,14 @@ returns g c =
     record {
       report = report_of_run core.state;
       is = record {
-          setup = _;
-          seats = seats;
-          cap = refl;
-          limit = refl;
-          core = core;
-          follows = driven g.C.Normalized.form _ commands c.args.scripts.schedule.items c.deref-2.result.now c.in_ok-core.core core c.in_ok-core.ensures.core c.deref-2.ensures.value c.drive.ensures.follows;
-          made = refl;
-        };
+        setup = _;
+        seats = seats;
+        cap = refl;
+        limit = refl;
+        core = core;
+        follows = driven g.C.Normalized.form _ commands c.args.scripts.schedule.items c.deref-2.result.now c.in_ok-core.core core c.in_ok-core.ensures.core c.deref-2.ensures.value c.drive.ensures.follows;
+        made = refl;
+      };
       written = c.write_report.ensures.text ∙ ap (λ l. l ++ report_text (report_of c.receipts.result.now c.as_slice.result.now) (Some 0)) c.in_ok-text.ensures.empty ∙ written;
       marked = marked core.state c.receipts.result.now c.as_slice.result.now sorted.lines sorted.calls c.any_exhausted-exhausted.result mark;
     }
