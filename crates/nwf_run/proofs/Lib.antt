@@ -2,6 +2,6 @@ pub mod FirstNamed
 pub mod Known
 pub mod CutFiles
 pub mod JudgedFiles
-pub mod Endings
-pub mod OneSeat
-pub mod SeatCalls
+pub mod SameOrder
+pub mod Writable
+pub mod RunReports

@@ -2,8 +2,8 @@ pub mod Outside
 pub mod MemoryFiles
 pub mod MemorySink
 pub mod Words
-pub mod OneSeat
-pub mod Seat
-pub mod Accepted
-pub mod Judged
+pub mod Stops
+pub mod Said
+pub mod Judging
+pub mod Writable
 pub mod Replaying

@@ -2,32 +2,46 @@
 use Rattle.std.specs.Prelude.{ℕ, nat_lt, nat_le, ◌&&◌, if◌then◌else◌, List, [], ◌∷◌, length, Option, Some, None, codes}
 use Rattle.std.specs.Option.{option_and_then}
 use Rattle.std.specs.Str.{bytes_eq}
+use Rattle.lin_report.specs.declared.calls.Client.{Client}
+use Rattle.lin_report.specs.declared.calls.Client.TheVariants as client
 use Rattle.script_reader.specs.Words.{number_up_to}
+use Rattle.nwf_run.specs.declared.words.Served.{Served}
+use Rattle.nwf_run.specs.declared.words.Served.TheVariants.{Queue}
 
 -- what the words of a replay say
 pub record Replay : Type 0 where
+  pub served : Served
   pub cap : ℕ
   pub limit : ℕ
-  -- the names of the files
+  -- the names of the files: the schedule, and a command file for each seat
   pub schedule : List ℕ
-  pub file : List ℕ
+  pub files : List (List ℕ)
+
+-- the structure that a word names
+abbrev pub served_named : List ℕ → Option Served
+served_named word = if bytes_eq word (codes "queue") then Some Queue else None
+
+-- the client whose commands the command files have
+abbrev pub client_of : Served → Client
+client_of Queue = client.Queue
 
 -- a number word between two bounds: one or more ASCII digits, of which leading zeros count nothing
 abbrev pub number_in : ℕ → ℕ → List ℕ → Option ℕ
 number_in least most word =
     option_and_then (λ n. if nat_lt 0 (length word) && nat_le least n then Some n else None) (number_up_to most word)
 
--- a replay with its blocks and its contention limit, where both are in range
-abbrev pub replay_of : Option ℕ → Option ℕ → List ℕ → List ℕ → Option Replay
-replay_of (Some cap) (Some limit) schedule file = Some (record { cap = cap; limit = limit; schedule = schedule; file = file })
-replay_of (Some cap) None schedule file = None
-replay_of None limit schedule file = None
+-- a replay of a structure that is served, with its blocks and its contention limit in range
+abbrev pub replay_of : Option Served → Option ℕ → Option ℕ → List ℕ → List (List ℕ) → Option Replay
+replay_of (Some served) (Some cap) (Some limit) schedule files = Some (record { served = served; cap = cap; limit = limit; schedule = schedule; files = files })
+replay_of (Some served) (Some cap) None schedule files = None
+replay_of (Some served) None limit schedule files = None
+replay_of None cap limit schedule files = None
 
--- `replay queue CAP LIMIT SCHEDULE FILE`, with 1 to 65,536 blocks and a limit from 1 to 255; other words
--- are no replay
+-- `replay CLIENT CAP LIMIT SCHEDULE` and one to eight FILE words, with 1 to 65,536 blocks and a limit from 1
+-- to 255; other words are no replay
 abbrev pub replay_words : List (List ℕ) → Option Replay
-replay_words (command ∷ client ∷ cap ∷ limit ∷ schedule ∷ file ∷ []) =
-    if bytes_eq command (codes "replay") && bytes_eq client (codes "queue")
-    then replay_of (number_in 1 65536 cap) (number_in 1 255 limit) schedule file
+replay_words (command ∷ client ∷ cap ∷ limit ∷ schedule ∷ files) =
+    if bytes_eq command (codes "replay") && nat_lt 0 (length files) && nat_le (length files) 8
+    then replay_of (served_named client) (number_in 1 65536 cap) (number_in 1 255 limit) schedule files
     else None
 replay_words _ = None

@@ -5,11 +5,11 @@
 pub use outside::{Failed, Files, FilesInMemory, HostFiles, HostOut, Sink, SinkInMemory};
 pub use replay::replay_main;
 
-mod accepting;
-mod one_seat;
+mod judging;
 pub mod outside;
 mod reading;
 pub mod replay;
+mod running;
 mod stops;
 #[cfg(test)]
 mod tests;

@@ -11,6 +11,8 @@ pub use memory_sink::SinkInMemory;
 mod host;
 mod memory_files;
 mod memory_sink;
+#[cfg(test)]
+mod tests;
 
 /// A fault of the outside: a missing file, a failed read, a sink that takes nothing.
 #[derive(Clone, Copy, Debug, PartialEq, Eq)]

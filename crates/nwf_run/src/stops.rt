@@ -1,23 +1,32 @@
 //! Why a top call ends without a report.
-ghost use Rattle.nwf_run.specs.Judged.{status_of, message_of, stop_of_read};
-ghost use Rattle.std.specs.Prelude.{◌≡◌};
+ghost use Rattle.nwf_run.specs.Stops.{status_of, message_of};
+ghost use Rattle.std.specs.Prelude.{◌≡◌, ◌≤◌, ◌+◌, ◌++◌, codes, decimal, length};
+ghost use Rattle.arrayvec.specs.ArrayString.{array_string_len};
 ghost use Rattle.nwf_run.specs.declared.stops.Stop.TheVariants as variant;
 
-use crate::reading::ReadError;
+use arrayvec::ArrayString;
+use itoa::Buffer;
 use lin_report::NoMemory;
+use script_reader::{Refusal, cause_number};
 
-/// Why a top call ends without a report.
+/// Why a top call ends without a report. File 0 is the schedule, and file k the k-th command file.
 #[derive(Clone, Copy, Debug, PartialEq, Eq)]
 pub enum Stop {
     /// The words are none that the call serves.
     Usage,
-    /// A file isn't accepted.
-    Refused,
+    /// The grammar refuses a file.
+    Refused { file: u32, refusal: Refusal },
     /// A file couldn't be read.
-    ReadFault,
+    ReadFault { file: u32 },
     /// There was no memory.
     NoMemory,
 }
+
+/// The most bytes of a message.
+const MESSAGE_ROOM: usize = 160;
+
+/// A message, in room that needs no memory.
+pub type Message = ArrayString<MESSAGE_ROOM>;
 
 impl Stop {
     /// The status with which the call ends.
@@ -26,34 +35,40 @@ impl Stop {
     {
         match self {
             Stop::Usage => 2,
-            Stop::Refused => 3,
-            Stop::ReadFault => 4,
+            Stop::Refused { .. } => 3,
+            Stop::ReadFault { .. } => 4,
             Stop::NoMemory => 6,
         }
     }
 
     /// The line that is written in place of a report.
-    pub fn message(self) -> &'static [u8]
-        ensures { result.now ≡ message_of self }
+    pub fn message(self) -> Message
+        ensures { result.bytes ≡ message_of self }
     {
+        let mut text = Message::new();
         match self {
-            Stop::Usage => b"nwf: usage\n",
-            Stop::Refused => b"nwf: refused\n",
-            Stop::ReadFault => b"nwf: read fault\n",
-            Stop::NoMemory => b"nwf: no memory\n",
+            Stop::Usage => text.push_str("nwf: usage"),
+            Stop::Refused { file, refusal } => {
+                push_named(&mut text, "nwf: refused file ", file);
+                push_named(&mut text, " line ", refusal.line);
+                push_named(&mut text, " cause ", cause_number(refusal.cause));
+            }
+            Stop::ReadFault { file } => push_named(&mut text, "nwf: read fault file ", file),
+            Stop::NoMemory => text.push_str("nwf: no memory"),
         }
+        text.push_str("\n");
+        text
     }
 }
 
-impl From<ReadError> for Stop {
-    ghost from_gives = { stop_of_read };
-
-    fn from(error: ReadError) -> Stop {
-        match error {
-            ReadError::Fault => Stop::ReadFault,
-            ReadError::NoMemory => Stop::NoMemory,
-        }
-    }
+/// Puts a name and a number last.
+fn push_named(text: &mut Message, name: &str, number: u32)
+    requires { array_string_len text.old + length name.now + 40 ≤ 160 }
+    ensures bytes { text.new.bytes ≡ text.old.bytes ++ name.now ++ decimal number }
+    ensures len { array_string_len text.new ≤ array_string_len text.old + length name.now + 40 }
+{
+    text.push_str(name);
+    text.push_str(Buffer::new().format(number));
 }
 
 impl From<NoMemory> for Stop {

@@ -1,24 +1,19 @@
-//! The top call on files and sinks in memory, and those by themselves.
-
-use crate::outside::{Failed, Files, FilesInMemory, HostFiles, HostOut, Sink, SinkInMemory};
+//! The top call on files and sinks in memory. Rows write `/` for a newline and `|` between command files.
+use crate::outside::{FilesInMemory, SinkInMemory};
 use crate::replay::replay_main;
 use std::alloc::{AllocError, Global};
+use std::process::Abort;
 use std::test::Fail;
-use std::{env, fs};
 
-const WORDS: &str = "replay queue 8 3 s f0";
+/// The words of a command line, the schedule, the command files, the status, and what is written.
+type Row = (&'static str, &'static str, &'static str, u8, &'static str);
 
-const TWO_CALLS: &[u8] = b"0 end\n0 end\n";
+/// Ample room of a sink.
+const AMPLE: usize = 2000;
 
-const PUT_TAKE: &[u8] = b"put 7\ntake\n";
+const ONE: &str = "replay queue 8 3 s f0";
 
-const REPORT: &[u8] =
-    b"0 1 put 7 done 0 1 fast\n0 2 take value 7 2 3 fast\ncalls 2 fast 2 slow 0 exhausted 0 pending 0 overtaken 0\n";
-
-const EMPTY_REPORT: &[u8] = b"calls 0 fast 0 slow 0 exhausted 0 pending 0 overtaken 0\n";
-
-/// A sink with ample room and no failing call.
-const AMPLE: usize = 1000;
+const TWO: &str = "replay queue 8 3 s f0 f1";
 
 /// The words of a command line, each two of them with one space between.
 fn words_of(alloc: Global, line: &str) -> Result<Vec<String>, AllocError> {
@@ -31,27 +26,35 @@ fn words_of(alloc: Global, line: &str) -> Result<Vec<String>, AllocError> {
     Ok(words)
 }
 
-/// A schedule `s` and a command file `f0`, in pieces of this size, of which these calls fail.
+/// The bytes of a text of a row.
+fn bytes_of(alloc: Global, text: &str) -> Result<Vec<u8>, AllocError> {
+    let mut bytes = Vec::new(alloc);
+    for byte in text.bytes() {
+        bytes.push(if byte == b'/' { b'\n' } else { byte })?;
+    }
+    Ok(bytes)
+}
+
+/// The schedule `s` and the command files `f0` to `f7` of a row, of which these calls fail.
 fn files_of(
     alloc: Global,
-    schedule: &[u8],
-    file: &[u8],
+    schedule: &str,
+    commands: &str,
     fails: &[u64],
     piece: usize,
 ) -> Result<FilesInMemory, AllocError> {
     let mut files = Vec::new(alloc);
-    files.push((
-        String::from_str(alloc, "s")?,
-        Vec::from_slice(alloc, schedule)?,
-    ))?;
-    files.push((
-        String::from_str(alloc, "f0")?,
-        Vec::from_slice(alloc, file)?,
-    ))?;
+    files.push((String::from_str(alloc, "s")?, bytes_of(alloc, schedule)?))?;
+    let mut names = ["f0", "f1", "f2", "f3", "f4", "f5", "f6", "f7"].iter();
+    for file in commands.split('|') {
+        if let Some(name) = names.next() {
+            files.push((String::from_str(alloc, name)?, bytes_of(alloc, file)?))?;
+        }
+    }
     Ok(FilesInMemory::in_pieces(files, Vec::from_slice(alloc, fails)?, piece.max(1)))
 }
 
-/// The status and the bytes of a call over ample memory, and how many calls of the files it made.
+/// The status of a call over ample memory.
 fn replayed(
     alloc: Global,
     words: &str,
@@ -62,32 +65,263 @@ fn replayed(
     Ok(replay_main(alloc, &words, files, sink))
 }
 
-#[test]
-fn reports(rt: HostRuntime) -> Result<(), Fail> {
-    let alloc = rt.alloc();
-    for (schedule, file, report) in [
-        (TWO_CALLS, PUT_TAKE, REPORT),
-        (b"".as_slice(), b"".as_slice(), EMPTY_REPORT),
-        (b"0 end\n".as_slice(), b"".as_slice(), EMPTY_REPORT),
-        (
-            b"0 end\n".as_slice(),
-            b"take\n".as_slice(),
-            b"0 1 take empty 0 1 fast\ncalls 1 fast 1 slow 0 exhausted 0 pending 0 overtaken 0\n".as_slice(),
-        ),
-        (
-            b" 0   end \n0 end\n0 end".as_slice(),
-            b"put 4294967295\nput 0001\n\ntake".as_slice(),
-            b"0 1 put 4294967295 done 0 1 fast\n0 2 put 1 done 2 3 fast\n0 3 take value 4294967295 4 5 fast\ncalls 3 fast 3 slow 0 exhausted 0 pending 0 overtaken 0\n".as_slice(),
-        ),
-    ] {
+/// Compares what each row writes, read and written at once and byte by byte.
+fn compare(rt: &impl Abort, alloc: Global, rows: &[Row]) -> Result<(), Fail> {
+    for (words, schedule, commands, status, text) in rows {
+        let wanted = bytes_of(alloc, text)?;
         for piece in [usize::MAX, 1] {
-            let mut files = files_of(alloc, schedule, file, &[], piece)?;
+            let mut files = files_of(alloc, schedule, commands, &[], piece)?;
             let mut sink = SinkInMemory::in_pieces(alloc, AMPLE, Vec::new(alloc), piece.max(1))?;
-            assert_eq!(rt; replayed(alloc, WORDS, &mut files, &mut sink)?, 0);
-            assert_eq!(rt; sink.bytes(), report);
+            let got = replayed(alloc, words, &mut files, &mut sink)?;
+            assert_eq!(rt; sink.bytes(), wanted.as_slice(), "{schedule}");
+            assert_eq!(rt; got, *status, "{schedule}");
         }
     }
     Ok(())
+}
+
+#[test]
+fn reports_of_one_seat(rt: HostRuntime) -> Result<(), Fail> {
+    compare(
+        &rt,
+        rt.alloc(),
+        &[
+            (
+                ONE,
+                "0 end/0 end/",
+                "put 7/take/",
+                0,
+                "0 1 put 7 done 0 1 fast/0 2 take value 7 2 3 fast/calls 2 fast 2 slow 0 exhausted 0 pending 0 overtaken 0/",
+            ),
+            (
+                ONE,
+                "",
+                "",
+                0,
+                "calls 0 fast 0 slow 0 exhausted 0 pending 0 overtaken 0/",
+            ),
+            (
+                ONE,
+                "0 end/",
+                "take/",
+                0,
+                "0 1 take empty 0 1 fast/calls 1 fast 1 slow 0 exhausted 0 pending 0 overtaken 0/",
+            ),
+            (
+                "replay queue 1 3 s f0",
+                "0 end/0 end/0 end/",
+                "put 1/put 2/take/",
+                7,
+                "0 1 put 1 done 0 1 fast/0 2 put 2 exhausted 2 3 fast/0 3 take value 1 4 5 fast/calls 3 fast 3 slow 0 exhausted 1 pending 0 overtaken 0/",
+            ),
+            (
+                ONE,
+                "0 14/",
+                "put 7/take/",
+                0,
+                "0 1 put 7 pending 0 - fast/calls 1 fast 1 slow 0 exhausted 0 pending 1 overtaken 0/",
+            ),
+            (
+                ONE,
+                "0 15/",
+                "put 7/take/",
+                0,
+                "0 1 put 7 done 0 1 fast/calls 1 fast 1 slow 0 exhausted 0 pending 0 overtaken 0/",
+            ),
+            (
+                ONE,
+                "0 23/",
+                "put 7/take/",
+                0,
+                "0 1 put 7 done 0 1 fast/0 2 take value 7 2 3 fast/calls 2 fast 2 slow 0 exhausted 0 pending 0 overtaken 0/",
+            ),
+        ],
+    )
+}
+
+#[test]
+fn grammar_of_the_files(rt: HostRuntime) -> Result<(), Fail> {
+    compare(
+        &rt,
+        rt.alloc(),
+        &[
+            (
+                ONE,
+                "0 end/0 end/",
+                "put 7/put 1",
+                0,
+                "0 1 put 7 done 0 1 fast/0 2 put 1 done 2 3 fast/calls 2 fast 2 slow 0 exhausted 0 pending 0 overtaken 0/",
+            ),
+            (
+                ONE,
+                "0 end/0 end/",
+                "take                                                            /put 0007/",
+                0,
+                "0 1 take empty 0 1 fast/0 2 put 7 done 2 3 fast/calls 2 fast 2 slow 0 exhausted 0 pending 0 overtaken 0/",
+            ),
+            (
+                "replay queue 008 03 s f0",
+                " 0   end /00 end/0 end",
+                "put 4294967295//put 0001/take",
+                0,
+                "0 1 put 4294967295 done 0 1 fast/0 2 put 1 done 2 3 fast/0 3 take value 4294967295 4 5 fast/calls 3 fast 3 slow 0 exhausted 0 pending 0 overtaken 0/",
+            ),
+            // The schedule is empty, or longer than the run.
+            (
+                TWO,
+                "",
+                "put 7/|take/",
+                0,
+                "calls 0 fast 0 slow 0 exhausted 0 pending 0 overtaken 0/",
+            ),
+            (
+                ONE,
+                "0 end/0 end/0 16384/0 exchange/0 end",
+                "take/",
+                0,
+                "0 1 take empty 0 1 fast/calls 1 fast 1 slow 0 exhausted 0 pending 0 overtaken 0/",
+            ),
+        ],
+    )
+}
+
+#[test]
+fn reports_of_more_seats(rt: HostRuntime) -> Result<(), Fail> {
+    compare(
+        &rt,
+        rt.alloc(),
+        &[
+            (
+                TWO,
+                "0 exchange/1 end/",
+                "put 7/|take/",
+                0,
+                "0 1 put 7 pending 0 - fast/1 1 take empty 1 2 fast/calls 2 fast 2 slow 0 exhausted 0 pending 1 overtaken 0/",
+            ),
+            (
+                TWO,
+                "0 exchange/0 1/1 end/0 end/",
+                "put 7/|take/",
+                0,
+                "0 1 put 7 done 0 3 fast/1 1 take value 7 1 2 fast/calls 2 fast 2 slow 0 exhausted 0 pending 0 overtaken 0/",
+            ),
+            (
+                "replay queue 2 3 s f0 f1",
+                "0 exchange/1 exchange/0 end/1 end/1 end/",
+                "put 7/|put 8/take/",
+                0,
+                "0 1 put 7 done 0 2 fast/1 1 put 8 done 1 3 fast/1 2 take value 7 4 5 fast/calls 3 fast 3 slow 0 exhausted 0 pending 0 overtaken 0/",
+            ),
+            (
+                "replay queue 1 3 s f0 f1",
+                "1 end/0 end/1 1/",
+                "put 7/|put 8/take/",
+                7,
+                "1 1 put 8 done 0 1 fast/0 1 put 7 exhausted 2 3 fast/1 2 take pending 4 - fast/calls 3 fast 3 slow 0 exhausted 1 pending 1 overtaken 0/",
+            ),
+            (
+                "replay queue 65536 255 s f0 f0",
+                "1 end/0 end/",
+                "put 7/",
+                0,
+                "1 1 put 7 done 0 1 fast/0 1 put 7 done 2 3 fast/calls 2 fast 2 slow 0 exhausted 0 pending 0 overtaken 0/",
+            ),
+            (
+                "replay queue 8 1 s f0 f1 f2 f3 f4 f5 f6 f7",
+                "7 end/0 end/7 1/",
+                "take/|||||||put 3/take/",
+                0,
+                "7 1 put 3 done 0 1 fast/0 1 take value 3 2 3 fast/7 2 take pending 4 - fast/calls 3 fast 3 slow 0 exhausted 0 pending 1 overtaken 0/",
+            ),
+        ],
+    )
+}
+
+#[test]
+fn files_that_are_refused(rt: HostRuntime) -> Result<(), Fail> {
+    compare(
+        &rt,
+        rt.alloc(),
+        &[
+            (
+                ONE,
+                "0 end/",
+                "add 5/",
+                3,
+                "nwf: refused file 1 line 1 cause 1/",
+            ),
+            (
+                ONE,
+                "0 end/",
+                "peek/",
+                3,
+                "nwf: refused file 1 line 1 cause 1/",
+            ),
+            (
+                ONE,
+                "0 end/",
+                "put 7/ta",
+                3,
+                "nwf: refused file 1 line 2 cause 1/",
+            ),
+            (
+                ONE,
+                "0 end/",
+                "put 7//put -1/",
+                3,
+                "nwf: refused file 1 line 3 cause 2/",
+            ),
+            (
+                ONE,
+                "0 end/",
+                "put 4294967296/",
+                3,
+                "nwf: refused file 1 line 1 cause 2/",
+            ),
+            (
+                ONE,
+                "0 end/",
+                "take                                                             ",
+                3,
+                "nwf: refused file 1 line 1 cause 3/",
+            ),
+            (
+                ONE,
+                "1 end/",
+                "take/",
+                3,
+                "nwf: refused file 0 line 1 cause 6/",
+            ),
+            (
+                ONE,
+                "0 0/",
+                "take/",
+                3,
+                "nwf: refused file 0 line 1 cause 2/",
+            ),
+            (
+                ONE,
+                "0 end/0 ends/",
+                "tak/",
+                3,
+                "nwf: refused file 0 line 2 cause 1/",
+            ),
+            (
+                TWO,
+                "1 end/",
+                "take/|tak/",
+                3,
+                "nwf: refused file 2 line 1 cause 1/",
+            ),
+            (
+                TWO,
+                "0 end/",
+                "tak/",
+                3,
+                "nwf: refused file 1 line 1 cause 1/",
+            ),
+        ],
+    )
 }
 
 #[test]
@@ -95,9 +329,14 @@ fn words_that_are_not_served(rt: HostRuntime) -> Result<(), Fail> {
     let alloc = rt.alloc();
     for words in [
         "",
+        "replay",
         "replay stack 8 3 s f0",
         "replay list 8 3 s f0",
+        "replay queues 8 3 s f0",
+        "load queue 8 3 1 1 0",
         "run queue 8 3 f0",
+        "sweep queue 8 3 0 f0",
+        "check queue report order",
         "replay queue 0 3 s f0",
         "replay queue 65537 3 s f0",
         "replay queue 8 0 s f0",
@@ -106,9 +345,9 @@ fn words_that_are_not_served(rt: HostRuntime) -> Result<(), Fail> {
         "replay queue +8 3 s f0",
         "replay queue 99999999999999999999999 3 s f0",
         "replay queue 8 3 s",
-        "replay queue 8 3 s f0 f0",
+        "replay queue 8 3 s f0 f0 f0 f0 f0 f0 f0 f0 f0",
     ] {
-        let mut files = files_of(alloc, TWO_CALLS, PUT_TAKE, &[], AMPLE)?;
+        let mut files = files_of(alloc, "0 end/", "take/", &[], AMPLE)?;
         let mut sink = SinkInMemory::with_room(alloc, AMPLE, Vec::new(alloc))?;
         assert_eq!(rt;
             replayed(alloc, words, &mut files, &mut sink)?,
@@ -121,120 +360,116 @@ fn words_that_are_not_served(rt: HostRuntime) -> Result<(), Fail> {
     Ok(())
 }
 
+/// A text so many times.
+fn times(alloc: Global, text: &str, count: usize) -> Result<Vec<u8>, AllocError> {
+    let mut bytes = Vec::new(alloc);
+    for _ in 0..count {
+        bytes.extend_from_slice(text.as_bytes())?;
+    }
+    Ok(bytes)
+}
+
 #[test]
-fn files_that_are_not_accepted(rt: HostRuntime) -> Result<(), Fail> {
+fn files_over_their_limits(rt: HostRuntime) -> Result<(), Fail> {
     let alloc = rt.alloc();
-    for (schedule, file) in [
-        (TWO_CALLS, b"put 7\ntak".as_slice()),
-        (TWO_CALLS, b"put 4294967296\n".as_slice()),
-        (TWO_CALLS, b"\xff\xfe\n".as_slice()),
+    for (schedule, file, message) in [
         (
-            TWO_CALLS,
-            b"put 1\nput 2\nput 3\nput 4\nput 5\nput 6\nput 7\nput 8\nput 9\n".as_slice(),
+            ("0 end\n", 1),
+            ("\n", 1_048_577),
+            "nwf: refused file 1 line 0 cause 5\n",
         ),
-        (b"1 end\n".as_slice(), PUT_TAKE),
-        (b"0 end\n0 3\n".as_slice(), PUT_TAKE),
-        (b"0 exchange\n".as_slice(), PUT_TAKE),
+        (
+            ("0 end\n", 1),
+            ("take\n", 65_536),
+            "nwf: refused file 1 line 65536 cause 4\n",
+        ),
+        (
+            ("\n", 1_048_577),
+            ("take\n", 1),
+            "nwf: refused file 0 line 0 cause 5\n",
+        ),
+        (
+            ("0 end\n", 4_097),
+            ("take\n", 1),
+            "nwf: refused file 0 line 4097 cause 4\n",
+        ),
     ] {
-        let mut files = files_of(alloc, schedule, file, &[], AMPLE)?;
+        let mut files = Vec::new(alloc);
+        files.push((
+            String::from_str(alloc, "s")?,
+            times(alloc, schedule.0, schedule.1)?,
+        ))?;
+        files.push((
+            String::from_str(alloc, "f0")?,
+            times(alloc, file.0, file.1)?,
+        ))?;
+        let mut files = FilesInMemory::new(files, Vec::new(alloc));
         let mut sink = SinkInMemory::with_room(alloc, AMPLE, Vec::new(alloc))?;
-        assert_eq!(rt;
-            replayed(alloc, WORDS, &mut files, &mut sink)?,
-            3,
-            "{file:?}"
-        );
-        assert_eq!(rt; sink.bytes(), b"nwf: refused\n".as_slice());
+        assert_eq!(rt; replayed(alloc, ONE, &mut files, &mut sink)?, 3);
+        assert_eq!(rt; sink.bytes(), message.as_bytes());
     }
     Ok(())
 }
 
 #[test]
-fn faults_of_the_outside(rt: HostRuntime) -> Result<(), Fail> {
+fn files_that_are_not_read(rt: HostRuntime) -> Result<(), Fail> {
     let alloc = rt.alloc();
-    // A read fails: the schedule's opening, its end, the command file's opening, its first byte.
-    for (fails, calls) in [(0, 1), (13, 14), (14, 15), (15, 16)] {
-        let mut files = files_of(alloc, TWO_CALLS, PUT_TAKE, &[fails], 1)?;
-        let mut sink = SinkInMemory::with_room(alloc, AMPLE, Vec::new(alloc))?;
-        assert_eq!(rt;
-            replayed(alloc, WORDS, &mut files, &mut sink)?,
-            4,
-            "{fails}"
-        );
-        assert_eq!(rt; sink.bytes(), b"nwf: read fault\n".as_slice());
-        assert_eq!(rt; files.calls(), calls);
-    }
-    // A file is missing.
-    for words in ["replay queue 8 3 s f1", "replay queue 8 3 t f0"] {
-        let mut files = files_of(alloc, TWO_CALLS, PUT_TAKE, &[], AMPLE)?;
-        let mut sink = SinkInMemory::with_room(alloc, AMPLE, Vec::new(alloc))?;
-        assert_eq!(rt; replayed(alloc, words, &mut files, &mut sink)?, 4);
-        assert_eq!(rt; sink.bytes(), b"nwf: read fault\n".as_slice());
-    }
-    // The sink fails at once, after three bytes, or has no more room.
-    for (room, fails, piece, calls, bytes) in [
-        (AMPLE, 0, AMPLE, 1, b"".as_slice()),
-        (AMPLE, 3, 1, 4, b"0 1".as_slice()),
-        (10, 99, AMPLE, 2, b"0 1 put 7 ".as_slice()),
+    // A call fails: the opening of the schedule, its end, the opening of the first command file, its first
+    // byte, the opening of the second.
+    for (fails, message) in [
+        (0, "nwf: read fault file 0\n"),
+        (7, "nwf: read fault file 0\n"),
+        (8, "nwf: read fault file 1\n"),
+        (9, "nwf: read fault file 1\n"),
+        (15, "nwf: read fault file 2\n"),
     ] {
-        let mut files = files_of(alloc, TWO_CALLS, PUT_TAKE, &[], AMPLE)?;
+        let mut files = files_of(alloc, "0 end/", "take/|put 7/", &[fails], 1)?;
+        let mut sink = SinkInMemory::with_room(alloc, AMPLE, Vec::new(alloc))?;
+        assert_eq!(rt; replayed(alloc, TWO, &mut files, &mut sink)?, 4);
+        assert_eq!(rt; sink.bytes(), message.as_bytes());
+        assert_eq!(rt; files.calls(), fails + 1);
+    }
+    // A file is missing. What is refused before it is told.
+    for (words, status, message) in [
+        ("replay queue 8 3 t f0", 4, "nwf: read fault file 0\n"),
+        ("replay queue 8 3 s g", 4, "nwf: read fault file 1\n"),
+        (
+            "replay queue 8 3 s f0 f0 g f1",
+            4,
+            "nwf: read fault file 3\n",
+        ),
+        (
+            "replay queue 8 3 s f1 g",
+            3,
+            "nwf: refused file 1 line 1 cause 1\n",
+        ),
+    ] {
+        let mut files = files_of(alloc, "0 end/", "take/|tak/", &[], AMPLE)?;
+        let mut sink = SinkInMemory::with_room(alloc, AMPLE, Vec::new(alloc))?;
+        assert_eq!(rt; replayed(alloc, words, &mut files, &mut sink)?, status);
+        assert_eq!(rt; sink.bytes(), message.as_bytes());
+    }
+    Ok(())
+}
+
+#[test]
+fn sinks_that_fail(rt: HostRuntime) -> Result<(), Fail> {
+    let alloc = rt.alloc();
+    // The sink fails at once, after three bytes, or has no more room; a message that can't be written leaves
+    // its status.
+    for (commands, room, fails, piece, status, calls, bytes) in [
+        ("take/", AMPLE, 0, AMPLE, 5, 1, ""),
+        ("take/", AMPLE, 3, 1, 5, 4, "0 1"),
+        ("take/", 10, 99, AMPLE, 5, 2, "0 1 take e"),
+        ("tak/", AMPLE, 0, AMPLE, 3, 1, ""),
+        ("tak/", 10, 99, AMPLE, 3, 2, "nwf: refus"),
+    ] {
+        let mut files = files_of(alloc, "0 end/", commands, &[], AMPLE)?;
         let fails = Vec::from_slice(alloc, &[fails])?;
         let mut sink = SinkInMemory::in_pieces(alloc, room, fails, piece)?;
-        assert_eq!(rt; replayed(alloc, WORDS, &mut files, &mut sink)?, 5);
-        assert_eq!(rt; sink.bytes(), bytes);
+        assert_eq!(rt; replayed(alloc, ONE, &mut files, &mut sink)?, status);
+        assert_eq!(rt; sink.bytes(), bytes.as_bytes());
         assert_eq!(rt; sink.calls(), calls);
     }
-    Ok(())
-}
-
-#[test]
-fn files_and_sinks_in_memory(rt: HostRuntime) -> Result<(), Fail> {
-    let alloc = rt.alloc();
-    let mut files = Vec::new(alloc);
-    files.push((
-        String::from_str(alloc, "a")?,
-        Vec::from_slice(alloc, b"one")?,
-    ))?;
-    files.push((
-        String::from_str(alloc, "a")?,
-        Vec::from_slice(alloc, b"two")?,
-    ))?;
-    let mut files = FilesInMemory::new(files, Vec::from_slice(alloc, &[3])?);
-    let mut into = [0u8; 2];
-    assert_eq!(rt; files.read(&mut into), Ok(0));
-    assert_eq!(rt; files.start_file("a"), Ok(()));
-    assert_eq!(rt; files.read(&mut into), Ok(2));
-    assert_eq!(rt; into.as_slice(), b"on".as_slice());
-    assert_eq!(rt; files.read(&mut into), Err(Failed));
-    assert_eq!(rt; files.read(&mut into), Ok(1));
-    assert_eq!(rt; files.read(&mut into), Ok(0));
-    assert_eq!(rt; files.start_file("b"), Err(Failed));
-    assert_eq!(rt; files.calls(), 7);
-
-    let mut sink = SinkInMemory::with_room(alloc, 3, Vec::new(alloc))?;
-    assert_eq!(rt; sink.put(b"four"), Ok(3));
-    assert_eq!(rt; sink.put(b""), Ok(0));
-    assert_eq!(rt; sink.put(b"r"), Err(Failed));
-    assert_eq!(rt; sink.bytes(), b"fou".as_slice());
-    assert_eq!(rt; sink.calls(), 3);
-    Ok(())
-}
-
-#[test]
-fn files_of_the_host(rt: HostRuntime) -> Result<(), Fail> {
-    let mut path = env::temp_dir(&rt)?;
-    path.push("nwf_run_files_of_the_host")?;
-    let name = path.as_path().to_str().ok_or("a name that is no text")?;
-    fs::write(&rt, name, "put 7\n")?;
-    let mut files = HostFiles::new(&rt);
-    let mut into = [0u8; 100];
-    assert_eq!(rt; files.read(&mut into), Ok(0));
-    assert_eq!(rt; files.start_file(name), Ok(()));
-    assert_eq!(rt; files.read(&mut into), Ok(6));
-    assert_eq!(rt; files.read(&mut into[6..]), Ok(0));
-    assert_eq!(rt; &into[..6], b"put 7\n".as_slice());
-    fs::remove_file(&rt, name)?;
-    assert_eq!(rt; files.start_file(name), Err(Failed));
-    let mut out = HostOut::new(&rt);
-    assert_eq!(rt; out.put(b""), Ok(0));
     Ok(())
 }

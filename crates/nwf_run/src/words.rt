@@ -1,45 +1,81 @@
 //! The words of the command line.
-ghost use Rattle.std.specs.Prelude.{◌≡◌, ◌≤◌, map, IfSome, string_bytes};
+ghost use Rattle.std.specs.Prelude.{◌≡◌, ◌≤◌, map, length, IfSome, string_bytes};
 ghost use Rattle.std.specs.Option.{option_map};
-ghost use Rattle.nwf_run.specs.Words.{number_in, replay_words};
+ghost use Rattle.nwf_run.specs.Words.{number_in, replay_words, served_named, client_of};
 
+use lin_report::Client;
 use script_reader::number_up_to;
 
-/// What the words of a replay say: how many blocks there are, how often a call may fail on its fast path,
-/// and the names of the files.
+/// The structures that a replay serves, each named by its word.
+#[derive(Clone, Copy, Debug, PartialEq, Eq)]
+pub enum Served {
+    /// Michael and Scott's queue.
+    Queue,
+}
+
+impl Served {
+    /// The structure that a word names.
+    fn named(word: &str) -> Option<Served>
+        ensures { result ≡ served_named word.now }
+    {
+        match word {
+            "queue" => Some(Served::Queue),
+            _ => None,
+        }
+    }
+
+    /// The client whose commands the command files have.
+    pub fn client(self) -> Client
+        ensures { result ≡ client_of self }
+    {
+        match self {
+            Served::Queue => Client::Queue,
+        }
+    }
+}
+
+/// What the words of a replay say: which structure, how many blocks there are, how often a call may fail on
+/// its fast path, and the names of the files.
 #[derive(Clone, Copy, Debug)]
 pub struct ReplayWords<'a> {
+    pub served: Served,
     pub cap: u32,
     pub limit: u32,
     pub schedule: &'a str,
-    pub file: &'a str,
+    pub files: &'a [String],
 }
 
 /// The greatest number of blocks.
 const MAX_CAP: u32 = 65_536;
 /// The greatest contention limit.
 const MAX_LIMIT: u32 = 255;
+/// The most command files: one for each seat.
+const MAX_FILES: usize = 8;
 
-/// Reads `replay queue CAP LIMIT SCHEDULE FILE`. Other words are no replay.
+/// Reads `replay CLIENT CAP LIMIT SCHEDULE` and one to eight FILE words. Other words are no replay.
 pub fn replay_words(words: &[String]) -> Option<ReplayWords<'_>>
-    ensures words { option_map (λ w. record { cap = w.cap; limit = w.limit; schedule = w.schedule.now; file = w.file.now }) result ≡ replay_words (map string_bytes words.now) }
+    ensures words { option_map (λ w. record { served = w.served; cap = w.cap; limit = w.limit; schedule = w.schedule.now; files = map string_bytes w.files.now }) result ≡ replay_words (map string_bytes words.now) }
     ensures cap { IfSome result (λ w. (1 ≤ w.cap) × (w.cap ≤ 65536)) }
+    ensures limit { IfSome result (λ w. w.limit ≤ 255) }
+    ensures files { IfSome result (λ w. (1 ≤ length w.files.now) × (length w.files.now ≤ 8)) }
 {
-    let [command, client, cap, limit, schedule, file] = words else {
+    let [command, client, cap, limit, schedule, files @ ..] = words else {
         return None;
     };
-    if command.as_str() != "replay" || client.as_str() != "queue" {
+    if command.as_str() != "replay" || files.is_empty() || files.len() > MAX_FILES {
         return None;
     }
     match (
+        Served::named(client.as_str()),
         number_in(1, MAX_CAP, cap.as_str()),
         number_in(1, MAX_LIMIT, limit.as_str()),
     ) {
-        (Some(cap), Some(limit)) => Some(ReplayWords {
+        (Some(served), Some(cap), Some(limit)) => Some(ReplayWords {
+            served,
             cap,
             limit,
             schedule: schedule.as_str(),
-            file: file.as_str(),
+            files,
         }),
         _ => None,
     }

@@ -1,0 +1,56 @@
+use Rattle.std.proofs.Common.{rules, ◌≡◌, ◌++◌, [], List, length, map, string_bytes, Some, Vec, refl, sym, ap, ◌∙◌, subst, arith}
+use Rattle.std.specs.Prelude.{sum_by}
+use Rattle.std.specs.List.{list_any}
+use Rattle.std.specs.Global.{Global}
+use Rattle.std.proofs.lemmas.List.{length-map}
+use Rattle.lin_report.specs.declared.calls.Op.{Op}
+use Rattle.lin_report.specs.declared.calls.Receipt.{Receipt}
+use Rattle.lin_report.specs.Calls.{report_of}
+use Rattle.lin_report.specs.Text.{reply_is_exhausted, report_text}
+use Rattle.lin_report.specs.Writing.{CanWrite}
+use Rattle.run_laws.specs.Ticks.{report_of_run}
+use Rattle.nwf_run.specs.Writable.{CanBeWritten}
+use Rattle.nwf_run.specs.Replaying.{IsReportOf, TextOf}
+use Rattle.nwf_run.proofs.RunReports.{files_of, InOrder, in_order, driven, can_be_written, can_write, few_lines, text_is, marked}
+use Rattle.nwf_run.proofs.running.report_of.Goals as goal
+
+pub write_report-requires-clause-room : goal.write_report-requires-clause-room
+write_report-requires-clause-room g c =
+    let commands : List (Vec Op Global) = c.args.scripts.commands.items in
+    let core = c.drive.new.core in
+    let can = can_be_written g.C.Normalized.form _ commands c.args.scripts.schedule.items c.deref-2.result.now c.in_ok-core.core core c.runs_can_be_written.ensures (search rules) c.requires.commands c.in_ok-core.ensures.core c.deref-2.ensures.value c.drive.ensures.follows in
+    let sorted = in_order core c.sort_by_begin.new.self c.receipts.result.now c.pending-pending.result.items c.as_slice.result.now c.sort_by_begin.ensures.same c.sort_by_begin.ensures.order c.sort_by_begin.ensures.kept c.pending-pending.ensures.calls c.pending-pending.ensures.order c.receipts.ensures c.as_slice.ensures.value in
+    let count : c.commands_of.result ≡ sum_by length (files_of commands) = c.commands_of.ensures.count ∙ ap (λ (l : List (Vec Op Global)). sum_by length (files_of l)) c.deref.ensures.value in
+    omega (arith, few_lines core.state c.receipts.result.now c.as_slice.result.now sorted.lines sorted.calls _ can, count, c.in_ok-text.ensures.room)
+
+pub write_report-requires-clause-report : goal.write_report-requires-clause-report
+write_report-requires-clause-report g c =
+    let commands : List (Vec Op Global) = c.args.scripts.commands.items in
+    let core = c.drive.new.core in
+    let can = can_be_written g.C.Normalized.form _ commands c.args.scripts.schedule.items c.deref-2.result.now c.in_ok-core.core core c.runs_can_be_written.ensures (search rules) c.requires.commands c.in_ok-core.ensures.core c.deref-2.ensures.value c.drive.ensures.follows in
+    let sorted = in_order core c.sort_by_begin.new.self c.receipts.result.now c.pending-pending.result.items c.as_slice.result.now c.sort_by_begin.ensures.same c.sort_by_begin.ensures.order c.sort_by_begin.ensures.kept c.pending-pending.ensures.calls c.pending-pending.ensures.order c.receipts.ensures c.as_slice.ensures.value in
+    can_write core.state c.receipts.result.now c.as_slice.result.now sorted.lines sorted.calls _ sorted.order sorted.opened can
+
+pub returns : goal.returns
+returns g c =
+    let commands : List (Vec Op Global) = c.args.scripts.commands.items in
+    let core = c.drive.new.core in
+    let can = can_be_written g.C.Normalized.form _ commands c.args.scripts.schedule.items c.deref-2.result.now c.in_ok-core.core core c.runs_can_be_written.ensures (search rules) c.requires.commands c.in_ok-core.ensures.core c.deref-2.ensures.value c.drive.ensures.follows in
+    let sorted = in_order core c.sort_by_begin.new.self c.receipts.result.now c.pending-pending.result.items c.as_slice.result.now c.sort_by_begin.ensures.same c.sort_by_begin.ensures.order c.sort_by_begin.ensures.kept c.pending-pending.ensures.calls c.pending-pending.ensures.order c.receipts.ensures c.as_slice.ensures.value in
+    let seats : c.len.result ≡ length (map string_bytes c.args.words.now.files.now) = omega (arith, c.len.ensures, c.args.scripts.commands.ok.0, c.requires.count, length-map c.args.words.now.files.now string_bytes) in
+    let mark = c.any_exhausted-exhausted.ensures ∙ ap (list_any (λ (r : Receipt). reply_is_exhausted r.reply)) (c.receipts-2.ensures ∙ sym c.receipts.ensures) in
+    let written = text_is core.state c.receipts.result.now c.as_slice.result.now sorted.lines sorted.calls _ can in
+    record {
+      report = report_of_run core.state;
+      is = record {
+        setup = _;
+        seats = seats;
+        cap = refl;
+        limit = refl;
+        core = core;
+        follows = driven g.C.Normalized.form _ commands c.args.scripts.schedule.items c.deref-2.result.now c.in_ok-core.core core c.in_ok-core.ensures.core c.deref-2.ensures.value c.drive.ensures.follows;
+        made = refl;
+      };
+      written = c.write_report.ensures.text ∙ ap (λ l. l ++ report_text (report_of c.receipts.result.now c.as_slice.result.now) (Some 0)) c.in_ok-text.ensures.empty ∙ written;
+      marked = marked core.state c.receipts.result.now c.as_slice.result.now sorted.lines sorted.calls c.any_exhausted-exhausted.result mark;
+    }

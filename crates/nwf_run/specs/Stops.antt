@@ -1,0 +1,33 @@
+-- Why a top call ends without a report, and what it says then.
+use Rattle.std.specs.Prelude.{ℕ, List, ◌++◌, codes, decimal}
+use Rattle.script_reader.specs.declared.causes.Refusal.{Refusal}
+use Rattle.script_reader.specs.Outcomes.{cause_number}
+use Rattle.nwf_run.specs.declared.stops.Stop.{Stop}
+use Rattle.nwf_run.specs.declared.stops.Stop.TheVariants.{Usage, Refused, ReadFault, NoMemory}
+
+-- the status of a stop
+abbrev pub status_of : Stop → ℕ
+status_of Usage = 2
+status_of (Refused file refusal) = 3
+status_of (ReadFault file) = 4
+status_of NoMemory = 6
+
+-- the line that is written for each
+abbrev pub USAGE_MESSAGE : List ℕ
+USAGE_MESSAGE = codes "nwf: usage\n"
+
+abbrev pub refused_message : ℕ → Refusal → List ℕ
+refused_message file refusal =
+    codes "nwf: refused file " ++ decimal file ++ codes " line " ++ decimal refusal.line ++ codes " cause " ++ decimal (cause_number refusal.cause) ++ codes "\n"
+
+abbrev pub unread_message : ℕ → List ℕ
+unread_message file = codes "nwf: read fault file " ++ decimal file ++ codes "\n"
+
+abbrev pub NO_MEMORY_MESSAGE : List ℕ
+NO_MEMORY_MESSAGE = codes "nwf: no memory\n"
+
+abbrev pub message_of : Stop → List ℕ
+message_of Usage = USAGE_MESSAGE
+message_of (Refused file refusal) = refused_message file refusal
+message_of (ReadFault file) = unread_message file
+message_of NoMemory = NO_MEMORY_MESSAGE
