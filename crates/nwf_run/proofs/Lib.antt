@@ -5,3 +5,4 @@ pub mod JudgedFiles
 pub mod SameOrder
 pub mod Writable
 pub mod RunReports
+pub mod Headline

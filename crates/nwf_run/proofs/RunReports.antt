@@ -72,7 +72,7 @@ module _ {S W : Type 0} (state : RunState S W) (receipts : List Receipt) (pendin
 abbrev pub files_of : List (Vec Op Global) → List (List Op)
 files_of commands = map (λ (ops : Vec Op Global). ops.items) commands
 
-files_fit : (client : Client) (setup : Setup) (commands : List (Vec Op Global)) → length commands ≡ setup.seats → All (λ (ops : Vec Op Global). IsCommandFile client ops.items) commands → FilesFit client setup (files_of commands)
+pub files_fit : (client : Client) (setup : Setup) (commands : List (Vec Op Global)) → length commands ≡ setup.seats → All (λ (ops : Vec Op Global). IsCommandFile client ops.items) commands → FilesFit client setup (files_of commands)
 files_fit client setup commands count each = record {
   count = omega (arith, count, length-map commands (λ (ops : Vec Op Global). ops.items));
   few = All-map (λ (file : List Op). length file ≤ 65535) (λ (ops : Vec Op Global). ops.items) commands (λ k d within. (each k d within).few);

@@ -7,3 +7,4 @@ pub mod Said
 pub mod Judging
 pub mod Writable
 pub mod Replaying
+pub mod Headline

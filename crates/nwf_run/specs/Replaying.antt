@@ -18,13 +18,14 @@ use Rattle.nwf_run.specs.declared.stops.Stop.{Stop}
 use Rattle.nwf_run.specs.declared.words.Served.{Served}
 use Rattle.nwf_run.specs.declared.words.Served.TheVariants.{Queue}
 use Rattle.nwf_run.specs.declared.stops.Stop.TheVariants.{Usage}
+use Rattle.nwf_run.specs.Headline.{MeetsHeadline}
 use Rattle.nwf_run.specs.Judging.{Accepts, StopsAt}
 use Rattle.nwf_run.specs.Outside.{Rose, AppendsPrefix}
 use Rattle.nwf_run.specs.Stops.{status_of, message_of}
 use Rattle.nwf_run.specs.Words.{Replay}
 
 -- the report is that of the core after the schedule: a new core over the commands, with a seat for each file,
--- makes the entries one after the other
+-- makes the entries one after the other; so it is a report over the commands and linearizable
 pub record IsReportOf {S W : Type 0} (form : NormalForm S W) (replay : Replay) (entries : List ScheduleEntry) (commands : List (List Op)) (report : Report) : Type 0 where
   pub setup : Setup
   pub seats : setup.seats ≡ length replay.files
@@ -33,6 +34,7 @@ pub record IsReportOf {S W : Type 0} (form : NormalForm S W) (replay : Replay) (
   pub core : CoreView S W
   pub follows : Follows form entries (core_new form setup commands) core
   pub made : report ≡ report_of_run core.state
+  pub headline : MeetsHeadline form setup commands entries core.state
 
 -- the same, for the structure that the words name
 abbrev pub IsReportFor : Served → Replay → List ScheduleEntry → List (List Op) → Report → Type 0

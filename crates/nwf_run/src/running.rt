@@ -7,6 +7,7 @@ ghost use Rattle.lin_report.specs.Text.{reply_is_exhausted};
 ghost use Rattle.nwf_run.specs.Judging.{IsCommandFile};
 ghost use Rattle.nwf_run.specs.Said.{said};
 ghost use Rattle.nwf_run.specs.Words.{client_of};
+ghost use Rattle.nwf_run.specs.Headline.{RunsMeetHeadline};
 ghost use Rattle.nwf_run.specs.Writable.{RunsCanBeWritten};
 ghost use Rattle.nwf_run.specs.Replaying.{IsReportFor, IsReportOf, TextOf};
 
@@ -55,6 +56,11 @@ fn runs_can_be_written<C: Normalized>()
     ensures { RunsCanBeWritten C.form }
 {}
 
+/// Every run over command files that a schedule drives has a linearizable report.
+fn runs_meet_headline<C: Normalized>()
+    ensures { RunsMeetHeadline C.form }
+{}
+
 /// The report of a structure's run. All memory of the run and of the report is taken before the run is made.
 fn report_of<C: Normalized>(
     alloc: Global,
@@ -82,6 +88,7 @@ fn report_of<C: Normalized>(
     core.sort_by_begin();
     let pending = core.pending();
     runs_can_be_written::<C>();
+    runs_meet_headline::<C>();
     write_report(&mut text, core.receipts(), pending.as_slice(), Some(0));
     let exhausted = any_exhausted(core.receipts());
     Ok(Replayed { text, exhausted })

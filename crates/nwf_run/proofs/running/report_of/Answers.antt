@@ -11,7 +11,7 @@ use Rattle.lin_report.specs.Writing.{CanWrite}
 use Rattle.run_laws.specs.Ticks.{report_of_run}
 use Rattle.nwf_run.specs.Writable.{CanBeWritten}
 use Rattle.nwf_run.specs.Replaying.{IsReportOf, TextOf}
-use Rattle.nwf_run.proofs.RunReports.{files_of, InOrder, in_order, driven, can_be_written, can_write, few_lines, text_is, marked}
+use Rattle.nwf_run.proofs.RunReports.{files_of, files_fit, InOrder, in_order, driven, can_be_written, can_write, few_lines, text_is, marked}
 use Rattle.nwf_run.proofs.running.report_of.Goals as goal
 
 pub write_report-requires-clause-room : goal.write_report-requires-clause-room
@@ -50,6 +50,7 @@ returns g c =
         core = core;
         follows = driven g.C.Normalized.form _ commands c.args.scripts.schedule.items c.deref-2.result.now c.in_ok-core.core core c.in_ok-core.ensures.core c.deref-2.ensures.value c.drive.ensures.follows;
         made = refl;
+        headline = c.runs_meet_headline.ensures _ (files_of commands) c.args.scripts.schedule.items core (files_fit g.C.Normalized.form.client _ commands (search rules) c.requires.commands) (driven g.C.Normalized.form _ commands c.args.scripts.schedule.items c.deref-2.result.now c.in_ok-core.core core c.in_ok-core.ensures.core c.deref-2.ensures.value c.drive.ensures.follows);
       };
       written = c.write_report.ensures.text ∙ ap (λ l. l ++ report_text (report_of c.receipts.result.now c.as_slice.result.now) (Some 0)) c.in_ok-text.ensures.empty ∙ written;
       marked = marked core.state c.receipts.result.now c.as_slice.result.now sorted.lines sorted.calls c.any_exhausted-exhausted.result mark;
