@@ -1,8 +1,8 @@
 -- Every run that a schedule drives meets the headline, by the laws of every run.
-use Rattle.std.proofs.Common.{◌≡◌, List, sym, subst, refl, ap}
+use Rattle.std.proofs.Common.{sym, subst, refl}
 use Rattle.normal_traits.specs.NormalForm.{NormalForm}
 use Rattle.normal_traits.specs.Laws.{Laws}
-use Rattle.fast_slow_engine.specs.Runs.{RunState, moves_over, run_of}
+use Rattle.fast_slow_engine.specs.Runs.{moves_over}
 use Rattle.run_laws.proofs.FileLemmas.{files_run}
 use Rattle.run_history.proofs.LinearizedLemmas.{files_linearizable, replies_all_fit, exhausted_only_where}
 use Rattle.run_history.proofs.OnceLemmas.{wins_once}

@@ -1,6 +1,5 @@
 -- What was read of one file after the other, and judged.
-use Rattle.std.proofs.Common.{◌≡◌, ℕ, ◌+◌, ◌-◌, ◌<◌, ◌≤◌, ◌==◌, cond, List, [], ◌∷◌, ◌++◌, length, map, get_or, Vec, Option, Some, None, Result, Ok, Err, IfErr, IfSome, refl, sym, ap, ◌∙◌, subst, arith, inl, inr, false, length-append}
-use Rattle.std.specs.Global.{Global}
+use Rattle.std.proofs.Common.{◌≡◌, ℕ, ◌+◌, ◌-◌, ◌<◌, ◌==◌, cond, List, [], ◌∷◌, ◌++◌, length, get_or, Option, Some, None, Result, Ok, Err, IfErr, IfSome, sym, ap, subst, arith, inl, inr, false, length-append}
 use Rattle.std.specs.Result.{result_err}
 use Rattle.std.proofs.Math.Seq.{get_or-append_seam}
 use Rattle.std.proofs.lemmas.Bool.{cases_lt}
@@ -14,7 +13,7 @@ use Rattle.script_reader.specs.Scripts.{script_outcome}
 use Rattle.nwf_run.specs.declared.stops.Stop.{Stop}
 use Rattle.nwf_run.specs.declared.stops.Stop.TheVariants.{Usage, Refused, ReadFault, NoMemory}
 use Rattle.nwf_run.specs.Words.{Replay, client_of}
-use Rattle.nwf_run.specs.Judging.{name_of, refusal_in, AcceptedBefore, IsFirstRefused, IsReached, SayFirst, FilesSay, FileReads, StopsInFiles, StopsAt}
+use Rattle.nwf_run.specs.Judging.{name_of, refusal_in, AcceptedBefore, IsFirstRefused, IsReached, SayFirst, FileReads, StopsInFiles, StopsAt}
 
 module _ (held : List ℕ → Option (List ℕ)) (replay : Replay) where
   -- the name of the next command file, and what its bytes are

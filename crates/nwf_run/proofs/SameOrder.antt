@@ -1,18 +1,14 @@
 -- Lists of the same elements, each in rising order of a key that no two share, are one list; so the text of
 -- a report doesn't depend on the order of its lines.
-use Rattle.std.proofs.Common.{◌≡◌, ◌≢◌, ℕ, zero, suc, ◌+◌, ◌*◌, ◌<◌, ◌≤◌, ◌==◌, nat_lt, cond, Bool, true, false, Option, List, [], ◌∷◌, ◌++◌, length, map, get_or, count_by, All, AllPairs, IsPermutation, refl, sym, ap, ◌∙◌, subst, arith, inl, inr, codes}
-use Rattle.std.specs.Prelude.{sum_by}
+use Rattle.std.proofs.Common.{◌≡◌, ◌≢◌, ℕ, zero, suc, ◌<◌, ◌≤◌, ◌==◌, nat_lt, cond, Bool, Option, List, [], ◌∷◌, ◌++◌, length, map, get_or, count_by, All, AllPairs, IsPermutation, refl, sym, ap, ◌∙◌, subst, arith, inl, inr, codes}
 use Rattle.std.specs.List.Sorted.{IsNonDecreasingBy}
 use Rattle.std.proofs.lemmas.Bool.{cases_lt, lt-ltb, le-ltb}
 use Rattle.std.proofs.lemmas.Bool.Decides.{nat_tests}
 use Rattle.std.proofs.lemmas.Grind.{get_or_moved}
 use Rattle.std.proofs.lemmas.List.{ext_get_or, nil_from_length}
-use Rattle.std.proofs.lemmas.List.Elements.{All-nil}
 use Rattle.std.proofs.lemmas.List.Kept.{AllPairs-cons}
 use Rattle.std.proofs.lemmas.List.Sorted.{IsPermutation-trans, IsPermutation-sym, IsPermutation-map, IsPermutation-append_left, IsPermutation-append_right, length_permutation, sum_by-IsPermutation}
 use Rattle.std.proofs.lemmas.List.Sums.{sum_by-cons, sum_by-le}
-use Rattle.lin_report.specs.declared.calls.Receipt.{Receipt}
-use Rattle.lin_report.specs.declared.calls.PendingCall.{PendingCall}
 use Rattle.lin_report.specs.Calls.{Call, Report, answered_call, pending_call, calls_of}
 use Rattle.lin_report.specs.Text.{line, lines, by_begin, count_words, overtaken_words, is_fast, is_slow, is_exhausted, summary_text, report_text}
 use Rattle.lin_report.proofs.Sorted.{by_begin_sorts}

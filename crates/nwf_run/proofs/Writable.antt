@@ -1,14 +1,14 @@
 -- Every run over command files can be written, where the tick counter is kept and each reply fits its
 -- command.
-use Rattle.std.proofs.Common.{◌≡◌, ◌≢◌, ℕ, zero, suc, ◌+◌, ◌-◌, ◌*◌, ◌<◌, ◌≤◌, ◌==◌, nat_lt, cond, true, false, IsTrue, Option, Some, None, List, [], ◌∷◌, ◌++◌, length, length-append, map, get_or, slice_get, slice_index, count_by, All, AllPairs, refl, sym, ap, ◌∙◌, subst, arith, inl, inr}
-use Rattle.std.specs.Prelude.{sum_by, flat_map, IfSome}
+use Rattle.std.proofs.Common.{◌≡◌, ℕ, suc, ◌+◌, ◌-◌, ◌*◌, ◌<◌, ◌≤◌, ◌==◌, nat_lt, cond, IsTrue, List, [], ◌∷◌, ◌++◌, length, length-append, map, get_or, slice_index, count_by, All, refl, sym, ap, ◌∙◌, subst, arith, inl, inr}
+use Rattle.std.specs.Prelude.{sum_by, IfSome}
 use Rattle.std.specs.Option.{option_to_list}
 use Rattle.std.proofs.lemmas.Bool.{cases_lt, cases_eq, lt-ltb, le-ltb}
 use Rattle.std.proofs.lemmas.Bool.Decides.{nat_tests}
 use Rattle.std.proofs.lemmas.List.{length-map, get_or-map, get_or_past, get_or_append_left, get_or-append-add}
 use Rattle.std.proofs.lemmas.List.Elements.{All-append, All-map}
 use Rattle.std.proofs.lemmas.List.Sums.{sum_by-append, sum_by-cons, sum_by-le}
-use Rattle.std.proofs.lemmas.Option.{slice_get_within, get_or_from_slice_get, slice_get-get_or}
+use Rattle.std.proofs.lemmas.Option.{slice_get_within, get_or_from_slice_get}
 use Rattle.lin_report.specs.declared.calls.Client.{Client}
 use Rattle.lin_report.specs.declared.calls.Client.TheVariants as client
 use Rattle.lin_report.specs.declared.calls.Op.{Op}
@@ -17,7 +17,7 @@ use Rattle.lin_report.specs.declared.calls.PendingCall.{PendingCall}
 use Rattle.lin_report.specs.Calls.{Call, Report, answered_call, calls_of}
 use Rattle.lin_report.specs.Calls as calls
 use Rattle.lin_report.specs.Commands.{is_command, is_some_command, IsCommandOf, IsReplyTo}
-use Rattle.lin_report.specs.Report.{IsCommand, IsReport, file_of, ticks_of}
+use Rattle.lin_report.specs.Report.{IsCommand, file_of, ticks_of}
 use Rattle.lin_report.specs.Writing.{IsPrintable, IsPrintableAnswer, TICK_LIMIT}
 use Rattle.normal_traits.specs.NormalForm.{NormalForm}
 use Rattle.fast_slow_engine.specs.declared.setup.Setup.{Setup}
@@ -35,7 +35,7 @@ use Rattle.run_laws.proofs.ReportLemmas.{runs_report, ticks_once}
 use Rattle.event_core.specs.Cores.{CoreView}
 use Rattle.schedule_runs.proofs.OrderLemmas.{runs_in_order}
 use Rattle.nwf_run.specs.Writable.{CanBeWritten, RunsCanBeWritten}
-use Rattle.nwf_run.proofs.SameOrder.{Apart, counted_at}
+use Rattle.nwf_run.proofs.SameOrder.{counted_at}
 
 is_some_command-from : (c : Client) (op : Op) → IsTrue (is_command c op) → IsTrue (is_some_command op)
 is_some_command-from client.Queue op command = grind (arith, nat_tests)

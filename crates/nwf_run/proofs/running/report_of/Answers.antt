@@ -1,4 +1,4 @@
-use Rattle.std.proofs.Common.{rules, ◌≡◌, ◌++◌, [], List, length, map, string_bytes, Some, Vec, refl, sym, ap, ◌∙◌, subst, arith}
+use Rattle.std.proofs.Common.{rules, ◌≡◌, ◌++◌, List, length, map, string_bytes, Some, Vec, refl, sym, ap, ◌∙◌, arith}
 use Rattle.std.specs.Prelude.{sum_by}
 use Rattle.std.specs.List.{list_any}
 use Rattle.std.specs.Global.{Global}
@@ -7,11 +7,8 @@ use Rattle.lin_report.specs.declared.calls.Op.{Op}
 use Rattle.lin_report.specs.declared.calls.Receipt.{Receipt}
 use Rattle.lin_report.specs.Calls.{report_of}
 use Rattle.lin_report.specs.Text.{reply_is_exhausted, report_text}
-use Rattle.lin_report.specs.Writing.{CanWrite}
 use Rattle.run_laws.specs.Ticks.{report_of_run}
-use Rattle.nwf_run.specs.Writable.{CanBeWritten}
-use Rattle.nwf_run.specs.Replaying.{IsReportOf, TextOf}
-use Rattle.nwf_run.proofs.RunReports.{files_of, files_fit, InOrder, in_order, driven, can_be_written, can_write, few_lines, text_is, marked}
+use Rattle.nwf_run.proofs.RunReports.{files_of, files_fit, in_order, driven, can_be_written, can_write, few_lines, text_is, marked}
 use Rattle.nwf_run.proofs.running.report_of.Goals as goal
 
 pub write_report-requires-clause-room : goal.write_report-requires-clause-room
