@@ -86,7 +86,7 @@ module _ {S W : Type 0} where
   record ClaimsKept (setup : Setup) (state : RunState S W) (blocks : List ℕ) : Type 0 where
     pub inside : 2 < length state.words
     pub count : length state.mechs ≡ setup.seats
-    pub counter : counter_of state + sum_by claiming state.mechs ≤ setup.cap + setup.seats
+    pub counter : counter_of state + sum_by claiming state.mechs < setup.cap + setup.seats
     pub claimed : All (IsClaimed setup (counter_of state)) blocks
     pub apart : AllPairs (λ later earlier. earlier < later) blocks
     pub in_hand : EachMech (λ seat mech. (block : ℕ) → mech.hand ≡ Some block → Contains blocks block) state.mechs
@@ -139,8 +139,8 @@ module _ {S W : Type 0} where
       ]
 
   -- the counter and the claims that are about to be made
-  counts_claims : (phase : Phase S W) (mech new : Mech S W) (blocks : List ℕ) (before after cap seats sum sum' : ℕ) → mech.setup.cap ≡ cap → before + sum ≤ cap + seats → sum' ≤ seats → sum' + at_claim phase ≡ sum + claiming new
-      → ClaimKind phase mech new blocks before after → after + sum' ≤ cap + seats
+  counts_claims : (phase : Phase S W) (mech new : Mech S W) (blocks : List ℕ) (before after cap seats sum sum' : ℕ) → mech.setup.cap ≡ cap → before + sum < cap + seats → sum' ≤ seats → sum' + at_claim phase ≡ sum + claiming new
+      → ClaimKind phase mech new blocks before after → after + sum' < cap + seats
   counts_claims phase mech new blocks before after cap seats sum sum' same most few sums kind =
       elim kind [
         | claims at not less hand line word ↦ omega (arith, at, not, word, sums, most)
@@ -238,7 +238,7 @@ module _ {S W : Type 0} where
         record {
           inside = omega (arith, length-opening_words form.client setup.cap);
           count = (seats_stay form setup [] tt).count;
-          counter = omega (arith, none, few);
+          counter = omega (arith, none, few, setup.some_block);
           claimed = All-nil (IsClaimed setup (counter_of state));
           apart = pairs_nil (λ later earlier. earlier < later);
           in_hand = λ seat mech at block e. (let both : None ≡ Some block = sym (empty seat mech at) ∙ e in absurd (cc));

@@ -42,7 +42,7 @@ pub record IsClaimed (setup : Setup) (counter block : ℕ) : Type 0 where
 -- the claims of a run, the newest first: all differ, those in hand are among them, and no two seats have one
 -- block; an offer fills a block that no list has used by this
 pub record HasClaims {S W : Type 0} (setup : Setup) (state : RunState S W) (claims : List ℕ) : Type 0 where
-  pub counter : slice_index state.words CLAIMS ≤ setup.cap + setup.seats
+  pub counter : slice_index state.words CLAIMS < setup.cap + setup.seats
   pub claimed : All (IsClaimed setup (slice_index state.words CLAIMS)) claims
   pub apart : AllPairs (λ later earlier. earlier < later) claims
   pub in_hand : EachMech (λ seat mech. (block : ℕ) → mech.hand ≡ Some block → Contains claims block) state.mechs

@@ -4,8 +4,8 @@ ghost use Rattle.run_laws.specs.Claims.{ClaimsHold, ClaimsRise, ExhaustedSaw};
 use normal_traits::Normalized;
 
 /// The blocks that a run has claimed are 1 to cap and all differ, each block in hand is one of them, no two
-/// seats have one in hand, and the claim counter is at most cap and the seats. The premise is that nothing
-/// but claims writes the counter.
+/// seats have one in hand, and the claim counter is below cap and the seats together. The premise is that
+/// nothing but claims writes the counter.
 pub fn claims_hold<C: Normalized>()
     ensures { ClaimsHold C.form }
 {}
