@@ -9,6 +9,8 @@ use Rattle.lin_report.specs.Text.{report_text}
 use Rattle.script_reader.specs.declared.schedules.ScheduleEntry.{ScheduleEntry}
 use Rattle.normal_traits.specs.NormalForm.{NormalForm}
 use Rattle.queue_laws.specs.Form.{queue_form}
+use Rattle.list_laws.specs.Lists.{the_list}
+use Rattle.list_laws.specs.Form.{list_form}
 use Rattle.fast_slow_engine.specs.declared.setup.Setup.{Setup}
 use Rattle.run_laws.specs.Ticks.{report_of_run}
 use Rattle.event_core.specs.Cores.{CoreView, core_new}
@@ -16,7 +18,7 @@ use Rattle.schedule_runs.specs.Orders.{Follows}
 use Rattle.nwf_run.specs.declared.running.Replayed.{Replayed}
 use Rattle.nwf_run.specs.declared.stops.Stop.{Stop}
 use Rattle.nwf_run.specs.declared.words.Served.{Served}
-use Rattle.nwf_run.specs.declared.words.Served.TheVariants.{Queue}
+use Rattle.nwf_run.specs.declared.words.Served.TheVariants as served
 use Rattle.nwf_run.specs.declared.stops.Stop.TheVariants.{Usage}
 use Rattle.nwf_run.specs.Headline.{MeetsHeadline}
 use Rattle.nwf_run.specs.Judging.{Accepts, StopsAt}
@@ -38,7 +40,8 @@ pub record IsReportOf {S W : Type 0} (form : NormalForm S W) (replay : Replay) (
 
 -- the same, for the structure that the words name
 abbrev pub IsReportFor : Served → Replay → List ScheduleEntry → List (List Op) → Report → Type 0
-IsReportFor Queue replay entries commands report = IsReportOf queue_form replay entries commands report
+IsReportFor served.Queue replay entries commands report = IsReportOf queue_form replay entries commands report
+IsReportFor served.List replay entries commands report = IsReportOf (list_form the_list) replay entries commands report
 
 -- the report is that of the replay: its files are accepted, and their run has this report
 pub record IsReplayOf (held : List ℕ → Option (List ℕ)) (replay : Replay) (report : Report) : Type 0 where

@@ -6,7 +6,7 @@ use Rattle.lin_report.specs.declared.calls.Client.{Client}
 use Rattle.lin_report.specs.declared.calls.Client.TheVariants as client
 use Rattle.script_reader.specs.Words.{number_up_to}
 use Rattle.nwf_run.specs.declared.words.Served.{Served}
-use Rattle.nwf_run.specs.declared.words.Served.TheVariants.{Queue}
+use Rattle.nwf_run.specs.declared.words.Served.TheVariants as served
 
 -- what the words of a replay say
 pub record Replay : Type 0 where
@@ -19,11 +19,12 @@ pub record Replay : Type 0 where
 
 -- the structure that a word names
 abbrev pub served_named : List ℕ → Option Served
-served_named word = if bytes_eq word (codes "queue") then Some Queue else None
+served_named word = if bytes_eq word (codes "queue") then Some served.Queue else (if bytes_eq word (codes "list") then Some served.List else None)
 
 -- the client whose commands the command files have
 abbrev pub client_of : Served → Client
-client_of Queue = client.Queue
+client_of served.Queue = client.Queue
+client_of served.List = client.List
 
 -- a number word between two bounds: one or more ASCII digits, of which leading zeros count nothing
 abbrev pub number_in : ℕ → ℕ → List ℕ → Option ℕ
@@ -32,9 +33,9 @@ number_in least most word =
 
 -- a replay of a structure that is served, with its blocks and its contention limit in range
 abbrev pub replay_of : Option Served → Option ℕ → Option ℕ → List ℕ → List (List ℕ) → Option Replay
-replay_of (Some served) (Some cap) (Some limit) schedule files = Some (record { served = served; cap = cap; limit = limit; schedule = schedule; files = files })
-replay_of (Some served) (Some cap) None schedule files = None
-replay_of (Some served) None limit schedule files = None
+replay_of (Some structure) (Some cap) (Some limit) schedule files = Some (record { served = structure; cap = cap; limit = limit; schedule = schedule; files = files })
+replay_of (Some structure) (Some cap) None schedule files = None
+replay_of (Some structure) None limit schedule files = None
 replay_of None cap limit schedule files = None
 
 -- `replay CLIENT CAP LIMIT SCHEDULE` and one to eight FILE words, with 1 to 65,536 blocks and a limit from 1

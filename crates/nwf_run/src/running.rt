@@ -15,6 +15,7 @@ use crate::judging::Scripts;
 use crate::words::{ReplayWords, Served};
 use event_core::Core;
 use fast_slow_engine::Setup;
+use harris_list::HarrisList;
 use lin_report::{NoMemory, Op, Receipt, Reply, report_room, write_report};
 use ms_queue::MsQueue;
 use normal_traits::Normalized;
@@ -111,5 +112,6 @@ pub fn make_report(
 {
     match words.served {
         Served::Queue => report_of::<MsQueue>(alloc, words, scripts),
+        Served::List => report_of::<HarrisList>(alloc, words, scripts),
     }
 }

@@ -15,6 +15,10 @@ const ONE: &str = "replay queue 8 3 s f0";
 
 const TWO: &str = "replay queue 8 3 s f0 f1";
 
+const ONE_LIST: &str = "replay list 8 3 s f0";
+
+const TWO_LIST: &str = "replay list 8 3 s f0 f1";
+
 /// The words of a command line, each two of them with one space between.
 fn words_of(alloc: Global, line: &str) -> Result<Vec<String>, AllocError> {
     let mut words = Vec::new(alloc);
@@ -234,8 +238,77 @@ fn reports_of_more_seats(rt: HostRuntime) -> Result<(), Fail> {
     compare(&rt, rt.alloc(), &MORE_SEATS)
 }
 
+/// Runs of the list.
+const LISTS: [Row; 8] = [
+    (
+        ONE_LIST,
+        "0 end/0 end/0 end/0 end/0 end/",
+        "add 0/add 1048575/has 0/del 0/del 0/",
+        0,
+        "0 1 add 0 yes 0 1 fast/0 2 add 1048575 yes 2 3 fast/0 3 has 0 yes 4 5 fast/0 4 del 0 yes 6 7 fast/0 5 del 0 no 8 9 fast/calls 5 fast 5 slow 0 exhausted 0 pending 0 overtaken 0/",
+    ),
+    (
+        TWO_LIST,
+        "0 3/1 end/0 end/0 end/",
+        "has 5/has 5/|add 5/",
+        0,
+        "0 1 has 5 no 0 3 fast/1 1 add 5 yes 1 2 fast/0 2 has 5 yes 4 5 fast/calls 3 fast 3 slow 0 exhausted 0 pending 0 overtaken 0/",
+    ),
+    (
+        TWO_LIST,
+        "0 end/0 exchange/1 exchange/0 end/1 end/",
+        "add 5/del 5/|del 5/",
+        0,
+        "0 1 add 5 yes 0 1 fast/0 2 del 5 yes 2 4 fast/1 1 del 5 no 3 5 fast/calls 3 fast 3 slow 0 exhausted 0 pending 0 overtaken 0/",
+    ),
+    // Three marked nodes are unlinked by one exchange.
+    (
+        "replay list 8 3 s f0 f1 f2 f3",
+        "0 end/0 end/0 end/0 exchange/1 exchange/2 exchange/0 exchange/1 exchange/2 exchange/3 end/0 end/1 end/2 end/",
+        "add 1/add 2/add 3/del 1/|del 2/|del 3/|has 3/",
+        0,
+        "0 1 add 1 yes 0 1 fast/0 2 add 2 yes 2 3 fast/0 3 add 3 yes 4 5 fast/0 4 del 1 yes 6 11 fast/1 1 del 2 yes 7 12 fast/2 1 del 3 yes 8 13 fast/3 1 has 3 no 9 10 fast/calls 7 fast 7 slow 0 exhausted 0 pending 0 overtaken 0/",
+    ),
+    // The mark has won while another seat unlinks.
+    (
+        TWO_LIST,
+        "0 end/0 exchange/0 exchange/1 end/0 end/",
+        "add 5/del 5/|add 4/",
+        0,
+        "0 1 add 5 yes 0 1 fast/0 2 del 5 yes 2 5 fast/1 1 add 4 yes 3 4 fast/calls 3 fast 3 slow 0 exhausted 0 pending 0 overtaken 0/",
+    ),
+    // Two adds after one node: the second one searches again, with its block in hand.
+    (
+        "replay list 3 3 s f0 f1",
+        "0 end/0 exchange/1 exchange/0 end/1 end/",
+        "add 1/add 3/|add 2/",
+        0,
+        "0 1 add 1 yes 0 1 fast/0 2 add 3 yes 2 4 fast/1 1 add 2 yes 3 5 fast/calls 3 fast 3 slow 0 exhausted 0 pending 0 overtaken 0/",
+    ),
+    // The left neighbour of a node that is deleted is being deleted too.
+    (
+        "replay list 8 3 s f0 f1 f2",
+        "0 end/0 end/0 exchange/1 exchange/0 1/1 end/0 end/2 end/",
+        "add 1/add 2/del 1/|del 2/|has 2/",
+        0,
+        "0 1 add 1 yes 0 1 fast/0 2 add 2 yes 2 3 fast/0 3 del 1 yes 4 7 fast/1 1 del 2 yes 5 6 fast/2 1 has 2 no 8 9 fast/calls 5 fast 5 slow 0 exhausted 0 pending 0 overtaken 0/",
+    ),
+    (
+        "replay list 1 3 s f0",
+        "0 end/0 end/0 end/",
+        "add 1/add 2/del 1/",
+        7,
+        "0 1 add 1 yes 0 1 fast/0 2 add 2 exhausted 2 3 fast/0 3 del 1 yes 4 5 fast/calls 3 fast 3 slow 0 exhausted 1 pending 0 overtaken 0/",
+    ),
+];
+
+#[test]
+fn reports_of_lists(rt: HostRuntime) -> Result<(), Fail> {
+    compare(&rt, rt.alloc(), &LISTS)
+}
+
 /// Files that are refused: the first one at fault, its line and the cause.
-const REFUSED: [Row; 11] = [
+const REFUSED: [Row; 15] = [
     (
         ONE,
         "0 end/",
@@ -300,6 +373,34 @@ const REFUSED: [Row; 11] = [
         "nwf: refused file 0 line 2 cause 1/",
     ),
     (
+        ONE_LIST,
+        "0 end/",
+        "add 1048576/",
+        3,
+        "nwf: refused file 1 line 1 cause 2/",
+    ),
+    (
+        ONE_LIST,
+        "0 end/",
+        "add 1//add -1/",
+        3,
+        "nwf: refused file 1 line 3 cause 2/",
+    ),
+    (
+        ONE_LIST,
+        "0 end/",
+        "put 7/",
+        3,
+        "nwf: refused file 1 line 1 cause 1/",
+    ),
+    (
+        ONE_LIST,
+        "0 end/",
+        "min/",
+        3,
+        "nwf: refused file 1 line 1 cause 1/",
+    ),
+    (
         TWO,
         "1 end/",
         "take/|tak/",
@@ -327,7 +428,9 @@ fn words_that_are_not_served(rt: HostRuntime) -> Result<(), Fail> {
         "",
         "replay",
         "replay stack 8 3 s f0",
-        "replay list 8 3 s f0",
+        "replay tree 8 3 s f0",
+        "replay buckets 8 3 s f0",
+        "replay lists 8 3 s f0",
         "replay queues 8 3 s f0",
         "load queue 8 3 1 1 0",
         "run queue 8 3 f0",

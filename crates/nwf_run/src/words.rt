@@ -11,6 +11,8 @@ use script_reader::number_up_to;
 pub enum Served {
     /// Michael and Scott's queue.
     Queue,
+    /// Harris's sorted list.
+    List,
 }
 
 impl Served {
@@ -20,6 +22,7 @@ impl Served {
     {
         match word {
             "queue" => Some(Served::Queue),
+            "list" => Some(Served::List),
             _ => None,
         }
     }
@@ -30,6 +33,7 @@ impl Served {
     {
         match self {
             Served::Queue => Client::Queue,
+            Served::List => Client::List,
         }
     }
 }

@@ -1,0 +1,74 @@
+//! The list as a structure in normalized form.
+
+use crate::offers::offered;
+use crate::search::{asked, begun_at, fed};
+use lin_report::calls::ADD;
+use lin_report::{Client, Op, Outcome, Reply};
+use list_laws::states::LIST_START;
+use list_laws::{ListSearch, ListWrap};
+use normal_traits::{Found, List, Normalized, Offer, Wrapped};
+use step_memory::{Request, Seen};
+
+/// The list. It begins at place 46, the next word of node 1 of block 0.
+pub struct HarrisList;
+
+impl Normalized for HarrisList {
+    ghost use Rattle.std.specs.Prelude.{refl};
+    ghost use Rattle.lin_report.specs.declared.calls.Client.{Client};
+    ghost use Rattle.list_laws.specs.Lists.{the_list};
+    ghost use Rattle.list_laws.specs.Form.{list_form};
+    ghost use Rattle.harris_list.specs.ProvedLaws.{list_laws};
+
+    type Search = ListSearch;
+
+    type Wrap = ListWrap;
+
+    const CLIENT: Client = Client::List;
+
+    ghost CLIENT = { Client.List };
+
+    ghost form = { list_form the_list };
+
+    fn needs_block(op: Op) -> bool {
+        op.code == ADD
+    }
+
+    fn begin(op: Op) -> ListSearch {
+        begun_at(LIST_START, op)
+    }
+
+    fn request(search: &ListSearch) -> Request {
+        asked(*search)
+    }
+
+    fn feed(search: &mut ListSearch, seen: Seen) -> Found {
+        let (after, found) = fed(*search, seen);
+        *search = after;
+        found
+    }
+
+    fn offer(search: &ListSearch, op: Op, block: u32) -> Offer {
+        offered(*search, op, block)
+    }
+
+    fn begin_wrap(_op: Op, _list: &List, stop: u32) -> (ListWrap, Wrapped) {
+        let wrapped = if stop == 0 {
+            Wrapped::Restart
+        } else {
+            Wrapped::Done(Outcome::Plain(Reply::Yes))
+        };
+        (ListWrap::Over, wrapped)
+    }
+
+    fn wrap_request(_wrap: &ListWrap) -> Request {
+        Request::Load { at: LIST_START }
+    }
+
+    fn feed_wrap(_wrap: &mut ListWrap, _seen: Seen) -> Wrapped {
+        Wrapped::Done(Outcome::Plain(Reply::Yes))
+    }
+
+    ghost laws = { list_laws };
+
+    ghost named = { refl };
+}
