@@ -1,0 +1,11 @@
+pub mod Places
+pub mod Changes
+pub mod Paths
+pub mod Links
+pub mod Entries
+pub mod Later
+pub mod Kept
+pub mod Sets
+pub mod Runs
+pub mod Marks
+pub mod Journal
