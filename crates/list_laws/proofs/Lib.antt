@@ -9,3 +9,6 @@ pub mod Sets
 pub mod Runs
 pub mod Marks
 pub mod Journal
+pub mod Shapes
+pub mod Adds
+pub mod Dels
