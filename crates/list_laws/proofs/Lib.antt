@@ -12,3 +12,6 @@ pub mod Journal
 pub mod Shapes
 pub mod Adds
 pub mod Dels
+pub mod Commands
+pub mod Keeps
+pub mod Opening
