@@ -111,16 +111,17 @@ module _ (lists : Lists) (are : AreLists lists) (world : World) (sorted : AreSor
     known =
         record {
           change = inl (ap (λ (reply : Reply). record { list = list; reply = reply }) (sym told));
-          brought = inr
-              (code,
-              record {
-                block = node.0;
-                node = kept.extends.nodes node.0 node.1.node;
-                marked = omega (arith, written);
-                place = at_block;
-                stays = written ∙ sym (value-changed next (2 * led next + 1) small);
-                cause = cause_is;
-              });
+          brought = inr (
+            code,
+            record {
+              block = node.0;
+              node = kept.extends.nodes node.0 node.1.node;
+              marked = omega (arith, written);
+              place = at_block;
+              stays = written ∙ sym (value-changed next (2 * led next + 1) small);
+              cause = cause_is;
+            },
+          );
         }
 
     key_stays : (b : ℕ) → 0 < b → with_word (next_place cur) word world.words (key_at b) ≡ world.words (key_at b)

@@ -81,16 +81,17 @@ module _ (lists : Lists) (are : AreLists lists) (world after : World) (sorted : 
       by_kind (inr marked) =
           let was = marked.1 in
           let same = value_stays was.block was.node was.marked in
-          inr
-          (marked.0,
-          record {
-            block = was.block;
-            node = kept.extends.nodes was.block was.node;
-            marked = ap (λ v. v % 2) same ∙ was.marked;
-            place = was.place;
-            stays = same ∙ was.stays;
-            cause = was.cause;
-          })
+          inr (
+            marked.0,
+            record {
+              block = was.block;
+              node = kept.extends.nodes was.block was.node;
+              marked = ap (λ v. v % 2) same ∙ was.marked;
+              place = was.place;
+              stays = same ∙ was.stays;
+              cause = was.cause;
+            },
+          )
 
   known_stays : (won : Won) (maker : Maker) → KnownBy world path won maker → KnownBy after path' won maker
   known_stays won (By list zero) known = made_stays won list known

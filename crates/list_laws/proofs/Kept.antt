@@ -118,7 +118,7 @@ module _ (lists : Lists) (are : AreLists lists) where
     between_kept key since left cur false at was between = (
       between.0,
       gap_kept since (lists.start_of key) (place_rank world.changes left.place) (rank_of world.changes cur) (place_rank after.changes left.place) (rank_of after.changes cur)
-      (place_stays (lists.start_of key) left.place at.link) (rank_stays (lists.start_of key) cur was.named) between.1,
+          (place_stays (lists.start_of key) left.place at.link) (rank_stays (lists.start_of key) cur was.named) between.1,
     )
 
     next_kept : (key since cur next : ℕ) → IsNamed lists world.changes (lists.start_of key) cur → AtNext lists world key since cur next → AtNext lists after key since cur next

@@ -15,3 +15,7 @@ pub mod Dels
 pub mod Commands
 pub mod Keeps
 pub mod Opening
+pub mod Searching
+pub mod Offers
+pub mod Wrapping
+pub mod Laws

@@ -237,8 +237,13 @@ module _ (lists : Lists) (are : AreLists lists) (changes : List Change) (some : 
       rises_linked start place (inl new) = omega (arith, ap (place_rank (change ∷ changes)) new.0, new_rank, ap (rank_of (change ∷ changes)) (to_new place new.0), cur_rank, high)
       rises_linked start place (inr (inl at)) = omega (arith, ap (place_rank (change ∷ changes)) at.0, left_rank, ap (rank_of (change ∷ changes)) (to_left place at.0), new_named, low)
       rises_linked start place (inr (inr old)) =
-          omega (arith, place_kept lists changes (change ∷ changes) extends are some start place old.0, ap (rank_of (change ∷ changes)) (to_other start place old.0 old.1),
-          rank_kept lists changes (change ∷ changes) extends start (next place) (is.leads start place old.0), is.rises start place old.0)
+          omega (
+            arith,
+            place_kept lists changes (change ∷ changes) extends are some start place old.0,
+            ap (rank_of (change ∷ changes)) (to_other start place old.0 old.1),
+            rank_kept lists changes (change ∷ changes) extends start (next place) (is.leads start place old.0),
+            is.rises start place old.0,
+          )
 
       onto : (block : ℕ) → path block ≡ true → (using_block change.list.block path) block ≡ true
       onto block path_on = or_right (eqb block change.list.block) (path block) path_on
@@ -277,25 +282,46 @@ module _ (lists : Lists) (are : AreLists lists) (changes : List Change) (some : 
       nearest_linked start place block (inl new) standing (inr path_on) list below =
           let key = extends.keys block (is.nodes block path_on) in
           let far : place_rank changes left < node_rank changes block = omega (arith, below, ap (place_rank (change ∷ changes)) new.0, new_rank, key, low) in
-          omega (arith, ap (rank_of (change ∷ changes)) (to_new place new.0), cur_rank, key,
-          is.nearest (lists.start_of change.list.call.op.key) left block link on path_on (ap lists.start_of (sym key) ∙ list ∙ new.1) far)
+          omega (
+            arith,
+            ap (rank_of (change ∷ changes)) (to_new place new.0),
+            cur_rank,
+            key,
+            is.nearest (lists.start_of change.list.call.op.key) left block link on path_on (ap lists.start_of (sym key) ∙ list ∙ new.1) far,
+          )
       nearest_linked start place block (inr (inl at)) standing (inl own) list below =
           omega (arith, ap (rank_of (change ∷ changes)) (to_left place at.0), new_named, ap (node_key (change ∷ changes)) own, key_own change changes add)
       nearest_linked start place block (inr (inl at)) standing (inr path_on) list below =
           let key = extends.keys block (is.nodes block path_on) in
           let far : place_rank changes left < node_rank changes block = omega (arith, below, ap (place_rank (change ∷ changes)) at.0, left_rank, key) in
-          omega (arith, ap (rank_of (change ∷ changes)) (to_left place at.0), new_named, key, high,
-          is.nearest (lists.start_of change.list.call.op.key) left block link on path_on (ap lists.start_of (sym key) ∙ list ∙ at.1) far)
+          omega (
+            arith,
+            ap (rank_of (change ∷ changes)) (to_left place at.0),
+            new_named,
+            key,
+            high,
+            is.nearest (lists.start_of change.list.call.op.key) left block link on path_on (ap lists.start_of (sym key) ∙ list ∙ at.1) far,
+          )
       nearest_linked start place block (inr (inr old)) standing (inl own) list below =
           let key : node_key (change ∷ changes) block ≡ change.list.call.op.key = ap (node_key (change ∷ changes)) own ∙ key_own change changes add in
           let far : place_rank changes place < change.list.call.op.key + 1 = omega (arith, below, place_kept lists changes (change ∷ changes) extends are some start place old.0, key) in
-          omega (arith, key, ap (rank_of (change ∷ changes)) (to_other start place old.0 old.1), rank_kept lists changes (change ∷ changes) extends start (next place) (is.leads start place old.0),
-          nearest_new start place (sym list ∙ ap lists.start_of key) old.0 old.1 (stands_old start place old.0 standing) far)
+          omega (
+            arith,
+            key,
+            ap (rank_of (change ∷ changes)) (to_other start place old.0 old.1),
+            rank_kept lists changes (change ∷ changes) extends start (next place) (is.leads start place old.0),
+            nearest_new start place (sym list ∙ ap lists.start_of key) old.0 old.1 (stands_old start place old.0 standing) far,
+          )
       nearest_linked start place block (inr (inr old)) standing (inr path_on) list below =
           let key = extends.keys block (is.nodes block path_on) in
           let far : place_rank changes place < node_rank changes block = omega (arith, below, place_kept lists changes (change ∷ changes) extends are some start place old.0, key) in
-          omega (arith, key, ap (rank_of (change ∷ changes)) (to_other start place old.0 old.1), rank_kept lists changes (change ∷ changes) extends start (next place) (is.leads start place old.0),
-          is.nearest start place block old.0 (stands_old start place old.0 standing) path_on (ap lists.start_of (sym key) ∙ list) far)
+          omega (
+            arith,
+            key,
+            ap (rank_of (change ∷ changes)) (to_other start place old.0 old.1),
+            rank_kept lists changes (change ∷ changes) extends start (next place) (is.leads start place old.0),
+            is.nearest start place block old.0 (stands_old start place old.0 standing) path_on (ap lists.start_of (sym key) ∙ list) far,
+          )
 
       -- no node on the path had the key
       none_has : (block : ℕ) → path block ≡ true → node_key changes block ≢ change.list.call.op.key
