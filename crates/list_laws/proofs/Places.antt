@@ -106,16 +106,10 @@ next_word world block used = field_word world (next_at block) block 14 (omega (a
 pub key_word : (world : World) (block : ℕ) → world.used block ≡ true → is_word world (key_at block) ≡ true
 key_word world block used = field_word world (key_at block) block 12 (omega (arith, key_is block)) (block_of_key block) (field_of_key block) (omega arith) used
 
-or_first : (b : Bool) → (true || b) ≡ true
-or_first b = refl
-
 in_first : (a b c d : Bool) → a ≡ false → b ≡ false → c ≡ true → d ≡ true → (e z : Bool) → e ≡ true → (a || b || (c && d && (e || z))) ≡ true
 in_first a b c d low low' behind used e z first = rw (low, low', behind, used, first) refl
 
 module _ (lists : Lists) (are : AreLists lists) where
-  pub start_low : (place : ℕ) → lists.is_start place ≡ true → place < block_place 1 0
-  start_low place is = are.within place is
-
   pub start_word : (world : World) (place : ℕ) → world.used 0 ≡ true → lists.is_start place ≡ true → is_word world place ≡ true
   start_word world place used is =
       let low = are.behind place is in
