@@ -19,4 +19,3 @@ pub mod Searching
 pub mod Offers
 pub mod Wrapping
 pub mod Laws
-pub mod Going
