@@ -1,0 +1,118 @@
+-- Each part of an offered block, and what its helpers know, through a step of anyone.
+use Rattle.std.proofs.Common.{◌≡◌, ◌≢◌, ◌∙◌, refl, sym, ℕ, zero, suc, ◌<◌, Bool, true, false, inl, inr, List, [], ◌∷◌, length, arith}
+use Rattle.std.proofs.lemmas.Bool.{cases_eq}
+use Rattle.normal_traits.specs.declared.lists.Entry.{Entry}
+use Rattle.cas_executor.specs.declared.fast_run.Execution.{Execution}
+use Rattle.cas_executor.specs.declared.fast_run.Execution.TheVariants.{Running, Stopped}
+use Rattle.cas_executor.specs.declared.slow_run.SlowStep.{SlowStep}
+use Rattle.cas_executor.specs.declared.slow_run.SlowStep.TheVariants.{LoadState, Install, LoadTarget, Succeed, Fail, LoadDecision, Clear}
+use Rattle.cas_executor.specs.SlowRuns.{SlowWalk, state_place}
+use Rattle.cas_executor_laws.specs.ExecRuns.{IsEntry}
+use Rattle.cas_executor_laws.specs.Entries.{View, WasSeen, Life, LeavesBit, Later}
+use Rattle.cas_executor_laws.specs.Parts.{Site, IsSite, OfEach, InOrder, Offered, OwnsBits, Deed, IsDone, KnowsEntry, AreDone, Knows, KnowsStop, Helps, view_in}
+use Rattle.cas_executor_laws.proofs.EntryLemmas.{true≢false, later, seen_turned, life_turned, bit_turned}
+
+-- a place in a list has an entry
+pub entry_at : (entries : List Entry) (j : ℕ) → j < length entries → (entry : Entry) × IsEntry entries j entry
+entry_at [] j within = absurd (omega arith)
+entry_at (entry ∷ entries) zero within = (entry, refl)
+entry_at (entry ∷ entries) (suc j) within = entry_at entries j (omega arith)
+
+-- ---- what a helper knows of an entry stays
+
+pub knows_later : (step : SlowStep) (entry : Entry) (old new : View) → Later entry old new → KnowsEntry step entry old → KnowsEntry step entry new
+knows_later LoadState entry old new l k = tt
+knows_later Install entry old new l k = tt
+knows_later LoadTarget entry old new l k = l.past k
+knows_later Succeed entry old new l k = (l.past k.0, l.taken k.1)
+knows_later Fail entry old new l k = (l.past k.0, λ open_. let was = undecided old new l open_ in (l.missed k.0 (k.1 was).0, l.gone k.0 (k.1 was).1))
+  where
+    undecided : (old new : View) → Later entry old new → new.state ≡ 0 → old.state ≡ 0
+    undecided old new l e =
+        elim (cases_eq old.state 0) [
+          | inl none ↦ none
+          | inr some ↦ absurd (some (sym (l.decided some) ∙ e))
+        ]
+knows_later LoadDecision entry old new l k = (l.past k.0, λ e. k.1 (sym (l.decided k.1) ∙ e))
+knows_later Clear entry old new l k = (l.past k.0, l.decided (λ e. absurd (omega (arith, e, k.1))) ∙ k.1)
+
+pub done_later : (entry : Entry) (old new : View) → Later entry old new → IsDone entry old → IsDone entry new
+done_later entry old new l d =
+    record { succeeded = l.decided (λ e. absurd (omega (arith, e, d.succeeded))) ∙ d.succeeded; past = l.past d.past; gone = l.gone d.past d.gone }
+
+module _ (site : Site) (is : IsSite site) (words : ℕ → ℕ) (took : ℕ → Bool) (after : ℕ → ℕ) (took' : ℕ → Bool) where
+  -- ---- the parts
+
+  pub seen_kept : Deed site words took after took' → OfEach site WasSeen words took → OfEach site WasSeen after took'
+  seen_kept deed seen j entry listed =
+      seen_turned entry (is.raised j entry listed) _ _ (deed.turns j entry listed) (seen j entry listed)
+
+  pub lives_kept : Deed site words took after took' → OfEach site Life words took → OfEach site Life after took'
+  lives_kept deed lives j entry listed =
+      life_turned entry (is.raised j entry listed) _ _ (deed.turns j entry listed) (lives j entry listed)
+
+  -- where others leave no bits at the targets
+  pub bits_kept : (deed : Deed site words took after took') → ((j : ℕ) (entry : Entry) (listed : IsEntry site.entries j entry) → LeavesBit entry _ _ (deed.turns j entry listed)) → OwnsBits site words took → OwnsBits site after took'
+  bits_kept deed leaves owns j entry listed =
+      bit_turned entry (is.raised j entry listed) _ _ (deed.turns j entry listed) (leaves j entry listed) (owns j entry listed)
+
+  -- what every step leaves of each entry
+  pub all_later : Deed site words took after took' → OfEach site Life words took → (j : ℕ) (entry : Entry) → IsEntry site.entries j entry → Later entry (view_in site words took j entry) (view_in site after took' j entry)
+  all_later deed lives j entry listed =
+      later entry (is.raised j entry listed) _ _ (lives j entry listed) (deed.turns j entry listed)
+
+  pub state_stays : Deed site words took after took' → OfEach site Life words took → (j : ℕ) → j < length site.entries → words (state_place site.block j) ≢ 0 → after (state_place site.block j) ≡ words (state_place site.block j)
+  state_stays deed lives j within decided =
+      let at = entry_at site.entries j within in
+      (all_later deed lives j at.0 at.1).decided decided
+
+  pub order_kept : Deed site words took after took' → OfEach site Life words took → InOrder site words took → InOrder site after took'
+  order_kept deed lives order j within =
+      record {
+        taken = λ is i before. stays i before (was_taken (took j) refl is i before);
+        decided = λ decided i before. stays i before (was_decided decided i before);
+      }
+    where
+      stays : (i : ℕ) → i < j → words (state_place site.block i) ≡ 1 → after (state_place site.block i) ≡ 1
+      stays i before one = state_stays deed lives i (omega arith) (λ e. absurd (omega (arith, e, one))) ∙ one
+
+      was_taken : (b : Bool) → took j ≡ b → took' j ≡ true → (i : ℕ) → i < j → words (state_place site.block i) ≡ 1
+      was_taken true was is i before = (order j within).taken was i before
+      was_taken false was is i before = deed.taken j within (λ e. absurd (true≢false (took' j) is (e ∙ was))) i before
+
+      was_decided : after (state_place site.block j) ≢ 0 → (i : ℕ) → i < j → words (state_place site.block i) ≡ 1
+      was_decided decided i before =
+          elim (cases_eq (after (state_place site.block j)) (words (state_place site.block j))) [
+            | inl same ↦ (order j within).decided (λ e. decided (same ∙ e)) i before
+            | inr differs ↦ deed.decided j within differs i before
+          ]
+
+  pub offered_kept : Deed site words took after took' → Offered site words took → Offered site after took'
+  offered_kept deed on = record { seen = seen_kept deed on.seen; lives = lives_kept deed on.lives; order = order_kept deed on.lives on.order }
+
+  -- ---- helpers
+
+  done_kept : Deed site words took after took' → OfEach site Life words took → (place : ℕ) → AreDone site words took place → AreDone site after took' place
+  done_kept deed lives place done j entry listed before = done_later entry _ _ (all_later deed lives j entry listed) (done j entry listed before)
+
+  pub knows_kept : Deed site words took after took' → OfEach site Life words took → (walk : SlowWalk) → Knows site words took walk → Knows site after took' walk
+  knows_kept deed lives walk k =
+      record {
+        block = k.block;
+        entries = k.entries;
+        within = k.within;
+        done = done_kept deed lives walk.next k.done;
+        at_entry = λ entry listed. knows_later walk.step entry _ _ (all_later deed lives walk.next entry listed) (k.at_entry entry listed);
+      }
+
+  pub stop_kept : Deed site words took after took' → OfEach site Life words took → (stop : ℕ) → KnowsStop site words took stop → KnowsStop site after took' stop
+  stop_kept deed lives stop k =
+      record {
+        within = k.within;
+        done = done_kept deed lives stop k.done;
+        failed = λ within. state_stays deed lives stop within (λ e. absurd (omega (arith, e, k.failed within))) ∙ k.failed within;
+      }
+
+  pub helps_kept : Deed site words took after took' → OfEach site Life words took → (walk : SlowWalk) (execution : Execution) → Helps site words took walk execution → Helps site after took' walk execution
+  helps_kept deed lives walk Running k = knows_kept deed lives walk k
+  helps_kept deed lives walk (Stopped stop) k = stop_kept deed lives stop k

@@ -1,0 +1,4 @@
+pub mod ExecRuns
+pub mod Entries
+pub mod Parts
+pub mod Laws
