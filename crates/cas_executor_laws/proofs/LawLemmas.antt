@@ -1,5 +1,5 @@
 -- The laws of every world, from its invariant.
-use Rattle.std.proofs.Common.{◌≡◌, ◌∙◌, refl, sym, ap, subst, ℕ, ◌<◌, Bool, true, false, inl, inr, List, ◌∷◌, ◌++◌, slice_get, slice_index, Some, arith}
+use Rattle.std.proofs.Common.{◌≡◌, ◌≢◌, ◌∙◌, refl, sym, ap, subst, ℕ, ◌<◌, Bool, true, false, inl, inr, List, ◌∷◌, ◌++◌, length, slice_get, slice_index, Some, arith}
 use Rattle.std.proofs.lemmas.Bool.{cases_eq, cases_lt}
 use Rattle.std.proofs.lemmas.Option.{slice_get_within}
 use Rattle.step_memory.specs.Step.{seen_of}
@@ -11,7 +11,7 @@ use Rattle.cas_executor.specs.declared.fast_run.Execution.TheVariants.{Running, 
 use Rattle.cas_executor.specs.declared.slow_run.EntryState.TheVariants.{Succeeded, Failed}
 use Rattle.cas_executor.specs.declared.slow_run.SlowStep.TheVariants.{LoadTarget, Succeed, Fail}
 use Rattle.cas_executor.specs.SlowRuns.{SlowWalk, at_step, entry_state, execution_at, fed_at, slow_request, state_place}
-use Rattle.cas_executor_laws.specs.ExecRuns.{ExecSetup, ExecState, Helping, Act, CanOpen, IsEntry, helper_fed, stepped_by, took, wins, world_of}
+use Rattle.cas_executor_laws.specs.ExecRuns.{AreActs, ExecSetup, ExecState, Helping, Act, CanOpen, IsEntry, helper_fed, stepped_by, took, wins, world_of}
 use Rattle.cas_executor_laws.specs.ExecRuns.Act.{Steps}
 use Rattle.cas_executor_laws.specs.Entries.{IsPast}
 use Rattle.cas_executor_laws.specs.Parts.{AreDone, KnowsEntry, Knows, KnowsStop, Helps}
@@ -162,10 +162,25 @@ not_before setup acts stop stop' first second before =
     let both : Succeeded ≡ Failed = sym (second.earlier stop before) ∙ first.failed (omega (arith, before, second.within)) in
     absurd cc
 
+-- the first failed entry stays that
+stays_first : (setup : ExecSetup) (newer older : List Act) (stop : ℕ) → CanOpen setup → AreActs setup (newer ++ older) → IsFirstFailed setup older stop → IsFirstFailed setup (newer ++ older) stop
+stays_first setup newer older stop can are first =
+    record {
+      within = first.within;
+      earlier = λ i before. (let one = state_succeeded (slice_index (world_of setup older).words (state_place setup.block i)) (first.earlier i before) in
+          ap entry_state (stays i (omega (arith, before, first.within)) (λ e. absurd (omega (arith, e, one)))) ∙ first.earlier i before);
+      failed = λ within. ap entry_state (stays stop within (state_failed (slice_index (world_of setup older).words (state_place setup.block stop)) (first.failed within)).0) ∙ first.failed within;
+    }
+  where
+    stays : (i : ℕ) → i < length setup.entries → slice_index (world_of setup older).words (state_place setup.block i) ≢ 0
+        → slice_index (world_of setup (newer ++ older)).words (state_place setup.block i) ≡ slice_index (world_of setup older).words (state_place setup.block i)
+    stays i within some = (let own = entry_at setup.entries i within in (acts_later setup can newer older are i own.0 own.1).decided some)
+
 pub stops_agree : StopsAgree
-stops_agree setup acts at at' stop stop' helper helper' are here stopped here' stopped' =
-    let first = stops_at_first_failed setup acts at stop helper are here stopped in
-    let second = stops_at_first_failed setup acts at' stop' helper' are here' stopped' in
+stops_agree setup newer older at at' stop stop' helper helper' are more here stopped here' stopped' =
+    let acts = newer ++ older in
+    let first = stays_first setup newer older stop are.0 more (stops_at_first_failed setup older at stop helper are here stopped) in
+    let second = stops_at_first_failed setup acts at' stop' helper' (are.0, more) here' stopped' in
     elim (cases_lt stop stop') [
       | inl before ↦ absurd (not_before setup acts stop stop' first second before)
       | inr other ↦ elim (cases_lt stop' stop) [

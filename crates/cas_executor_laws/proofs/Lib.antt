@@ -10,3 +10,4 @@ pub mod Kept
 pub mod Laters
 pub mod LawLemmas
 pub mod WorldSteps
+pub mod Openings

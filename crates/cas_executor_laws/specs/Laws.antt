@@ -132,9 +132,9 @@ StopsAtFirstFailed =
     (setup : ExecSetup) (acts : List Act) (at stop : ℕ) (helper : Helping) → AreOf setup acts
     → slice_get (world_of setup acts).helpers at ≡ Some helper → helper.execution ≡ Stopped stop → IsFirstFailed setup acts stop
 
--- all helpers that stop give the same place
+-- all helpers that stop give the same place, whenever they stop
 abbrev pub StopsAgree : Type 0
 StopsAgree =
-    (setup : ExecSetup) (acts : List Act) (at at' stop stop' : ℕ) (helper helper' : Helping) → AreOf setup acts
-    → slice_get (world_of setup acts).helpers at ≡ Some helper → helper.execution ≡ Stopped stop
-    → slice_get (world_of setup acts).helpers at' ≡ Some helper' → helper'.execution ≡ Stopped stop' → stop ≡ stop'
+    (setup : ExecSetup) (newer older : List Act) (at at' stop stop' : ℕ) (helper helper' : Helping) → AreOf setup older → AreActs setup (newer ++ older)
+    → slice_get (world_of setup older).helpers at ≡ Some helper → helper.execution ≡ Stopped stop
+    → slice_get (world_of setup (newer ++ older)).helpers at' ≡ Some helper' → helper'.execution ≡ Stopped stop' → stop ≡ stop'

@@ -1,5 +1,5 @@
 //! A helper of a block.
-ghost use Rattle.std.specs.Prelude.{◌≡◌, ◌<◌, ◌^◌};
+ghost use Rattle.std.specs.Prelude.{◌≡◌, ◌<◌, ◌^◌, ◌↔◌, IsTrue};
 ghost use Rattle.step_memory.specs.Step.{seen_of, words_after};
 ghost use Rattle.cas_executor.specs.declared.fast_run.Execution.{Execution};
 ghost use Rattle.cas_executor.specs.FastRuns.{IsShort};
@@ -51,6 +51,13 @@ impl Helper {
             run: SlowRun::new(block, list),
             execution: Execution::Running,
         }
+    }
+
+    /// Whether it hasn't stopped.
+    pub(crate) fn is_running(&self) -> bool
+        ensures { IsTrue result ↔ self.now.execution ≡ Execution.Running }
+    {
+        self.execution == Execution::Running
     }
 
     /// Makes one step.

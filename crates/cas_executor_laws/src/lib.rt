@@ -5,4 +5,6 @@ pub use worlds::ExecWorld;
 
 mod helpers;
 pub mod laws;
+#[cfg(test)]
+mod tests;
 pub mod worlds;
