@@ -18,7 +18,7 @@ use Rattle.cas_executor_laws.specs.Entries.Turn.{stays, moves}
 use Rattle.cas_executor_laws.specs.Entries.Moves.{raised}
 use Rattle.cas_executor_laws.specs.Parts.{Offered, OwnsBits, OwnDeed, IsMade, Knows, Helps, ShowsTaken, TookBy, view_in}
 use Rattle.cas_executor_laws.proofs.EntryLemmas.{true≢false, at_from, shown_bit}
-use Rattle.cas_executor_laws.proofs.SiteLemmas.{all_later, entry_at, offered_kept, bits_kept, helps_kept}
+use Rattle.cas_executor_laws.proofs.SiteLemmas.{all_later, shows_by_bits, entry_at, offered_kept, bits_kept, helps_kept}
 use Rattle.cas_executor_laws.proofs.RunTurns.{OwnTurn}
 use Rattle.cas_executor_laws.proofs.Exchanges.{exchange_did}
 use Rattle.cas_executor_laws.proofs.Exchanges.Exchanged.{won, lost}
@@ -122,8 +122,8 @@ is_install Clear e = absurd cc
 -- ---- a step of a helper
 
 module _ (setup : ExecSetup) (can : CanOpen setup) (state : ExecState) (count : ℕ → ℕ) (k : Kept setup state count) where
-  shows : ShowsTaken (site_of setup) (memory_of state.words) (took_of count)
-  shows j entry listed shown = (k.bits j entry listed).took (shown_bit entry ((is_site setup can).raised j entry listed) _ shown)
+  shows : (j : ℕ) → ShowsTaken (site_of setup) (memory_of state.words) (took_of count) j
+  shows j = shows_by_bits (site_of setup) (is_site setup can) (memory_of state.words) (took_of count) k.bits j
 
   module _ (at : ℕ) (helper : Helping) (here : slice_get state.helpers at ≡ Some helper) (running : helper.execution ≡ Running) where
     knows : Knows (site_of setup) (memory_of state.words) (took_of count) helper.walk
@@ -157,7 +157,7 @@ module _ (setup : ExecSetup) (can : CanOpen setup) (state : ExecState) (count : 
     own = deed_of (site_of setup) (is_site setup can) (memory_of state.words) (memory_of (words_after (slow_request helper.walk) state.words)) (took_of count) (took_of (counted helper state.words count)) helper.walk (seen_of (slow_request helper.walk) state.words) knows made took_by
 
     helps_now : Helps (site_of setup) (memory_of (words_after (slow_request helper.walk) state.words)) (took_of (counted helper state.words count)) (slow_fed helper.walk (seen_of (slow_request helper.walk) state.words)) (slow_execution helper.walk (seen_of (slow_request helper.walk) state.words))
-    helps_now = helps_after (site_of setup) (is_site setup can) (memory_of state.words) (memory_of (words_after (slow_request helper.walk) state.words)) (took_of count) (took_of (counted helper state.words count)) helper.walk (seen_of (slow_request helper.walk) state.words) k.offered shows knows made took_by
+    helps_now = helps_after (site_of setup) (is_site setup can) (memory_of state.words) (memory_of (words_after (slow_request helper.walk) state.words)) (took_of count) (took_of (counted helper state.words count)) helper.walk (seen_of (slow_request helper.walk) state.words) k.offered (shows helper.walk.next) knows made took_by
 
     -- a listed exchange that wins finds an entry that hasn't taken effect
     first_win : installs helper.walk.step ≡ true → (seen_of (slow_request helper.walk) state.words).won ≡ true → count helper.walk.next ≡ 0

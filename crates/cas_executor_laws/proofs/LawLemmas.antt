@@ -15,9 +15,9 @@ use Rattle.cas_executor_laws.specs.ExecRuns.{AreActs, ExecSetup, ExecState, Help
 use Rattle.cas_executor_laws.specs.ExecRuns.Act.{Steps}
 use Rattle.cas_executor_laws.specs.Entries.{IsPast}
 use Rattle.cas_executor_laws.specs.Parts.{AreDone, KnowsEntry, Knows, KnowsStop, Helps}
-use Rattle.cas_executor_laws.specs.Laws.{AreOf, BehindWaits, BitsBelong, EarlierDone, FailedNever, FailureIsSeen, IsFirstFailed, IsHelperAt, NeverFromAgain, NeverTakes, PendingShows, StopsAgree, StopsAtFirstFailed, SucceededTook, SuccessIsSeen, WinsOnce, reached, target_word}
+use Rattle.cas_executor_laws.specs.Laws.{AreOf, BehindWaits, BitsBelong, EarlierDone, FailedNever, FailureIsSeen, IsFirstFailed, IsHelperAt, NeverFromAgain, NeverTakes, PendingShows, StopsAgree, StopsAtFirstFailed, StopsClear, SucceededTook, SuccessIsSeen, WinsOnce, reached, target_word}
 use Rattle.cas_executor_laws.proofs.EntryLemmas.{true≢false, past_not_from, shown_bit}
-use Rattle.cas_executor_laws.proofs.SiteLemmas.{entry_at}
+use Rattle.cas_executor_laws.proofs.SiteLemmas.{entry_at, stop_clears}
 use Rattle.cas_executor_laws.proofs.RunLemmas.{state_failed, state_pending, state_succeeded, two_left}
 use Rattle.cas_executor_laws.proofs.Sets.{at_set}
 use Rattle.cas_executor_laws.proofs.Memories.{memory_of}
@@ -146,15 +146,25 @@ earlier_done setup acts at i helper entry are here before listed =
 
 -- ---- stops
 
+-- what a helper that stopped knows
+knows_stop : (setup : ExecSetup) (acts : List Act) (at stop : ℕ) (helper : Helping) → AreOf setup acts → slice_get (world_of setup acts).helpers at ≡ Some helper → helper.execution ≡ Stopped stop
+    → KnowsStop (site_of setup) (memory_of (world_of setup acts).words) (took_of (wins setup acts)) stop
+knows_stop setup acts at stop helper are here stopped =
+    subst (λ e. Helps (site_of setup) (memory_of (world_of setup acts).words) (took_of (wins setup acts)) helper.walk e) stopped ((kept setup are.0 acts are.1).helps at helper here)
+
 pub stops_at_first_failed : StopsAtFirstFailed
 stops_at_first_failed setup acts at stop helper are here stopped =
-    let k : KnowsStop (site_of setup) (memory_of (world_of setup acts).words) (took_of (wins setup acts)) stop =
-    subst (λ e. Helps (site_of setup) (memory_of (world_of setup acts).words) (took_of (wins setup acts)) helper.walk e) stopped ((kept setup are.0 acts are.1).helps at helper here) in
+    let k = knows_stop setup acts at stop helper are here stopped in
     record {
       within = k.within;
       earlier = λ i before. (let own = entry_at setup.entries i (omega (arith, before, k.within)) in ap entry_state (k.done i own.0 own.1 before).succeeded);
       failed = λ within. ap entry_state (k.failed within);
     }
+
+pub stops_clear : StopsClear
+stops_clear setup acts at stop j helper entry are here stopped listed =
+    let k = kept setup are.0 acts are.1 in
+    stop_clears (site_of setup) (is_site setup are.0) (memory_of (world_of setup acts).words) (took_of (wins setup acts)) k.offered k.bits stop (knows_stop setup acts at stop helper are here stopped) j entry listed
 
 -- no place is the first failed entry where another before it is
 not_before : (setup : ExecSetup) (acts : List Act) (stop stop' : ℕ) → IsFirstFailed setup acts stop → IsFirstFailed setup acts stop' → stop < stop' → ⊥

@@ -103,7 +103,7 @@ module _ (site : Site) (is : IsSite site) (words after : ℕ → ℕ) (took took
 
   -- ---- what the run knows afterwards
 
-  module _ (on : Offered site words took) (shows : ShowsTaken site words took) (k : Knows site words took walk) (deed : Deed site words took after took') (entry : Entry) (listed : IsEntry site.entries walk.next entry) where
+  module _ (on : Offered site words took) (shows : ShowsTaken site words took walk.next) (k : Knows site words took walk) (deed : Deed site words took after took') (entry : Entry) (listed : IsEntry site.entries walk.next entry) where
     leaves : Later entry (view_in site words took walk.next entry) (view_in site after took' walk.next entry)
     leaves = all_later site is words took after took' deed on.lives walk.next entry listed
 
@@ -155,7 +155,7 @@ module _ (site : Site) (is : IsSite site) (words after : ℕ → ℕ) (took took
         subst (λ o. Knows site after took' (at_step (step_after_target o seen.before) walk)) (sym there)
         (elim (cases_eq seen.before (marked_word entry.to)) [
           | inl shown ↦ subst (λ b. Knows site after took' (at_step (if b then Succeed else Fail) walk)) (sym (eq-eqb seen.before (marked_word entry.to) shown))
-              (goes_on Succeed (knows_later Succeed entry _ _ leaves (past, shows walk.next entry listed (sym saw ∙ shown))))
+              (goes_on Succeed (knows_later Succeed entry _ _ leaves (past, shows entry listed (sym saw ∙ shown))))
           | inr other ↦ subst (λ b. Knows site after took' (at_step (if b then Succeed else Fail) walk)) (sym (ne_eqb seen.before (marked_word entry.to) other))
               (goes_on Fail (knows_later Fail entry _ _ leaves (past, λ open_. (not_taken (took walk.next) refl open_ (λ shown. other (saw ∙ shown)), λ shown. other (saw ∙ shown)))))
         ])
@@ -229,7 +229,7 @@ module _ (site : Site) (is : IsSite site) (words after : ℕ → ℕ) (took took
           ];
         })
 
-  pub helps_after : Offered site words took → ShowsTaken site words took → Knows site words took walk → IsMade (slow_request walk) words after seen → TookBy walk seen took took'
+  pub helps_after : Offered site words took → ShowsTaken site words took walk.next → Knows site words took walk → IsMade (slow_request walk) words after seen → TookBy walk seen took took'
       → Helps site after took' (slow_fed walk seen) (slow_execution walk seen)
   helps_after on shows k made t =
       let own = entry_at site.entries walk.next k.within in

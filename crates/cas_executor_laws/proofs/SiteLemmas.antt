@@ -1,6 +1,9 @@
 -- Each part of an offered block, and what its helpers know, through a step of anyone.
-use Rattle.std.proofs.Common.{◌≡◌, ◌≢◌, ◌∙◌, refl, sym, ℕ, zero, suc, ◌<◌, Bool, true, false, inl, inr, List, [], ◌∷◌, length, arith}
-use Rattle.std.proofs.lemmas.Bool.{cases_eq}
+use Rattle.std.proofs.Common.{◌≡◌, ◌≢◌, ◌∙◌, refl, sym, ℕ, zero, suc, ◌<◌, Bool, true, false, inl, inr, List, [], ◌∷◌, length, arith, ◌≤◌, ap}
+use Rattle.std.proofs.lemmas.Bool.{cases_eq, cases_lt}
+use Rattle.std.proofs.lemmas.Option.{slice_get_within}
+use Rattle.word_fields.specs.Versioned.{versioned_bit}
+use Rattle.word_fields.proofs.VersionedLemmas.{bit_below}
 use Rattle.normal_traits.specs.declared.lists.Entry.{Entry}
 use Rattle.cas_executor.specs.declared.fast_run.Execution.{Execution}
 use Rattle.cas_executor.specs.declared.fast_run.Execution.TheVariants.{Running, Stopped}
@@ -8,9 +11,9 @@ use Rattle.cas_executor.specs.declared.slow_run.SlowStep.{SlowStep}
 use Rattle.cas_executor.specs.declared.slow_run.SlowStep.TheVariants.{LoadState, Install, LoadTarget, Succeed, Fail, LoadDecision, Clear}
 use Rattle.cas_executor.specs.SlowRuns.{SlowWalk, state_place}
 use Rattle.cas_executor_laws.specs.ExecRuns.{IsEntry}
-use Rattle.cas_executor_laws.specs.Entries.{View, WasSeen, Life, LeavesBit, Later}
-use Rattle.cas_executor_laws.specs.Parts.{Site, IsSite, OfEach, InOrder, Offered, OwnsBits, Deed, IsDone, KnowsEntry, AreDone, Knows, KnowsStop, Helps, view_in}
-use Rattle.cas_executor_laws.proofs.EntryLemmas.{true≢false, later, seen_turned, life_turned, bit_turned}
+use Rattle.cas_executor_laws.specs.Entries.{View, WasSeen, Life, LeavesBit, Later, IsShown}
+use Rattle.cas_executor_laws.specs.Parts.{Site, IsSite, OfEach, InOrder, Offered, OwnsBits, Deed, IsDone, KnowsEntry, AreDone, Knows, KnowsStop, Helps, view_in, ShowsTaken}
+use Rattle.cas_executor_laws.proofs.EntryLemmas.{shown_bit, true≢false, later, seen_turned, life_turned, bit_turned}
 
 -- a place in a list has an entry
 pub entry_at : (entries : List Entry) (j : ℕ) → j < length entries → (entry : Entry) × IsEntry entries j entry
@@ -39,6 +42,54 @@ knows_later Clear entry old new l k = (l.past k.0, l.decided (λ e. absurd (omeg
 pub done_later : (entry : Entry) (old new : View) → Later entry old new → IsDone entry old → IsDone entry new
 done_later entry old new l d =
     record { succeeded = l.decided (λ e. absurd (omega (arith, e, d.succeeded))) ∙ d.succeeded; past = l.past d.past; gone = l.gone d.past d.gone }
+
+-- ---- one memory
+
+module _ (site : Site) (is : IsSite site) (words : ℕ → ℕ) (took : ℕ → Bool) where
+  -- a shown entry took effect: while only the block's helpers set bits at its targets
+  pub shows_by_bits : OwnsBits site words took → (j : ℕ) → ShowsTaken site words took j
+  shows_by_bits owns j entry listed shown = (owns j entry listed).took (shown_bit entry (is.raised j entry listed) (words entry.target) shown)
+
+  -- and whatever others do, once it is decided
+  pub shows_by_decision : OfEach site Life words took → (j : ℕ) → words (state_place site.block j) ≢ 0 → ShowsTaken site words took j
+  shows_by_decision lives j decided entry listed shown = by_state (words (state_place site.block j)) refl life.known
+    where
+      life : Life entry (view_in site words took j entry)
+      life = lives j entry listed
+      by_state : (n : ℕ) → words (state_place site.block j) ≡ n → n ≤ 2 → took j ≡ true
+      by_state zero e small = absurd (decided e)
+      by_state (suc zero) e small = life.succeeded e
+      by_state (suc (suc zero)) e small = absurd (life.failed_gone e shown)
+      by_state (suc (suc (suc n))) e small = absurd (omega arith)
+
+  -- where a run stopped, no entry is shown that took effect
+  pub stop_hides : Offered site words took → (stop : ℕ) → KnowsStop site words took stop → (j : ℕ) (entry : Entry) → IsEntry site.entries j entry → took j ≡ true → ¬ IsShown entry (view_in site words took j entry)
+  stop_hides on stop k j entry listed taken =
+      elim (cases_lt j stop) [
+        | inl before ↦ (k.done j entry listed before).gone
+        | inr from ↦ absurd (not_taken from)
+      ]
+    where
+      within : j < length site.entries
+      within = slice_get_within site.entries j entry listed
+      failed : stop ≤ j → words (state_place site.block stop) ≡ 2
+      failed from = k.failed (omega (arith, from, within))
+      not_taken : stop ≤ j → ⊥
+      not_taken from =
+          elim (cases_eq j stop) [
+            | inl same ↦ true≢false (took j) taken ((on.lives j entry listed).failed (ap (λ i. words (state_place site.block i)) same ∙ failed from))
+            | inr apart ↦ absurd (omega (arith, failed from, (on.order j within).taken taken stop (omega (arith, from, apart))))
+          ]
+
+  -- so no bit is left at its targets
+  pub stop_clears : Offered site words took → OwnsBits site words took → (stop : ℕ) → KnowsStop site words took stop → (j : ℕ) (entry : Entry) → IsEntry site.entries j entry → versioned_bit (words entry.target) ≡ 0
+  stop_clears on owns stop k j entry listed =
+      elim (cases_eq (versioned_bit (words entry.target)) 1) [
+        | inl set ↦ absurd (stop_hides on stop k j entry listed ((owns j entry listed).took set) ((owns j entry listed).shown set))
+        | inr unset ↦ omega (arith, unset, bit_below (words entry.target))
+      ]
+
+-- ---- a step
 
 module _ (site : Site) (is : IsSite site) (words : ℕ → ℕ) (took : ℕ → Bool) (after : ℕ → ℕ) (took' : ℕ → Bool) where
   -- ---- the parts

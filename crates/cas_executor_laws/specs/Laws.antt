@@ -138,3 +138,10 @@ StopsAgree =
     (setup : ExecSetup) (newer older : List Act) (at at' stop stop' : ℕ) (helper helper' : Helping) → AreOf setup older → AreActs setup (newer ++ older)
     → slice_get (world_of setup older).helpers at ≡ Some helper → helper.execution ≡ Stopped stop
     → slice_get (world_of setup (newer ++ older)).helpers at' ≡ Some helper' → helper'.execution ≡ Stopped stop' → stop ≡ stop'
+
+-- where a helper has stopped, no target has its bit set
+abbrev pub StopsClear : Type 0
+StopsClear =
+    (setup : ExecSetup) (acts : List Act) (at stop j : ℕ) (helper : Helping) (entry : Entry) → AreOf setup acts
+    → slice_get (world_of setup acts).helpers at ≡ Some helper → helper.execution ≡ Stopped stop → IsEntry setup.entries j entry
+    → versioned_bit (target_word setup acts entry) ≡ 0

@@ -55,9 +55,9 @@ pub record Offered (site : Site) (words : ℕ → ℕ) (took : ℕ → Bool) : T
 abbrev pub OwnsBits : Site → (ℕ → ℕ) → (ℕ → Bool) → Type 0
 OwnsBits site words took = OfEach site OwnsBit words took
 
--- what a helper needs of it: a shown entry took effect
-abbrev pub ShowsTaken : Site → (ℕ → ℕ) → (ℕ → Bool) → Type 0
-ShowsTaken site words took = OfEach site (λ entry view. IsShown entry view → view.took ≡ true) words took
+-- what a helper at entry j needs: shown, the entry took effect
+abbrev pub ShowsTaken : Site → (ℕ → ℕ) → (ℕ → Bool) → ℕ → Type 0
+ShowsTaken site words took j = (entry : Entry) → IsEntry site.entries j entry → IsShown entry (view_in site words took j entry) → took j ≡ true
 
 -- ---- steps
 

@@ -1,5 +1,5 @@
 //! What holds of every world after any acts: steps of its helpers, and changes of its targets by others.
-ghost use Rattle.cas_executor_laws.specs.Laws.{BehindWaits, BitsBelong, EarlierDone, FailedNever, FailureIsSeen, NeverFromAgain, PendingShows, StopsAgree, StopsAtFirstFailed, SucceededTook, SuccessIsSeen, WinsOnce};
+ghost use Rattle.cas_executor_laws.specs.Laws.{BehindWaits, BitsBelong, EarlierDone, FailedNever, FailureIsSeen, NeverFromAgain, PendingShows, StopsAgree, StopsAtFirstFailed, StopsClear, SucceededTook, SuccessIsSeen, WinsOnce};
 
 /// The listed exchange of each entry wins at most once, whoever makes it.
 pub fn wins_once()
@@ -58,7 +58,12 @@ pub fn stops_at_first_failed()
     ensures { StopsAtFirstFailed }
 {}
 
-/// All helpers that stop give the same place.
+/// All helpers that stop give the same place, whenever they stop.
 pub fn stops_agree()
     ensures { StopsAgree }
+{}
+
+/// Where a helper has stopped, no target has its bit set.
+pub fn stops_clear()
+    ensures { StopsClear }
 {}
