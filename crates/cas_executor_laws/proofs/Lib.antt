@@ -11,3 +11,4 @@ pub mod Laters
 pub mod LawLemmas
 pub mod WorldSteps
 pub mod Openings
+pub mod ReadLemmas

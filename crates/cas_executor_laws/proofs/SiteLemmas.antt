@@ -56,6 +56,7 @@ module _ (site : Site) (is : IsSite site) (words : ℕ → ℕ) (took : ℕ → 
     where
       life : Life entry (view_in site words took j entry)
       life = lives j entry listed
+
       by_state : (n : ℕ) → words (state_place site.block j) ≡ n → n ≤ 2 → took j ≡ true
       by_state zero e small = absurd (decided e)
       by_state (suc zero) e small = life.succeeded e
@@ -72,8 +73,10 @@ module _ (site : Site) (is : IsSite site) (words : ℕ → ℕ) (took : ℕ → 
     where
       within : j < length site.entries
       within = slice_get_within site.entries j entry listed
+
       failed : stop ≤ j → words (state_place site.block stop) ≡ 2
       failed from = k.failed (omega (arith, from, within))
+
       not_taken : stop ≤ j → ⊥
       not_taken from =
           elim (cases_eq j stop) [

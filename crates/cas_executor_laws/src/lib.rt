@@ -5,6 +5,7 @@ pub use worlds::ExecWorld;
 
 mod helpers;
 pub mod laws;
+pub mod reads;
 #[cfg(test)]
 mod tests;
 pub mod worlds;
