@@ -136,8 +136,8 @@ slow_fed walk seen = fed_at walk.step walk seen
 -- the run stops at its entry, by what it saw: its state is failed, or the look after the decision doesn't show
 -- that it succeeded
 abbrev pub StopsHere : SlowStep → ℕ → Type 0
-StopsHere LoadState word = (word ≢ 0) × (word ≢ 1)
-StopsHere LoadDecision word = word ≢ 1
+StopsHere LoadState word = entry_state word ≡ Failed
+StopsHere LoadDecision word = entry_state word ≢ Succeeded
 StopsHere _ word = ⊥
 
 -- the run has cleared the last entry

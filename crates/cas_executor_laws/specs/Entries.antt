@@ -3,6 +3,8 @@
 use Rattle.std.specs.Prelude.{◌≡◌, ◌≢◌, ℕ, ◌+◌, ◌<◌, ◌≤◌, Bool, true, false, ◌⊎◌}
 use Rattle.word_fields.specs.Versioned.{versioned_bit, versioned_version, marked_word, cleared_word}
 use Rattle.normal_traits.specs.declared.lists.Entry.{Entry}
+use Rattle.cas_executor.specs.declared.slow_run.EntryState.TheVariants.{Pending, Succeeded, Failed}
+use Rattle.cas_executor.specs.SlowRuns.{state_word}
 
 -- both words of an entry have their bits clear, and `to` is one version above `from`
 pub record IsRaised (entry : Entry) : Type 0 where
@@ -30,16 +32,16 @@ IsShown entry view = view.word ≡ marked_word entry.to
 abbrev pub WasSeen : Entry → View → Type 0
 WasSeen entry view = (view.word ≡ entry.from) ⊎ IsPast entry view
 
--- The life of an entry: pending (0) and not taken; pending and taken, which its target shows; succeeded (1), and
--- taken; failed (2), not taken, and the target neither is `from` nor shows the entry.
+-- The life of an entry: pending and not taken; pending and taken, which its target shows; succeeded, and taken;
+-- failed, not taken, and the target is past `from` and doesn't show the entry.
 pub record Life (entry : Entry) (view : View) : Type 0 where
-  pub known : view.state ≤ 2
+  pub known : view.state ≤ state_word Failed
   pub taken : view.took ≡ true → IsPast entry view
-  pub pending : view.state ≡ 0 → view.took ≡ true → IsShown entry view
-  pub succeeded : view.state ≡ 1 → view.took ≡ true
-  pub failed : view.state ≡ 2 → view.took ≡ false
-  pub failed_past : view.state ≡ 2 → IsPast entry view
-  pub failed_gone : view.state ≡ 2 → ¬ IsShown entry view
+  pub pending : view.state ≡ state_word Pending → view.took ≡ true → IsShown entry view
+  pub succeeded : view.state ≡ state_word Succeeded → view.took ≡ true
+  pub failed : view.state ≡ state_word Failed → view.took ≡ false
+  pub failed_past : view.state ≡ state_word Failed → IsPast entry view
+  pub failed_gone : view.state ≡ state_word Failed → ¬ IsShown entry view
 
 -- a set bit of the target is that of this entry, which took effect
 pub record OwnsBit (entry : Entry) (view : View) : Type 0 where
@@ -60,13 +62,13 @@ pub data Turn (entry : Entry) (old new : View) : Type 0 where
   -- its listed exchange wins
   installs : old.word ≡ entry.from → new.word ≡ marked_word entry.to → new.state ≡ old.state → new.took ≡ true → Turn entry old new
   -- it is decided that it succeeded
-  succeeds : old.state ≡ 0 → old.took ≡ true → new.state ≡ 1 → new.word ≡ old.word → new.took ≡ old.took → Turn entry old new
+  succeeds : old.state ≡ state_word Pending → old.took ≡ true → new.state ≡ state_word Succeeded → new.word ≡ old.word → new.took ≡ old.took → Turn entry old new
   -- it is decided that it failed
-  fails : old.state ≡ 0 → old.took ≡ false → IsPast entry old → ¬ IsShown entry old → new.state ≡ 2 → new.word ≡ old.word → new.took ≡ old.took → Turn entry old new
+  fails : old.state ≡ state_word Pending → old.took ≡ false → IsPast entry old → ¬ IsShown entry old → new.state ≡ state_word Failed → new.word ≡ old.word → new.took ≡ old.took → Turn entry old new
   -- its bit is cleared
-  clears : old.state ≡ 1 → IsShown entry old → new.word ≡ entry.to → new.state ≡ old.state → new.took ≡ old.took → Turn entry old new
+  clears : old.state ≡ state_word Succeeded → IsShown entry old → new.word ≡ entry.to → new.state ≡ old.state → new.took ≡ old.took → Turn entry old new
   -- others change its target, which doesn't show it as taken and undecided
-  moves : Moves old.word new.word → (old.state ≡ 0 → old.took ≡ true → new.word ≡ old.word) → new.state ≡ old.state → new.took ≡ old.took → Turn entry old new
+  moves : Moves old.word new.word → (old.state ≡ state_word Pending → old.took ≡ true → new.word ≡ old.word) → new.state ≡ old.state → new.took ≡ old.took → Turn entry old new
 
 -- others leave no bit of their own at the target
 abbrev pub LeavesBit : (entry : Entry) (old new : View) → Turn entry old new → Type 0
@@ -76,7 +78,7 @@ LeavesBit entry old new _ = Unit {0}
 -- what every step leaves of an entry: a decision, that it took effect, and that its target is past `from` stay;
 -- past `from` it doesn't take effect any more, and isn't shown again
 pub record Later (entry : Entry) (old new : View) : Type 0 where
-  pub decided : old.state ≢ 0 → new.state ≡ old.state
+  pub decided : old.state ≢ state_word Pending → new.state ≡ old.state
   pub taken : old.took ≡ true → new.took ≡ true
   pub past : IsPast entry old → IsPast entry new
   pub gone : IsPast entry old → ¬ IsShown entry old → ¬ IsShown entry new

@@ -7,9 +7,10 @@ use Rattle.step_memory.specs.Step.{place_of, word_after, seen_at}
 use Rattle.normal_traits.specs.declared.lists.Entry.{Entry}
 use Rattle.cas_executor.specs.declared.fast_run.Execution.{Execution}
 use Rattle.cas_executor.specs.declared.fast_run.Execution.TheVariants.{Running, Stopped}
+use Rattle.cas_executor.specs.declared.slow_run.EntryState.TheVariants.{Pending, Succeeded, Failed}
 use Rattle.cas_executor.specs.declared.slow_run.SlowStep.{SlowStep}
 use Rattle.cas_executor.specs.declared.slow_run.SlowStep.TheVariants.{LoadState, Install, LoadTarget, Succeed, Fail, LoadDecision, Clear}
-use Rattle.cas_executor.specs.SlowRuns.{SlowWalk, installs, state_place}
+use Rattle.cas_executor.specs.SlowRuns.{SlowWalk, installs, state_place, state_word}
 use Rattle.cas_executor_laws.specs.ExecRuns.{IsEntry, HasOwnTargets}
 use Rattle.cas_executor_laws.specs.Entries.{IsRaised, View, IsPast, IsShown, WasSeen, Life, OwnsBit, Turn, LeavesBit}
 
@@ -39,8 +40,8 @@ OfEach site P words took = (j : ℕ) (entry : Entry) → IsEntry site.entries j 
 
 -- an entry that took effect, or is decided, stands behind entries that succeeded
 pub record IsBehind (site : Site) (words : ℕ → ℕ) (took : ℕ → Bool) (j : ℕ) : Type 0 where
-  pub taken : took j ≡ true → (i : ℕ) → i < j → words (state_place site.block i) ≡ 1
-  pub decided : words (state_place site.block j) ≢ 0 → (i : ℕ) → i < j → words (state_place site.block i) ≡ 1
+  pub taken : took j ≡ true → (i : ℕ) → i < j → words (state_place site.block i) ≡ state_word Succeeded
+  pub decided : words (state_place site.block j) ≢ state_word Pending → (i : ℕ) → i < j → words (state_place site.block i) ≡ state_word Succeeded
 
 abbrev pub InOrder : Site → (ℕ → ℕ) → (ℕ → Bool) → Type 0
 InOrder site words took = (j : ℕ) → j < length site.entries → IsBehind site words took j
@@ -65,8 +66,8 @@ ShowsTaken site words took j = (entry : Entry) → IsEntry site.entries j entry 
 -- entries that succeeded
 pub record Deed (site : Site) (words : ℕ → ℕ) (took : ℕ → Bool) (after : ℕ → ℕ) (took' : ℕ → Bool) : Type 0 where
   pub turns : (j : ℕ) (entry : Entry) → IsEntry site.entries j entry → Turn entry (view_in site words took j entry) (view_in site after took' j entry)
-  pub taken : (j : ℕ) → j < length site.entries → took' j ≢ took j → (i : ℕ) → i < j → words (state_place site.block i) ≡ 1
-  pub decided : (j : ℕ) → j < length site.entries → after (state_place site.block j) ≢ words (state_place site.block j) → (i : ℕ) → i < j → words (state_place site.block i) ≡ 1
+  pub taken : (j : ℕ) → j < length site.entries → took' j ≢ took j → (i : ℕ) → i < j → words (state_place site.block i) ≡ state_word Succeeded
+  pub decided : (j : ℕ) → j < length site.entries → after (state_place site.block j) ≢ words (state_place site.block j) → (i : ℕ) → i < j → words (state_place site.block i) ≡ state_word Succeeded
 
 -- what an atomic step does to a memory that has its place, and what it tells
 pub record IsMade (request : Request) (words after : ℕ → ℕ) (seen : Seen) : Type 0 where
@@ -78,7 +79,7 @@ pub record IsMade (request : Request) (words after : ℕ → ℕ) (seen : Seen) 
 
 -- an entry is done: it succeeded, and its bit is clear for good
 pub record IsDone (entry : Entry) (view : View) : Type 0 where
-  pub succeeded : view.state ≡ 1
+  pub succeeded : view.state ≡ state_word Succeeded
   pub past : IsPast entry view
   pub gone : ¬ IsShown entry view
 
@@ -88,9 +89,9 @@ KnowsEntry LoadState entry view = Unit {0}
 KnowsEntry Install entry view = Unit {0}
 KnowsEntry LoadTarget entry view = IsPast entry view
 KnowsEntry Succeed entry view = IsPast entry view × (view.took ≡ true)
-KnowsEntry Fail entry view = IsPast entry view × (view.state ≡ 0 → (view.took ≡ false) × (¬ IsShown entry view))
-KnowsEntry LoadDecision entry view = IsPast entry view × (view.state ≢ 0)
-KnowsEntry Clear entry view = IsPast entry view × (view.state ≡ 1)
+KnowsEntry Fail entry view = IsPast entry view × (view.state ≡ state_word Pending → (view.took ≡ false) × (¬ IsShown entry view))
+KnowsEntry LoadDecision entry view = IsPast entry view × (view.state ≢ state_word Pending)
+KnowsEntry Clear entry view = IsPast entry view × (view.state ≡ state_word Succeeded)
 
 -- the entries before one are done
 abbrev pub AreDone : Site → (ℕ → ℕ) → (ℕ → Bool) → ℕ → Type 0
@@ -108,7 +109,7 @@ pub record Knows (site : Site) (words : ℕ → ℕ) (took : ℕ → Bool) (walk
 pub record KnowsStop (site : Site) (words : ℕ → ℕ) (took : ℕ → Bool) (stop : ℕ) : Type 0 where
   pub within : stop ≤ length site.entries
   pub done : AreDone site words took stop
-  pub failed : stop < length site.entries → words (state_place site.block stop) ≡ 2
+  pub failed : stop < length site.entries → words (state_place site.block stop) ≡ state_word Failed
 
 -- what a helper knows
 abbrev pub Helps : Site → (ℕ → ℕ) → (ℕ → Bool) → SlowWalk → Execution → Type 0
