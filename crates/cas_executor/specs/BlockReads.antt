@@ -78,8 +78,8 @@ abbrev pub read_fed : ReadWalk → Seen → ReadWalk
 read_fed walk seen = read_at walk.step walk seen.before
 
 -- the next word is the last one
-abbrev pub is_last : ReadWalk → Type 0
-is_last walk = (walk.step ≡ To) × (length walk.entries + 1 ≡ walk.count)
+abbrev pub IsLast : ReadWalk → Type 0
+IsLast walk = (walk.step ≡ To) × (length walk.entries + 1 ≡ walk.count)
 
 abbrev pub given_at : ReadStep → ReadWalk → ℕ → Option (ℕ × ℕ × ArrayVec Entry)
 given_at To walk word =

@@ -27,9 +27,9 @@ state_word Failed = 2
 abbrev pub entry_state : ℕ → EntryState
 entry_state word = if word == 0 then Pending else (if word == 1 then Succeeded else Failed)
 
--- the place of the state of an entry of a block
+-- the place of the state of entry j of a block
 abbrev pub state_place : ℕ → ℕ → ℕ
-state_place block entry = block_place block (STATE_FIELD + entry)
+state_place block j = block_place block (STATE_FIELD + j)
 
 -- ---- a run
 
@@ -56,15 +56,15 @@ past_entry walk = record walk { next = walk.next + 1; step = LoadState }
 
 -- ---- requests
 
--- what a step on an entry asks for
+-- what a step on entry j of a block asks for
 abbrev pub step_request : ℕ → ℕ → Entry → SlowStep → Request
-step_request block entry e LoadState = Load (state_place block entry)
-step_request block entry e Install = Exchange e.target e.from (marked_word e.to)
-step_request block entry e LoadTarget = Load e.target
-step_request block entry e Succeed = Exchange (state_place block entry) (state_word Pending) (state_word Succeeded)
-step_request block entry e Fail = Exchange (state_place block entry) (state_word Pending) (state_word Failed)
-step_request block entry e LoadDecision = Load (state_place block entry)
-step_request block entry e Clear = Exchange e.target (marked_word e.to) e.to
+step_request block j entry LoadState = Load (state_place block j)
+step_request block j entry Install = Exchange entry.target entry.from (marked_word entry.to)
+step_request block j entry LoadTarget = Load entry.target
+step_request block j entry Succeed = Exchange (state_place block j) (state_word Pending) (state_word Succeeded)
+step_request block j entry Fail = Exchange (state_place block j) (state_word Pending) (state_word Failed)
+step_request block j entry LoadDecision = Load (state_place block j)
+step_request block j entry Clear = Exchange entry.target (marked_word entry.to) entry.to
 
 abbrev pub request_at : SlowWalk → Option Entry → Request
 request_at walk None = Load 0
@@ -81,15 +81,15 @@ installs _ = false
 
 -- ---- what has come of a step
 
--- the place where the run stops, if the entry has this state at its first look: it goes on but for a failed one
+-- what comes of the first look at the state of entry j: the run goes on but for a failed one
 abbrev pub looked : EntryState → ℕ → Execution
-looked Failed entry = Stopped entry
-looked _ entry = Running
+looked Failed j = Stopped j
+looked _ j = Running
 
--- and at its look after the decision: it goes on only for one that succeeded
+-- and of the look after the decision: it goes on only for one that succeeded
 abbrev pub decided : EntryState → ℕ → Execution
-decided Succeeded entry = Running
-decided _ entry = Stopped entry
+decided Succeeded j = Running
+decided _ j = Stopped j
 
 abbrev pub execution_at : SlowStep → SlowWalk → Seen → Execution
 execution_at LoadState walk seen = looked (entry_state seen.before) walk.next

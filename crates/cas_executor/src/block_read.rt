@@ -1,6 +1,6 @@
 //! Reading a block that was offered.
 ghost use Rattle.std.specs.Prelude.{◌≡◌, ℕ, ◌<◌, ◌^◌, ◌↔◌};
-ghost use Rattle.cas_executor.specs.BlockReads.{ReadWalk, IsReading, given_at, is_last, read_at, read_fed, read_new, read_request, read_result};
+ghost use Rattle.cas_executor.specs.BlockReads.{ReadWalk, IsReading, given_at, IsLast, read_at, read_fed, read_new, read_request, read_result};
 
 use node_arena::place_of;
 use node_arena::places::{ENTRY_FIELD, ENTRY_FIELDS, LENGTH_FIELD, OP_FIELD, VALUE_FIELD};
@@ -93,7 +93,7 @@ impl BlockRead {
         ensures given { result ≡ read_result self.old seen }
         ensures read { result ≡ None → self.new ≡ read_fed self.old seen }
         ensures reading { result ≡ None → IsReading self.new }
-        ensures last { result ≡ None ↔ (is_last self.old → ⊥) }
+        ensures last { result ≡ None ↔ (IsLast self.old → ⊥) }
     {
         let word = seen.before;
         match self.step {

@@ -2,6 +2,7 @@
 use Rattle.std.proofs.Common.{◌≡◌, ◌≢◌, ◌∙◌, refl, sym, ap, subst, ℕ, zero, suc, ◌+◌, ◌<◌, ◌≤◌, ◌==◌, if◌then◌else◌, Bool, true, false, nat_lt, inl, inr, List, [], ◌∷◌, length, length-set, Some, slice_get, slice_index, slice_set, arith}
 use Rattle.std.proofs.lemmas.Bool.{cases_eq, eq-eqb, ne_eqb, lt-ltb}
 use Rattle.std.proofs.lemmas.Option.{slice_get_within}
+use Rattle.step_memory.specs.declared.steps.Seen.{Seen}
 use Rattle.step_memory.specs.Step.{place_of, words_after, seen_of}
 use Rattle.step_memory.proofs.Words.{length-words_after}
 use Rattle.word_fields.specs.Versioned.{versioned_bit, versioned_version, changed_word}
@@ -16,7 +17,7 @@ use Rattle.cas_executor_laws.specs.ExecRuns.Act.{Steps, Changes}
 use Rattle.cas_executor_laws.specs.Entries.{Later}
 use Rattle.cas_executor_laws.specs.Entries.Turn.{stays, moves}
 use Rattle.cas_executor_laws.specs.Entries.Moves.{raised}
-use Rattle.cas_executor_laws.specs.Parts.{Offered, OwnsBits, OwnDeed, IsMade, Knows, Helps, ShowsTaken, TookBy, view_in}
+use Rattle.cas_executor_laws.specs.Parts.{Offered, OwnsBits, OwnDeed, IsMade, Knows, Helps, ShowsTaken, TookBy, view_in, Site, IsSite}
 use Rattle.cas_executor_laws.proofs.EntryLemmas.{true≢false, at_from, shown_bit}
 use Rattle.cas_executor_laws.proofs.SiteLemmas.{all_later, shows_by_bits, entry_at, offered_kept, bits_kept, helps_kept}
 use Rattle.cas_executor_laws.proofs.RunTurns.{OwnTurn}
@@ -26,6 +27,17 @@ use Rattle.cas_executor_laws.proofs.RunLemmas.{deed_of, helps_after, request_is}
 use Rattle.cas_executor_laws.proofs.Sets.{at_set, beside_set, some_same, copy_at, all_three, first_fails, second_fails, third_fails, each_of_three}
 use Rattle.cas_executor_laws.proofs.Memories.{memory_of, step_made, word_set, word_beside}
 use Rattle.cas_executor_laws.proofs.WorldSites.{site_of, is_site, step_inside}
+
+-- what a helper's step sees, and the words that it leaves
+abbrev pub seen_by : Helping → List ℕ → Seen
+seen_by helper words = seen_of (slow_request helper.walk) words
+
+abbrev pub left_by : Helping → List ℕ → List ℕ
+left_by helper words = words_after (slow_request helper.walk) words
+
+-- the words after a change by someone else
+abbrev pub changed_at : List ℕ → ℕ → ℕ → List ℕ
+changed_at words at value = slice_set words at (changed_word (slice_index words at) value)
 
 -- which entries took effect, by how often the listed exchange of each has won
 abbrev pub took_of : (ℕ → ℕ) → ℕ → Bool
@@ -122,26 +134,46 @@ is_install Clear e = absurd cc
 -- ---- a step of a helper
 
 module _ (setup : ExecSetup) (can : CanOpen setup) (state : ExecState) (count : ℕ → ℕ) (k : Kept setup state count) where
-  shows : (j : ℕ) → ShowsTaken (site_of setup) (memory_of state.words) (took_of count) j
-  shows j = shows_by_bits (site_of setup) (is_site setup can) (memory_of state.words) (took_of count) k.bits j
+  abbrev site : Site
+  site = site_of setup
+
+  abbrev was : ℕ → ℕ
+  was = memory_of state.words
+
+  abbrev took_before : ℕ → Bool
+  took_before = took_of count
+
+  good : IsSite (site_of setup)
+  good = is_site setup can
+
+  shows : (j : ℕ) → ShowsTaken site was took_before j
+  shows j = shows_by_bits site good was took_before k.bits j
 
   module _ (at : ℕ) (helper : Helping) (here : slice_get state.helpers at ≡ Some helper) (running : helper.execution ≡ Running) where
-    knows : Knows (site_of setup) (memory_of state.words) (took_of count) helper.walk
-    knows = subst (λ e. Helps (site_of setup) (memory_of state.words) (took_of count) helper.walk e) running (k.helps at helper here)
+    abbrev seen : Seen
+    seen = seen_by helper state.words
+
+    abbrev now : ℕ → ℕ
+    now = memory_of (left_by helper state.words)
+
+    abbrev took_now : ℕ → Bool
+    took_now = took_of (counted helper state.words count)
+
+    knows : Knows site was took_before helper.walk
+    knows = subst (λ e. Helps site was took_before helper.walk e) running (k.helps at helper here)
 
     inside : place_of (slow_request helper.walk) < length state.words
     inside =
         let own = entry_at setup.entries helper.walk.next knows.within in
-        let asks = request_is (site_of setup) (is_site setup can) (memory_of state.words) (memory_of state.words) (took_of count) (took_of count) helper.walk (seen_of (slow_request helper.walk) state.words) knows own.0 own.1 in
+        let asks = request_is site good was was took_before took_before helper.walk seen knows own.0 own.1 in
         subst (λ n. place_of (slow_request helper.walk) < n) (sym k.room)
         (subst (λ r. place_of r < length setup.words) (sym asks) (step_inside setup can helper.walk.next own.0 knows.within own.1 helper.walk.step))
 
-    made : IsMade (slow_request helper.walk) (memory_of state.words) (memory_of (words_after (slow_request helper.walk) state.words)) (seen_of (slow_request helper.walk) state.words)
+    made : IsMade (slow_request helper.walk) was now seen
     made = step_made (slow_request helper.walk) state.words inside
 
-    took_by : TookBy helper.walk (seen_of (slow_request helper.walk) state.words) (took_of count) (took_of (counted helper state.words count))
+    took_by : TookBy helper.walk seen took_before took_now
     took_by =
-        let seen = seen_of (slow_request helper.walk) state.words in
         let more = λ (j : ℕ) (b : Bool). nat_lt 0 (if b then count j + 1 else count j) in
         let next = helper.walk.next in
         record {
@@ -153,57 +185,57 @@ module _ (setup : ExecSetup) (can : CanOpen setup) (state : ExecState) (count : 
           ];
         }
 
-    own : OwnDeed (site_of setup) (memory_of state.words) (took_of count) (memory_of (words_after (slow_request helper.walk) state.words)) (took_of (counted helper state.words count))
-    own = deed_of (site_of setup) (is_site setup can) (memory_of state.words) (memory_of (words_after (slow_request helper.walk) state.words)) (took_of count) (took_of (counted helper state.words count)) helper.walk (seen_of (slow_request helper.walk) state.words) knows made took_by
+    own : OwnDeed site was took_before now took_now
+    own = deed_of site good was now took_before took_now helper.walk seen knows made took_by
 
-    helps_now : Helps (site_of setup) (memory_of (words_after (slow_request helper.walk) state.words)) (took_of (counted helper state.words count)) (slow_fed helper.walk (seen_of (slow_request helper.walk) state.words)) (slow_execution helper.walk (seen_of (slow_request helper.walk) state.words))
-    helps_now = helps_after (site_of setup) (is_site setup can) (memory_of state.words) (memory_of (words_after (slow_request helper.walk) state.words)) (took_of count) (took_of (counted helper state.words count)) helper.walk (seen_of (slow_request helper.walk) state.words) k.offered (shows helper.walk.next) knows made took_by
+    helps_now : Helps site now took_now (slow_fed helper.walk seen) (slow_execution helper.walk seen)
+    helps_now = helps_after site good was now took_before took_now helper.walk seen k.offered (shows helper.walk.next) knows made took_by
 
     -- a listed exchange that wins finds an entry that hasn't taken effect
-    first_win : installs helper.walk.step ≡ true → (seen_of (slow_request helper.walk) state.words).won ≡ true → count helper.walk.next ≡ 0
+    first_win : installs helper.walk.step ≡ true → seen.won ≡ true → count helper.walk.next ≡ 0
     first_win listed win =
         let at_entry = entry_at setup.entries helper.walk.next knows.within in
-        let asks = request_is (site_of setup) (is_site setup can) (memory_of state.words) (memory_of state.words) (took_of count) (took_of count) helper.walk (seen_of (slow_request helper.walk) state.words) knows at_entry.0 at_entry.1 in
+        let asks = request_is site good was was took_before took_before helper.walk seen knows at_entry.0 at_entry.1 in
         let exchange : slow_request helper.walk ≡ step_request setup.block helper.walk.next at_entry.0 Install = asks ∙ ap (step_request setup.block helper.walk.next at_entry.0) (is_install helper.walk.step listed) in
-        let made' = subst (λ r. IsMade r (memory_of state.words) (memory_of (words_after (slow_request helper.walk) state.words)) (seen_of (slow_request helper.walk) state.words)) exchange made in
-        elim (exchange_did _ _ _ (memory_of state.words) (memory_of (words_after (slow_request helper.walk) state.words)) (seen_of (slow_request helper.walk) state.words) made') [
-          | won from there others saw ↦ count_none (count helper.walk.next) (at_from at_entry.0 ((is_site setup can).raised helper.walk.next at_entry.0 at_entry.1) (view_in (site_of setup) (memory_of state.words) (took_of count) helper.walk.next at_entry.0) (k.offered.lives helper.walk.next at_entry.0 at_entry.1) from).1
+        let made' = subst (λ r. IsMade r was now seen) exchange made in
+        elim (exchange_did _ _ _ was now seen made') [
+          | won from there others saw ↦ count_none (count helper.walk.next) (at_from at_entry.0 (good.raised helper.walk.next at_entry.0 at_entry.1) (view_in site was took_before helper.walk.next at_entry.0) (k.offered.lives helper.walk.next at_entry.0 at_entry.1) from).1
           | lost differs same saw ↦ absurd (true≢false _ win saw)
         ]
 
     counts_once : (j : ℕ) (b : Bool) → wins_by j (Some helper) state.words ≡ b → (if b then count j + 1 else count j) ≤ 1
     counts_once j false e = k.once j
     counts_once j true e =
-        let all = each_of_three (installs helper.walk.step) (helper.walk.next == j) (seen_of (slow_request helper.walk) state.words).won e in
+        let all = each_of_three (installs helper.walk.step) (helper.walk.next == j) seen.won e in
         elim (cases_eq helper.walk.next j) [
           | inl same ↦ omega (arith, first_win all.0 all.2, ap count same)
           | inr apart ↦ absurd (true≢false _ all.1 (ne_eqb helper.walk.next j apart))
         ]
 
-    helps_all : (i : ℕ) (other : Helping) → slice_get (slice_set state.helpers at (helper_fed helper (seen_of (slow_request helper.walk) state.words))) i ≡ Some other
-        → Helps (site_of setup) (memory_of (words_after (slow_request helper.walk) state.words)) (took_of (counted helper state.words count)) other.walk other.execution
+    helps_all : (i : ℕ) (other : Helping) → slice_get (slice_set state.helpers at (helper_fed helper seen)) i ≡ Some other
+        → Helps site now took_now other.walk other.execution
     helps_all i other there =
-        let fed = helper_fed helper (seen_of (slow_request helper.walk) state.words) in
+        let fed = helper_fed helper seen in
         elim (cases_eq i at) [
-          | inl same ↦ subst (λ (h : Helping). Helps (site_of setup) (memory_of (words_after (slow_request helper.walk) state.words)) (took_of (counted helper state.words count)) h.walk h.execution)
+          | inl same ↦ subst (λ (h : Helping). Helps site now took_now h.walk h.execution)
               (some_same fed other (sym (at_set state.helpers at fed (slice_get_within state.helpers at helper here)) ∙ subst (λ n. slice_get (slice_set state.helpers at fed) n ≡ Some other) same there))
               helps_now
-          | inr apart ↦ helps_kept (site_of setup) (is_site setup can) (memory_of state.words) (took_of count) (memory_of (words_after (slow_request helper.walk) state.words)) (took_of (counted helper state.words count)) own.deed k.offered.lives other.walk other.execution
+          | inr apart ↦ helps_kept site good was took_before now took_now own.deed k.offered.lives other.walk other.execution
               (k.helps i other (sym (beside_set state.helpers at i fed apart) ∙ there))
         ]
 
     -- what the step leaves of each entry
-    pub run_later : (j : ℕ) (entry : Entry) → IsEntry setup.entries j entry → Later entry (view_in (site_of setup) (memory_of state.words) (took_of count) j entry)
-        (view_in (site_of setup) (memory_of (stepped_by at (Some helper) state).words) (took_of (counted helper state.words count)) j entry)
-    run_later j entry listed = all_later (site_of setup) (is_site setup can) (memory_of state.words) (took_of count) (memory_of (words_after (slow_request helper.walk) state.words)) (took_of (counted helper state.words count)) own.deed k.offered.lives j entry listed
+    pub run_later : (j : ℕ) (entry : Entry) → IsEntry setup.entries j entry → Later entry (view_in site was took_before j entry)
+        (view_in site (memory_of (stepped_by at (Some helper) state).words) took_now j entry)
+    run_later j entry listed = all_later site good was took_before now took_now own.deed k.offered.lives j entry listed
 
     pub run_kept : Kept setup (stepped_by at (Some helper) state) (counted helper state.words count)
     run_kept =
         record {
           entries = k.entries;
           room = length-words_after (slow_request helper.walk) state.words ∙ k.room;
-          offered = offered_kept (site_of setup) (is_site setup can) (memory_of state.words) (took_of count) (memory_of (words_after (slow_request helper.walk) state.words)) (took_of (counted helper state.words count)) own.deed k.offered;
-          bits = bits_kept (site_of setup) (is_site setup can) (memory_of state.words) (took_of count) (memory_of (words_after (slow_request helper.walk) state.words)) (took_of (counted helper state.words count)) own.deed own.leaves k.bits;
+          offered = offered_kept site good was took_before now took_now own.deed k.offered;
+          bits = bits_kept site good was took_before now took_now own.deed own.leaves k.bits;
           helps = helps_all;
           once = λ j. counts_once j (wins_by j (Some helper) state.words) refl;
         }
@@ -211,6 +243,9 @@ module _ (setup : ExecSetup) (can : CanOpen setup) (state : ExecState) (count : 
   -- ---- a change by someone else
 
   module _ (at value : ℕ) (change : CanChange state at value) where
+    abbrev changed : ℕ → ℕ
+    changed = memory_of (changed_at state.words at value)
+
     listed_here : IsEntry setup.entries change.j change.entry
     listed_here = subst (λ es. IsEntry es change.j change.entry) k.entries change.listed
 
@@ -218,30 +253,30 @@ module _ (setup : ExecSetup) (can : CanOpen setup) (state : ExecState) (count : 
     at_inside = omega (arith, (can.listed change.j change.entry listed_here).inside, change.target, k.room)
 
     no_state : (j : ℕ) → j < length setup.entries → state_place setup.block j ≢ at
-    no_state j within e = (is_site setup can).outside j change.j change.entry (omega (arith, within, can.short.1)) listed_here (change.target ∙ sym e)
+    no_state j within e = good.outside j change.j change.entry (omega (arith, within, can.short.1)) listed_here (change.target ∙ sym e)
 
-    state_same : (j : ℕ) → j < length setup.entries → memory_of (slice_set state.words at (changed_word (slice_index state.words at) value)) (state_place setup.block j) ≡ memory_of state.words (state_place setup.block j)
+    state_same : (j : ℕ) → j < length setup.entries → memory_of (changed_at state.words at value) (state_place setup.block j) ≡ memory_of state.words (state_place setup.block j)
     state_same j within = word_beside state.words at (changed_word (slice_index state.words at) value) (state_place setup.block j) (no_state j within)
 
-    here_now : (place : ℕ) → place ≡ at → memory_of (slice_set state.words at (changed_word (slice_index state.words at) value)) place ≡ changed_word (slice_index state.words at) value
-    here_now place same = ap (memory_of (slice_set state.words at (changed_word (slice_index state.words at) value))) same ∙ word_set state.words at (changed_word (slice_index state.words at) value) at_inside
+    here_now : (place : ℕ) → place ≡ at → memory_of (changed_at state.words at value) place ≡ changed_word (slice_index state.words at) value
+    here_now place same = ap changed same ∙ word_set state.words at (changed_word (slice_index state.words at) value) at_inside
 
-    change_turn : (j : ℕ) (entry : Entry) → IsEntry setup.entries j entry → OwnTurn entry (view_in (site_of setup) (memory_of state.words) (took_of count) j entry) (view_in (site_of setup) (memory_of (slice_set state.words at (changed_word (slice_index state.words at) value))) (took_of count) j entry)
+    change_turn : (j : ℕ) (entry : Entry) → IsEntry setup.entries j entry → OwnTurn entry (view_in site was took_before j entry) (view_in site changed took_before j entry)
     change_turn j entry listed =
         let within = slice_get_within setup.entries j entry listed in
         elim (cases_eq entry.target at) [
-          | inl same ↦ (let was : memory_of state.words entry.target ≡ slice_index state.words at = ap (memory_of state.words) same in
-              let now = here_now entry.target same in
+          | inl same ↦ (let old_word : memory_of state.words entry.target ≡ slice_index state.words at = ap was same in
+              let new_word = here_now entry.target same in
               record {
-                turn = moves (raised (omega (arith, ap versioned_version was, ap versioned_version now, version-changed_below (slice_index state.words at) value change.small (omega (arith, change.below)))))
-                    (λ open_ is. absurd (omega (arith, change.clear, ap versioned_bit was, shown_bit entry ((is_site setup can).raised j entry listed) _ ((k.offered.lives j entry listed).pending open_ is))))
+                turn = moves (raised (omega (arith, ap versioned_version old_word, ap versioned_version new_word, version-changed_below (slice_index state.words at) value change.small (omega (arith, change.below)))))
+                    (λ open_ is. absurd (omega (arith, change.clear, ap versioned_bit old_word, shown_bit entry (good.raised j entry listed) _ ((k.offered.lives j entry listed).pending open_ is))))
                     (state_same j within) refl;
-                leaves = λ set. absurd (omega (arith, set, ap versioned_bit now, bit-changed (slice_index state.words at) value change.small));
+                leaves = λ set. absurd (omega (arith, set, ap versioned_bit new_word, bit-changed (slice_index state.words at) value change.small));
               })
           | inr apart ↦ record { turn = stays (state_same j within) (word_beside state.words at (changed_word (slice_index state.words at) value) entry.target apart) refl; leaves = tt }
         ]
 
-    change_deed : OwnDeed (site_of setup) (memory_of state.words) (took_of count) (memory_of (slice_set state.words at (changed_word (slice_index state.words at) value))) (took_of count)
+    change_deed : OwnDeed site was took_before changed took_before
     change_deed =
         record {
           deed = record {
@@ -253,18 +288,18 @@ module _ (setup : ExecSetup) (can : CanOpen setup) (state : ExecState) (count : 
         }
 
     -- what the change leaves of each entry
-    pub change_later : (j : ℕ) (entry : Entry) → IsEntry setup.entries j entry → Later entry (view_in (site_of setup) (memory_of state.words) (took_of count) j entry)
-        (view_in (site_of setup) (memory_of (acted (Changes at value) state).words) (took_of count) j entry)
-    change_later j entry listed = all_later (site_of setup) (is_site setup can) (memory_of state.words) (took_of count) (memory_of (slice_set state.words at (changed_word (slice_index state.words at) value))) (took_of count) change_deed.deed k.offered.lives j entry listed
+    pub change_later : (j : ℕ) (entry : Entry) → IsEntry setup.entries j entry → Later entry (view_in site was took_before j entry)
+        (view_in site (memory_of (acted (Changes at value) state).words) took_before j entry)
+    change_later j entry listed = all_later site good was took_before changed took_before change_deed.deed k.offered.lives j entry listed
 
     pub change_kept : Kept setup (acted (Changes at value) state) count
     change_kept =
         record {
           entries = k.entries;
           room = length-set state.words at (changed_word (slice_index state.words at) value) ∙ k.room;
-          offered = offered_kept (site_of setup) (is_site setup can) (memory_of state.words) (took_of count) (memory_of (slice_set state.words at (changed_word (slice_index state.words at) value))) (took_of count) change_deed.deed k.offered;
-          bits = bits_kept (site_of setup) (is_site setup can) (memory_of state.words) (took_of count) (memory_of (slice_set state.words at (changed_word (slice_index state.words at) value))) (took_of count) change_deed.deed change_deed.leaves k.bits;
-          helps = λ i other there. helps_kept (site_of setup) (is_site setup can) (memory_of state.words) (took_of count) (memory_of (slice_set state.words at (changed_word (slice_index state.words at) value))) (took_of count) change_deed.deed k.offered.lives other.walk other.execution (k.helps i other there);
+          offered = offered_kept site good was took_before changed took_before change_deed.deed k.offered;
+          bits = bits_kept site good was took_before changed took_before change_deed.deed change_deed.leaves k.bits;
+          helps = λ i other there. helps_kept site good was took_before changed took_before change_deed.deed k.offered.lives other.walk other.execution (k.helps i other there);
           once = k.once;
         }
 

@@ -11,8 +11,9 @@ use Rattle.cas_executor.specs.declared.slow_run.SlowStep.{SlowStep}
 use Rattle.cas_executor.specs.declared.slow_run.SlowStep.TheVariants.{LoadState, Install, LoadTarget, Succeed, Fail, LoadDecision, Clear}
 use Rattle.cas_executor.specs.SlowRuns.{SlowWalk, state_place}
 use Rattle.cas_executor_laws.specs.ExecRuns.{IsEntry}
-use Rattle.cas_executor_laws.specs.Entries.{View, WasSeen, Life, LeavesBit, Later, IsShown}
-use Rattle.cas_executor_laws.specs.Parts.{Site, IsSite, OfEach, InOrder, Offered, OwnsBits, Deed, IsDone, KnowsEntry, AreDone, Knows, KnowsStop, Helps, view_in, ShowsTaken}
+use Rattle.cas_executor_laws.specs.Entries.{View, WasSeen, Life, LeavesBit, Later, IsShown, Moves}
+use Rattle.cas_executor_laws.specs.Entries.Turn.{moves, stays}
+use Rattle.cas_executor_laws.specs.Parts.{Site, IsSite, OfEach, InOrder, Offered, OwnsBits, Deed, IsDone, KnowsEntry, AreDone, Knows, KnowsStop, Helps, view_in, ShowsTaken, OwnDeed}
 use Rattle.cas_executor_laws.proofs.EntryLemmas.{shown_bit, true≢false, later, seen_turned, life_turned, bit_turned}
 
 -- a place in a list has an entry
@@ -95,6 +96,33 @@ module _ (site : Site) (is : IsSite site) (words : ℕ → ℕ) (took : ℕ → 
 -- ---- a step
 
 module _ (site : Site) (is : IsSite site) (words : ℕ → ℕ) (took : ℕ → Bool) (after : ℕ → ℕ) (took' : ℕ → Bool) where
+  -- ---- which words the parts read
+
+  -- the states and the targets alone: a step beside them, after which the same entries took effect, is a deed
+  pub beside_deed : ((j : ℕ) → j < length site.entries → after (state_place site.block j) ≡ words (state_place site.block j)) → ((j : ℕ) (entry : Entry) → IsEntry site.entries j entry → after entry.target ≡ words entry.target)
+      → ((j : ℕ) → j < length site.entries → took' j ≡ took j) → OwnDeed site words took after took'
+  beside_deed states targets same =
+      record {
+        deed = record {
+          turns = λ j entry listed. (let within = slice_get_within site.entries j entry listed in stays (states j within) (targets j entry listed) (same j within));
+          taken = λ j within differs. absurd (differs (same j within));
+          decided = λ j within differs. absurd (differs (states j within));
+        };
+        leaves = λ j entry listed. tt;
+      }
+
+  -- so is one by which others change targets: they clear bits or raise versions, where the target doesn't show
+  -- an entry that is taken and undecided
+  pub others_deed : ((j : ℕ) → j < length site.entries → after (state_place site.block j) ≡ words (state_place site.block j)) → ((j : ℕ) (entry : Entry) → IsEntry site.entries j entry → Moves (words entry.target) (after entry.target))
+      → ((j : ℕ) (entry : Entry) → IsEntry site.entries j entry → words (state_place site.block j) ≡ 0 → took j ≡ true → after entry.target ≡ words entry.target)
+      → ((j : ℕ) → j < length site.entries → took' j ≡ took j) → Deed site words took after took'
+  others_deed states targets still same =
+      record {
+        turns = λ j entry listed. (let within = slice_get_within site.entries j entry listed in moves (targets j entry listed) (still j entry listed) (states j within) (same j within));
+        taken = λ j within differs. absurd (differs (same j within));
+        decided = λ j within differs. absurd (differs (states j within));
+      }
+
   -- ---- the parts
 
   pub seen_kept : Deed site words took after took' → OfEach site WasSeen words took → OfEach site WasSeen after took'
