@@ -1,5 +1,5 @@
 -- The list of a fast call, executed by its own seat: the exchanges in order until one is lost.
-use Rattle.std.specs.Prelude.{◌≡◌, ℕ, ◌+◌, ◌<◌, ◌≤◌, ◌==◌, if◌then◌else◌, List, length, slice_get, Option, Some, None}
+use Rattle.std.specs.Prelude.{ℕ, ◌+◌, ◌<◌, ◌≤◌, ◌==◌, if◌then◌else◌, List, length, slice_get, Option, Some, None}
 use Rattle.step_memory.specs.declared.steps.Request.{Request}
 use Rattle.step_memory.specs.declared.steps.Request.TheVariants.{Load, Exchange}
 use Rattle.step_memory.specs.declared.steps.Seen.{Seen}

@@ -1,1 +1,3 @@
 pub mod FastRuns
+pub mod SlowRuns
+pub mod BlockReads

@@ -1,0 +1,14 @@
+pub mod EntryLemmas
+pub mod SiteLemmas
+pub mod Exchanges
+pub mod RunTurns
+pub mod RunLemmas
+pub mod Sets
+pub mod Memories
+pub mod WorldSites
+pub mod Kept
+pub mod Laters
+pub mod LawLemmas
+pub mod WorldSteps
+pub mod Openings
+pub mod ReadLemmas

@@ -1,0 +1,5 @@
+use Rattle.cas_executor_laws.proofs.ReadLemmas.{reads_go_on}
+use Rattle.cas_executor_laws.proofs.reads.reads_go_on.Goals as goal
+
+pub returns : goal.returns
+returns c = reads_go_on

@@ -1,0 +1,5 @@
+pub mod ExecRuns
+pub mod Entries
+pub mod Parts
+pub mod Laws
+pub mod Reads
