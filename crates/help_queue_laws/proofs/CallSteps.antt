@@ -19,8 +19,8 @@ use Rattle.help_queue_laws.specs.Callers.{Caller, after_help, first_of, head_hel
 use Rattle.help_queue_laws.specs.Ghosts.{Ghosts}
 use Rattle.help_queue_laws.proofs.Scenes.{Scene, scene_of, IsDone, IsOut, IsInOrDone, IsSound}
 use Rattle.help_queue_laws.proofs.Knowledge.{IsMine, IsFree, PhaseFacts}
-use Rattle.help_queue_laws.proofs.QuietActs.{Quiet, quiet_later, quiet_sound}
-use Rattle.help_queue_laws.proofs.RecordActs.{Announcing, announcing_sound, announcing_later, announcing_number, announcing_open}
+use Rattle.help_queue_laws.proofs.QuietActs.{Quiet, ends_same, quiet_later, quiet_sound}
+use Rattle.help_queue_laws.proofs.RecordActs.{Announcing, announcing_ends, announcing_sound, announcing_later, announcing_number, announcing_open}
 use Rattle.help_queue_laws.proofs.HelpSteps.{over_in}
 use Rattle.help_queue_laws.proofs.QueueWords.{not_both}
 use Rattle.help_queue_laws.proofs.LaterLemmas.{done_closed}
@@ -122,6 +122,7 @@ module _ (seats i made : ℕ) (inside : i < seats) (few : seats ≤ 8) (fewer : 
       } in
       record {
         sound = quiet_sound seats i was b quiet sound;
+        ends = ends_same was b records;
         later = quiet_later seats i was b quiet;
         knows = record {
           seat = refl;
@@ -150,6 +151,7 @@ module _ (seats i made : ℕ) (inside : i < seats) (few : seats ≤ 8) (fewer : 
       } in
       record {
         sound = quiet_sound seats i was b quiet sound;
+        ends = ends_same was b records;
         later = quiet_later seats i was b quiet;
         knows = record {
           seat = refl;
@@ -191,6 +193,7 @@ module _ (seats i made : ℕ) (inside : i < seats) (few : seats ≤ 8) (fewer : 
       } in
       record {
         sound = announcing_sound i (made + 1) was b act sound;
+        ends = announcing_ends i (made + 1) was b act;
         later = announcing_later i (made + 1) was b act seats;
         knows = record {
           seat = refl;

@@ -29,7 +29,8 @@ use Rattle.help_queue_laws.specs.Callers.{Caller, after_help, completion, fed_in
 use Rattle.help_queue_laws.specs.Ghosts.{Ghosts}
 use Rattle.help_queue_laws.proofs.Scenes.{Scene, scene_of, IsHead, IsSound}
 use Rattle.help_queue_laws.proofs.Knowledge.{RemoveFacts, HelpFacts, BackFacts, PhaseFacts, IsCallerOf}
-use Rattle.help_queue_laws.proofs.RecordActs.{Completing, completing_sound, completing_later}
+use Rattle.help_queue_laws.proofs.RecordActs.{Completing, completing_ends, completing_sound, completing_later}
+use Rattle.help_queue_laws.proofs.QuietActs.{ends_same}
 use Rattle.help_queue_laws.proofs.QueueActs.{exchanging_later, exchanging_sound}
 use Rattle.help_queue_laws.proofs.HelpSteps.{helps_record, helps_head, helps_again, helps_look, helps_check, helps_gather}
 use Rattle.help_queue_laws.proofs.WonSteps.{keeps_rest, removes_head, completes_head}
@@ -93,6 +94,7 @@ module _ (seats i made s : ℕ) (announced : Bool) (inside : s < seats) (few : s
             let act = completing word same help in
             record {
               sound = completing_sound i s was _ act sound;
+              ends = completing_ends i s was _ act;
               later = completing_later i s was _ act seats;
               knows = knows_it (scene_after i words ghosts (Helps s announced (Complete word)) (completion s word)) _ (inside, tt, completes_head i (made + 1) s word was _ announced (record_number word) act back);
             })
@@ -148,6 +150,7 @@ module _ (seats i made s : ℕ) (announced : Bool) (inside : s < seats) (few : s
               let seen = seen_of request words in
               record {
                 sound = exchanging_sound seats i was _ g kept e sound;
+                ends = ends_same was (scene_after i words ghosts phase request) e.records;
                 later = exchanging_later seats i was _ g kept e sound;
                 knows = knows_it (scene_after i words ghosts phase request) _
                     (gone (scene_after i words ghosts phase request) (gather_over g) seen.won _ over

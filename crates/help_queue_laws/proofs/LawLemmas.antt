@@ -41,9 +41,9 @@ use Rattle.help_queue_laws.specs.Gatherings.{HasGathered, GathersHold, RemovesHe
 use Rattle.help_queue_laws.specs.Entries.{EntersBySecond, EntriesHold, HasEntries, LosesTwo}
 use Rattle.help_queue_laws.specs.Endings.{EndingsHold, EndsDone}
 use Rattle.help_queue_laws.specs.Versions.{OneWordEach, VersionsRise, queue_after}
-use Rattle.help_queue_laws.proofs.Scenes.{Scene, scene_of, IsDone, IsOut, IsInOrDone, IsQuiet, IsGatherOf}
+use Rattle.help_queue_laws.proofs.Scenes.{Scene, scene_of, IsDone, IsOut, IsInOrDone, IsEngaged, IsGatherOf}
 use Rattle.help_queue_laws.proofs.Knowledge.{IsMine, IsOwnGather, EnterFacts, RemoveFacts, SelfFacts, PhaseFacts}
-use Rattle.help_queue_laws.proofs.QueueWords.{found_out}
+use Rattle.help_queue_laws.proofs.QueueWords.{found_out, head_holds, not_both}
 use Rattle.help_queue_laws.proofs.HelpSteps.{completed_phase}
 use Rattle.help_queue_laws.proofs.OwnerSteps.{over_all}
 use Rattle.help_queue_laws.proofs.CallerSteps.{caller_moves}
@@ -60,12 +60,12 @@ among_all P seats t all h =
 in_below : (word t : ℕ) → holds word t ≡ true → t < 8
 in_below word t h = among_all (λ s. s < 8) (queue_seats word) t (queue_seats_are word).real h
 
-open_generate : (phase : RecordPhase) → IsQuiet phase → is_open phase ≡ true → phase ≡ Generate
-open_generate Idle quiet h = absurd (true≢false (sym h))
-open_generate Generate quiet h = refl
-open_generate Executing quiet h = absurd quiet
-open_generate Wrapping quiet h = absurd quiet
-open_generate Completed quiet h = absurd (true≢false (sym h))
+open_generate : (phase : RecordPhase) → (IsEngaged phase → ⊥) → is_open phase ≡ true → phase ≡ Generate
+open_generate Idle apart h = absurd (true≢false (sym h))
+open_generate Generate apart h = refl
+open_generate Executing apart h = absurd (apart (inl refl))
+open_generate Wrapping apart h = absurd (apart (inr refl))
+open_generate Completed apart h = absurd (true≢false (sym h))
 
 closed_over : (phase : RecordPhase) → is_open phase ≡ false → (phase ≡ Idle) ⊎ (phase ≡ Completed)
 closed_over Idle h = inl refl
@@ -73,9 +73,6 @@ closed_over Generate h = absurd (true≢false h)
 closed_over Executing h = absurd (true≢false h)
 closed_over Wrapping h = absurd (true≢false h)
 closed_over Completed h = inr refl
-
-not_engaged : (phase : RecordPhase) → IsQuiet phase → (phase ≡ Executing) ⊎ (phase ≡ Wrapping) → ⊥
-not_engaged phase quiet h = elim h [ inl executing ↦ subst IsQuiet executing quiet | inr wrapping ↦ subst IsQuiet wrapping quiet ]
 
 module _ (seats calls : ℕ) (world : World) (ghosts : Ghosts) (few : seats ≤ 8) (run : IsRunning seats calls world ghosts) where
   abbrev here : Scene
@@ -128,7 +125,7 @@ module _ (seats calls : ℕ) (world : World) (ghosts : Ghosts) (few : seats ≤ 
           value = sym (ap value_number (seat_word t _ small)) ∙ n.2 ∙ ap record_number is;
         };
     completed = λ t in' done. run.sound.heads t in' (ap record_phase (record_is t (in_below (queue_in world.words) t in')) ∙ done);
-    engaged = λ t small h. absurd (not_engaged (record_phase (record_in world.words t)) (subst (λ w. IsQuiet (record_phase w)) (record_is t small) (run.sound.quiet t)) h);
+    engaged = λ t small h. run.sound.engaged t (subst (λ w. IsEngaged (record_phase w)) (sym (record_is t small)) h);
     callers = λ i caller found. belongs i (number_of caller) caller.phase (below i caller found) (run.knows i caller found).knows;
   }
 
@@ -181,9 +178,10 @@ module _ (seats calls : ℕ) (world : World) (ghosts : Ghosts) (few : seats ≤ 
       let low : g.next ≤ 8 = let within = h.is.within in let most = h.is.few in omega (arith, within, most) in
       record {
         found = λ t in'.
-            let small : t < 8 = let less = among_all (λ s. s < g.next) g.found t h.is.below in' in omega (arith, less, low) in (
-              subst (λ w. holds w t ≡ false) now (found_out g.word t g.found h.is.apart in'),
-              sym (ap record_phase (record_is t small)) ∙ open_generate (record_phase (here.records t)) (run.sound.quiet t) (h.found now t in'),
+            let small : t < 8 = let less = among_all (λ s. s < g.next) g.found t h.is.below in' in omega (arith, less, low) in
+            let out : IsOut here t = subst (λ w. holds w t ≡ false) now (found_out g.word t g.found h.is.apart in') in (
+              out,
+              sym (ap record_phase (record_is t small)) ∙ open_generate (record_phase (here.records t)) (λ e. not_both (head_holds here.queue t (run.sound.engaged t e)) out) (h.found now t in'),
             );
         passed = λ t before none.
             let small : t < 8 = omega (arith, before, low) in
@@ -227,6 +225,7 @@ module _ (seats calls : ℕ) (world : World) (ghosts : Ghosts) (few : seats ≤ 
   by_second i g less h over =
       let past : i < g.next = let among = h.gather.among in let all = over_all g over in omega (arith, less, among, all) in
       record {
+        finds = h.own past;
         few = elim h.attempt [
           | inl first ↦ (let lost = first.lost in omega (arith, lost))
           | inr (inl second) ↦ (let lost = second.lost in omega (arith, lost))
@@ -272,7 +271,7 @@ module _ (seats calls : ℕ) (world : World) (ghosts : Ghosts) (few : seats ≤ 
   done_ends : (i : ℕ) (caller : Caller) (word : ℕ) (outcome : Outcome) → i < 8 → word ≡ record_in world.words i → IsDone here i → record_number (here.records i) ≡ number_of caller → outcome_or_done word ≡ outcome → EndsDone world.words i caller outcome
   done_ends i caller word outcome small loaded done number is =
       let same = record_is i small in
-      let told : outcome_of (record_of (record_in world.words i)) ≡ Some (Plain Done) = sym (ap (λ w. outcome_of (record_of w)) same) ∙ run.sound.done i done in
+      let told : outcome_of (record_of (record_in world.words i)) ≡ Some (Plain Done) = sym (ap (λ w. outcome_of (record_of w)) same) ∙ run.ends i done in
       record {
         outcome' = sym is ∙ ap outcome_or_done loaded ∙ ap (λ o. unwrap_or o (Plain Done)) told;
         completed = sym (ap record_phase same) ∙ done;

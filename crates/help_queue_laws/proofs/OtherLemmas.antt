@@ -35,7 +35,7 @@ module _ (seats who : ℕ) (a b : Scene) (l : Later seats who a b) (i : ℕ) (ot
           called = elim mine.called [ inl opened ↦ inl (ap (λ w. is_open (record_phase w)) stays.same ∙ opened) | inr done ↦ inr (ap record_phase stays.same ∙ done) ];
         }
         | inr (inl announces) ↦ absurd (other announces.by)
-        | inr (inr completes) ↦ record { number = completes.number ∙ mine.number; called = inr completes.done }
+        | inr (inr completes) ↦ record { number = completes.number ∙ mine.number; called = completes.called }
       ]
 
   free_later : (n : ℕ) → IsFree a i n → IsFree b i n

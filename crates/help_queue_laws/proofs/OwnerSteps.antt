@@ -28,6 +28,7 @@ use Rattle.help_queue_laws.proofs.GhostLemmas.{Reads}
 use Rattle.help_queue_laws.proofs.EnterSteps.{owner_looks, owner_loads, owner_loses}
 use Rattle.help_queue_laws.proofs.HelpSteps.{completed_phase}
 use Rattle.help_queue_laws.proofs.WonSteps.{keeps_all, enters_drive}
+use Rattle.help_queue_laws.proofs.QuietActs.{ends_same}
 use Rattle.help_queue_laws.proofs.QueueActs.{exchanging_later, exchanging_sound}
 use Rattle.help_queue_laws.proofs.Results.{Moved, scene_after, load_moves, lost_moves, exchange_tells, queue_exchanges, seat_word}
 use Rattle.help_queue_laws.proofs.LaterLemmas.{done_closed}
@@ -136,6 +137,7 @@ module _ (seats i made : ℕ) (inside : i < seats) (few : seats ≤ 8) (words : 
             let seen = seen_of request words in
             record {
               sound = exchanging_sound seats i was _ g (queue_seats g.word) e sound;
+              ends = ends_same was (scene_after i words ghosts phase request) e.records;
               later = exchanging_later seats i was _ g (queue_seats g.word) e sound;
               knows = has_won (scene_after i words ghosts phase request) g seen.before (gather_over g) seen.won (among_seats i g.found) (finishes g i seen.before) (outcome_or_done seen.before) over
                   (exchange_tells seats i words ghosts phase long QUEUE g.word (entered_word g) (omega arith) ∙ eq-eqb (slice_index words QUEUE) g.word same) found

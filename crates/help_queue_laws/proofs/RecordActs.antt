@@ -1,5 +1,5 @@
 -- Steps that change a record: an owner announces its call, and a call is completed at the head.
-use Rattle.std.proofs.Common.{◌≡◌, ◌≢◌, ℕ, ◌-◌, ◌*◌, ◌<◌, ◌≤◌, ◌^◌, true, false, refl, ap, sym, ◌∙◌, subst, arith, inl, inr, ◌⊎◌, Some}
+use Rattle.std.proofs.Common.{◌≡◌, ◌≢◌, ℕ, ◌-◌, ◌*◌, ◌<◌, ◌≤◌, ◌^◌, true, false, refl, ap, sym, ◌∙◌, subst, arith, inl, inr, ◌⊎◌}
 use Rattle.std.proofs.lemmas.Bool.{cases_eq}
 use Rattle.lin_report.specs.declared.calls.Reply.TheVariants.{Done}
 use Rattle.lin_report.specs.declared.calls.Outcome.TheVariants.{Plain}
@@ -14,7 +14,7 @@ use Rattle.op_record.specs.Outcomes.{outcome_of, completed_word}
 use Rattle.op_record.specs.Progress.{IsEarlier}
 use Rattle.op_record.proofs.OutcomeLemmas.{outcome_of-completed}
 use Rattle.help_queue.specs.Gathers.{holds, leads, is_open}
-use Rattle.help_queue_laws.proofs.Scenes.{Scene, IsOpen, IsDone, IsIn, IsOut, IsHead, IsQuiet, IsSound, Later, Moves, uses, uses_by}
+use Rattle.help_queue_laws.proofs.Scenes.{Scene, IsOpen, IsDone, IsIn, IsOut, IsHead, IsEngaged, EndsWell, IsSound, Later, Moves, uses, uses_by}
 use Rattle.help_queue_laws.proofs.QueueWords.{not_both, head_holds}
 use Rattle.help_queue_laws.proofs.QuietActs.{Beside}
 use Rattle.help_queue_laws.proofs.Totals.{total_le}
@@ -30,8 +30,7 @@ pub record Rewrites (who s : ℕ) (a b : Scene) : Type 0 where
 
 -- what the new record of the seat keeps
 pub record Fits (s : ℕ) (a b : Scene) : Type 0 where
-  pub quiet : IsQuiet (record_phase (b.records s))
-  pub done : IsDone b s → outcome_of (record_of (b.records s)) ≡ Some (Plain Done)
+  pub engaged : IsEngaged (record_phase (b.records s)) → IsHead a s
   pub called : IsOpen b s ⊎ IsDone b s
   pub some : 1 ≤ record_number (b.records s)
   pub op : op_number (a.ops s) ≡ record_number (b.records s)
@@ -53,11 +52,10 @@ module _ (who s : ℕ) (a b : Scene) (r : Rewrites who s a b) where
   pub rewrites_sound : Fits s a b → IsSound a → IsSound b
   rewrites_sound fits sound = record {
     whole = subst (λ w. queue_word (queue_seats w) (queue_version w) ≡ w) (sym r.queue) sound.whole;
-    quiet = λ t. elim (cases_eq t s) [ inl same ↦ subst (λ k. IsQuiet (record_phase (b.records k))) (sym same) fits.quiet | inr other ↦ subst (λ w. IsQuiet (record_phase w)) (sym (r.others t other)) (sound.quiet t) ];
-    done = λ t h. elim (cases_eq t s) [
-      | inl same ↦ subst (λ k. IsDone b k → outcome_of (record_of (b.records k)) ≡ Some (Plain Done)) (sym same) fits.done h
-      | inr other ↦ ap (λ w. outcome_of (record_of w)) (r.others t other) ∙ sound.done t (sym (ap record_phase (r.others t other)) ∙ h)
-    ];
+    engaged = λ t h. subst (λ w. leads w t ≡ true) (sym r.queue) (elim (cases_eq t s) [
+      | inl same ↦ subst (λ k. IsHead a k) (sym same) (fits.engaged (subst (λ k. IsEngaged (record_phase (b.records k))) same h))
+      | inr other ↦ sound.engaged t (subst (λ w. IsEngaged (record_phase w)) (r.others t other) h)
+    ]);
     published = λ t h. elim (cases_eq t s) [
       | inl same ↦ subst (λ k. IsOpen b k ⊎ IsDone b k) (sym same) fits.called
       | inr other ↦ subst (λ w. (is_open (record_phase w) ≡ true) ⊎ (record_phase w ≡ Completed)) (sym (r.others t other)) (sound.published t (subst (λ w. holds w t ≡ true) r.queue h))
@@ -105,6 +103,9 @@ pub record Announcing (who n : ℕ) (a b : Scene) : Type 0 where
   pub others : (t : ℕ) → t ≢ who → b.announced t ≡ a.announced t
   pub late : (u : ℕ) → b.late u who ≡ true
 
+generate_apart : (phase : Phase) → phase ≡ Generate → IsEngaged phase → ⊥
+generate_apart phase is h = elim h [ inl executing ↦ (let e : Generate ≡ Executing = sym is ∙ executing in cc) | inr wrapping ↦ (let e : Generate ≡ Wrapping = sym is ∙ wrapping in cc) ]
+
 closed_uses : (phase : Phase) (m n : ℕ) → is_open phase ≡ false → m < n → uses_by false phase m ≤ 2 * n - 2
 closed_uses Idle m n closed less = omega (arith, less)
 closed_uses Generate m n closed less = omega (arith, less)
@@ -121,8 +122,7 @@ module _ (who n : ℕ) (a b : Scene) (h : Announcing who n a b) where
 
   announcing_fits : ((t : ℕ) → a.announced t ≤ queue_version a.queue) → Fits who a b
   announcing_fits known = record {
-    quiet = subst IsQuiet (sym generates) tt;
-    done = λ done. absurd (not_both (ap is_open generates) (ap is_open done));
+    engaged = λ h. absurd (generate_apart (record_phase (b.records who)) generates h);
     called = inl (ap is_open generates);
     some = subst (λ k. 1 ≤ k) (sym numbers) h.some;
     op = h.op ∙ sym numbers;
@@ -164,6 +164,13 @@ module _ (who n : ℕ) (a b : Scene) (h : Announcing who n a b) where
   pub announcing_later : (seats : ℕ) → Later seats who a b
   announcing_later seats = rewrites_later who who a b h.rewrites seats announcing_moves
 
+  pub announcing_ends : EndsWell a → EndsWell b
+  announcing_ends ends t done =
+      elim (cases_eq t who) [
+        | inl same ↦ absurd (not_both (ap is_open generates) (ap is_open (subst (λ k. IsDone b k) same done)))
+        | inr other ↦ ap (λ w. outcome_of (record_of w)) (h.rewrites.others t other) ∙ ends t (sym (ap record_phase (h.rewrites.others t other)) ∙ done)
+      ]
+
   pub announcing_number : record_number (b.records who) ≡ n
   announcing_number = numbers
 
@@ -201,8 +208,7 @@ module _ (who s : ℕ) (a b : Scene) (h : Completing who s a b) where
       let in' = head_holds a.queue s h.head in
       let n = sound.numbered s (inl in') in
       record {
-        quiet = subst IsQuiet (sym completes') tt;
-        done = λ _. ap (λ w. outcome_of (record_of w)) h.record' ∙ outcome_of-completed (record_of (a.records s)) (Plain Done) (omega arith);
+        engaged = λ _. h.head;
         called = inr completes';
         some = subst (λ k. 1 ≤ k) (sym keeps_number) n.0;
         op = n.1 ∙ sym keeps_number;
@@ -228,7 +234,7 @@ module _ (who s : ℕ) (a b : Scene) (h : Completing who s a b) where
         | inl same ↦ subst (λ k. Moves who a b k) (sym same) (inr (inr (record {
           opened = h.opened;
           head = h.head;
-          done = completes';
+          called = inr completes';
           number = keeps_number;
           later = completing_earlier;
           announced = h.announced s;
@@ -241,6 +247,13 @@ module _ (who s : ℕ) (a b : Scene) (h : Completing who s a b) where
 
   pub completing_later : (seats : ℕ) → Later seats who a b
   completing_later seats = rewrites_later who s a b h.rewrites seats completing_moves
+
+  pub completing_ends : EndsWell a → EndsWell b
+  completing_ends ends t done =
+      elim (cases_eq t s) [
+        | inl same ↦ ap (λ k. outcome_of (record_of (b.records k))) same ∙ ap (λ w. outcome_of (record_of w)) h.record' ∙ outcome_of-completed (record_of (a.records s)) (Plain Done) (omega arith)
+        | inr other ↦ ap (λ w. outcome_of (record_of w)) (h.rewrites.others t other) ∙ ends t (sym (ap record_phase (h.rewrites.others t other)) ∙ done)
+      ]
 
   pub completing_done : IsDone b s × (record_number (b.records s) ≡ record_number (a.records s))
   completing_done = (completes', keeps_number)

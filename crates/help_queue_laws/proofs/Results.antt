@@ -16,7 +16,7 @@ use Rattle.help_queue.proofs.GatherLemmas.{written_version}
 use Rattle.help_queue_laws.specs.declared.phases.Phase.{Phase}
 use Rattle.help_queue_laws.specs.Callers.{Caller, completion}
 use Rattle.help_queue_laws.specs.Ghosts.{Ghosts, announces, gather_of, loads_in, lost_after, ghosts_after}
-use Rattle.help_queue_laws.proofs.Scenes.{Scene, scene_of, of_seat, IsIn, IsOut, IsSound, IsGatherOf, Later}
+use Rattle.help_queue_laws.proofs.Scenes.{Scene, scene_of, of_seat, IsIn, IsOut, EndsWell, IsSound, IsGatherOf, Later}
 use Rattle.help_queue_laws.proofs.Knowledge.{IsCallerOf}
 use Rattle.help_queue_laws.proofs.GhostLemmas.{Reads, late_beside, late_all, lost_beside, lost_own, replaced_beside, replaced_now, announced_beside, announced_same, announced_own, reads_after}
 use Rattle.help_queue_laws.proofs.QuietActs.{Beside, Quiet, quiet_later, quiet_sound}
@@ -31,6 +31,7 @@ scene_after i words ghosts phase request =
 -- what is to be shown of a step: the scene stays sound, others keep what they know, and the seat knows its part
 pub record Moved (seats i : ℕ) (words : List ℕ) (ghosts : Ghosts) (phase : Phase) (request : Request) (next : Seen → Caller) : Type 0 where
   pub sound : IsSound (scene_after i words ghosts phase request)
+  pub ends : EndsWell (scene_of words ghosts) → EndsWell (scene_after i words ghosts phase request)
   pub later : Later seats i (scene_of words ghosts) (scene_after i words ghosts phase request)
   pub knows : IsCallerOf (scene_after i words ghosts phase request) seats i (next (seen_of request words))
 
@@ -50,7 +51,7 @@ module _ (seats i : ℕ) (words : List ℕ) (ghosts : Ghosts) (phase : Phase) (l
 
   unchanged : (seen : Seen) (words' : List ℕ) (caller : Caller) → announces phase ≡ false → words' ≡ words → IsSound (scene_of words ghosts)
       → ((gh : Ghosts) → Reads i ghosts gh (loads_in (gather_of phase)) → gh.lost i ≡ lost_after phase seen (ghosts.lost i) → IsCallerOf (scene_of words gh) seats i caller)
-      → (let b = scene_of words' (ghosts_after i phase seen (slice_index words QUEUE) (slice_index words' QUEUE) ghosts) in IsSound b × Later seats i (scene_of words ghosts) b × IsCallerOf b seats i caller)
+      → (let b = scene_of words' (ghosts_after i phase seen (slice_index words QUEUE) (slice_index words' QUEUE) ghosts) in IsSound b × Later seats i (scene_of words ghosts) b × IsCallerOf b seats i caller × (EndsWell (scene_of words ghosts) → EndsWell b))
   unchanged seen words' caller none same sound knows =
       let gh = ghosts_after i phase seen (slice_index words QUEUE) (slice_index words QUEUE) ghosts in
       let reads = reads_after i phase seen (slice_index words QUEUE) (slice_index words QUEUE) ghosts none refl in
@@ -61,8 +62,8 @@ module _ (seats i : ℕ) (words : List ℕ) (ghosts : Ghosts) (phase : Phase) (l
         announced = reads.announced;
         words = inl (refl, refl);
       } in
-      subst (λ (ws : List ℕ). (let b = scene_of ws (ghosts_after i phase seen (slice_index words QUEUE) (slice_index ws QUEUE) ghosts) in IsSound b × Later seats i (scene_of words ghosts) b × IsCallerOf b seats i caller)) (sym same)
-      (quiet_sound seats i _ _ quiet sound, quiet_later seats i _ _ quiet, knows gh reads (lost_own i phase seen (slice_index words QUEUE) (slice_index words QUEUE) ghosts))
+      subst (λ (ws : List ℕ). (let b = scene_of ws (ghosts_after i phase seen (slice_index words QUEUE) (slice_index ws QUEUE) ghosts) in IsSound b × Later seats i (scene_of words ghosts) b × IsCallerOf b seats i caller × (EndsWell (scene_of words ghosts) → EndsWell b))) (sym same)
+      (quiet_sound seats i _ _ quiet sound, quiet_later seats i _ _ quiet, knows gh reads (lost_own i phase seen (slice_index words QUEUE) (slice_index words QUEUE) ghosts), λ ends. ends)
 
   pub load_moves : (at : ℕ) (next : Seen → Caller) → announces phase ≡ false → IsSound (scene_of words ghosts)
       → ((seen : Seen) (gh : Ghosts) → seen.before ≡ slice_index words at → Reads i ghosts gh (loads_in (gather_of phase)) → gh.lost i ≡ lost_after phase seen (ghosts.lost i) → IsCallerOf (scene_of words gh) seats i (next seen))
@@ -70,7 +71,7 @@ module _ (seats i : ℕ) (words : List ℕ) (ghosts : Ghosts) (phase : Phase) (l
   load_moves at next none sound knows =
       let seen = seen_of (Load at) words in
       let r = unchanged seen (words_after (Load at) words) (next seen) none (load_keeps at words) sound (λ gh reads lost. knows seen gh (load_tells at words) reads lost) in
-      record { sound = r.0; later = r.1; knows = r.2 }
+      record { sound = r.0; ends = r.3; later = r.1; knows = r.2 }
 
   -- ---- exchanges
 
@@ -89,7 +90,7 @@ module _ (seats i : ℕ) (words : List ℕ) (ghosts : Ghosts) (phase : Phase) (l
       let seen = seen_of request words in
       let stay : words_after request words ≡ words = exchange_changes at from to words ∙ cond-false (slice_index words at == from) (set words at to) words (ne_eqb (slice_index words at) from other) in
       let r = unchanged seen (words_after request words) (next seen) none stay sound (λ gh reads lost. knows seen gh (exchange_tells at from to inside ∙ ne_eqb (slice_index words at) from other) reads lost) in
-      record { sound = r.0; later = r.1; knows = r.2 }
+      record { sound = r.0; ends = r.3; later = r.1; knows = r.2 }
 
   pub won_word : (at from to : ℕ) → at < 32 → slice_index words at ≡ from → slice_index (words_after (Exchange at from to) words) at ≡ to
   won_word at from to inside same =

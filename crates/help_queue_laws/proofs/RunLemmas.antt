@@ -1,5 +1,5 @@
 -- What holds of the scene and of each seat holds after every list of steps.
-use Rattle.std.proofs.Common.{◌≡◌, ◌≢◌, ℕ, zero, suc, ◌+◌, ◌<◌, ◌≤◌, true, List, [], ◌∷◌, length, map, refl, ap, sym, ◌∙◌, subst, arith, inl, inr, Option, Some, None, slice_get, slice_set, length-set, get_or-set_same}
+use Rattle.std.proofs.Common.{◌⊎◌, ◌≡◌, ◌≢◌, ℕ, zero, suc, ◌+◌, ◌<◌, ◌≤◌, true, List, [], ◌∷◌, length, map, refl, ap, sym, ◌∙◌, subst, arith, inl, inr, Option, Some, None, slice_get, slice_set, length-set, get_or-set_same}
 use Rattle.std.specs.Prelude.{nat_lt, replicate, slice_index}
 use Rattle.std.specs.List.{range_with_len}
 use Rattle.std.proofs.lemmas.Bool.{cases_Bool, cases_eq, ltb-true, cond-true, cond-false, cond_both}
@@ -7,7 +7,7 @@ use Rattle.std.proofs.lemmas.List.FromFn.{length-map-range_with_len, get_or-map-
 use Rattle.std.proofs.lemmas.Option.{slice_get-get_or, slice_get_within}
 use Rattle.step_memory.specs.Step.{words_after, seen_of}
 use Rattle.step_memory.proofs.Words.{length-words_after}
-use Rattle.word_fields.specs.declared.records.Phase.TheVariants.{Idle, Completed}
+use Rattle.word_fields.specs.declared.records.Phase.TheVariants.{Idle, Executing, Wrapping, Completed}
 use Rattle.word_fields.specs.Fields.{field_of}
 use Rattle.word_fields.specs.Records.{record_phase, record_number}
 use Rattle.word_fields.specs.Seats.{places_of, queue_seats, seats_named, seats_word}
@@ -17,7 +17,7 @@ use Rattle.help_queue.specs.Gathers.{among_seats, is_open}
 use Rattle.help_queue_laws.specs.Callers.{Caller, caller_new, caller_request, caller_fed}
 use Rattle.help_queue_laws.specs.Worlds.{World, world_new, stepped_by, stepped_of, world_of}
 use Rattle.help_queue_laws.specs.Ghosts.{Ghosts, no_ghosts, ghosts_after, ghosts_by, ghosts_of}
-use Rattle.help_queue_laws.proofs.Scenes.{scene_of, of_seat, IsQuiet, IsSound}
+use Rattle.help_queue_laws.proofs.Scenes.{scene_of, of_seat, IsEngaged, EndsWell, IsSound}
 use Rattle.help_queue_laws.proofs.Knowledge.{IsCallerOf}
 use Rattle.help_queue_laws.proofs.QueueWords.{not_both}
 use Rattle.help_queue_laws.proofs.OtherLemmas.{caller_later}
@@ -73,6 +73,7 @@ pub record IsRunning (seats calls : ℕ) (world : World) (ghosts : Ghosts) : Typ
   pub long : length world.words ≡ 32
   pub count : length world.callers ≡ seats
   pub sound : IsSound (scene_of world.words ghosts)
+  pub ends : EndsWell (scene_of world.words ghosts)
   pub knows : (i : ℕ) (caller : Caller) → slice_get world.callers i ≡ Some caller → IsCallerOf (scene_of world.words ghosts) seats i caller
 
 opening_record : (t : ℕ) → of_seat t (slice_index (replicate 32 0) (12 + t)) ≡ 0
@@ -81,24 +82,28 @@ opening_record t = seat_same t (slice_index (replicate 32 0) (12 + t)) 0 (λ _. 
     zero_seat : (t : ℕ) → of_seat t 0 ≡ 0
     zero_seat t = cond_both (nat_lt t 8) 0 0 (λ (n : ℕ). n ≡ 0) (λ _. refl) (λ _. refl)
 
+opening_apart : (t : ℕ) → IsEngaged (record_phase (of_seat t (slice_index (replicate 32 0) (12 + t)))) ⊎ (record_phase (of_seat t (slice_index (replicate 32 0) (12 + t))) ≡ Completed) → ⊥
+opening_apart t h =
+    let idle : record_phase (of_seat t (slice_index (replicate 32 0) (12 + t))) ≡ Idle = ap record_phase (opening_record t) ∙ zero_phase in
+    elim h [
+      | inl (inl executing) ↦ (let e : Idle ≡ Executing = sym idle ∙ executing in cc)
+      | inl (inr wrapping) ↦ (let e : Idle ≡ Wrapping = sym idle ∙ wrapping in cc)
+      | inr completed ↦ (let e : Idle ≡ Completed = sym idle ∙ completed in cc)
+    ]
+
 opening_sound : IsSound (scene_of (replicate 32 0) no_ghosts)
 opening_sound =
     let idle = λ (t : ℕ). ap record_phase (opening_record t) ∙ zero_phase in
     let none = λ (t : ℕ) (in' : among_seats t (queue_seats 0) ≡ true). not_both in' (ap (among_seats t) zero_seats) in
-    let not_done = λ (t : ℕ) (done : record_phase ((scene_of (replicate 32 0) no_ghosts).records t) ≡ Completed). idle_apart (sym (idle t) ∙ done) in
     record {
       whole = ap (λ l. queue_word l (queue_version 0)) zero_seats ∙ ap (queue_word []) zero_version ∙ zero_word;
-      quiet = λ t. subst IsQuiet (sym (idle t)) tt;
-      done = λ t done. absurd (not_done t done);
+      engaged = λ t h. absurd (opening_apart t (inl h));
       published = λ t in'. absurd (none t in');
       numbered = λ t h. elim h [ inl in' ↦ absurd (none t in') | inr opened ↦ absurd (not_both opened (ap is_open (idle t))) ];
       heads = λ t in' done. absurd (none t in');
       bound = let version = zero_version in omega (arith, version);
       known = λ t. omega arith;
     }
-  where
-    idle_apart : Idle ≡ Completed → ⊥
-    idle_apart e = cc
 
 opening_runs : (seats calls : ℕ) → IsRunning seats calls (world_new seats calls) no_ghosts
 opening_runs seats calls = record {
@@ -106,6 +111,7 @@ opening_runs seats calls = record {
   long = refl;
   count = length-map-range_with_len (caller_new seats) 0 seats;
   sound = opening_sound;
+  ends = λ t done. absurd (opening_apart t (inr done));
   knows = λ i caller found.
       let callers = map (caller_new seats) (range_with_len 0 seats) in
       let inside : i < seats = subst (λ n. i < n) (length-map-range_with_len (caller_new seats) 0 seats) (slice_get_within callers i caller found) in
@@ -136,6 +142,7 @@ module _ (seats calls : ℕ) (few : seats ≤ 8) (fits : calls ≤ 65535) where
         long = length-words_after (caller_request caller) world.words ∙ run.long;
         count = length-set world.callers seat next ∙ run.count;
         sound = moved.sound;
+        ends = moved.ends run.ends;
         knows = λ i mate at. elim (cases_eq i seat) [
           | inl same ↦ (
               let is : next ≡ mate = same_some next mate (sym (at_set world.callers seat next (slice_get_within world.callers seat caller found)) ∙ subst (λ k. slice_get (slice_set world.callers seat next) k ≡ Some mate) same at) in

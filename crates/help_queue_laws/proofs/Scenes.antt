@@ -5,7 +5,7 @@ use Rattle.std.specs.Prelude.{nat_lt, if◌then◌else◌, List, slice_index}
 use Rattle.lin_report.specs.declared.calls.Reply.TheVariants.{Done}
 use Rattle.lin_report.specs.declared.calls.Outcome.TheVariants.{Plain}
 use Rattle.word_fields.specs.declared.records.Phase.{Phase}
-use Rattle.word_fields.specs.declared.records.Phase.TheVariants.{Idle, Generate, Executing, Wrapping, Completed}
+use Rattle.word_fields.specs.declared.records.Phase.TheVariants.{Generate, Executing, Wrapping, Completed}
 use Rattle.word_fields.specs.Announced.{op_number, value_number}
 use Rattle.word_fields.specs.Records.{record_phase, record_number, record_of}
 use Rattle.word_fields.specs.Seats.{queue_seats}
@@ -70,13 +70,13 @@ IsHead a t = leads a.queue t ≡ true
 abbrev pub IsInOrDone : Scene → ℕ → Type 0
 IsInOrDone a t = IsIn a t ⊎ IsDone a t
 
--- a phase that this world knows
-abbrev pub IsQuiet : Phase → Type 0
-IsQuiet Idle = Unit {0}
-IsQuiet Generate = Unit {0}
-IsQuiet Executing = ⊥
-IsQuiet Wrapping = ⊥
-IsQuiet Completed = Unit {0}
+-- a list of the call is executed or wrapped up
+abbrev pub IsEngaged : Phase → Type 0
+IsEngaged phase = (phase ≡ Executing) ⊎ (phase ≡ Wrapping)
+
+-- each completed record tells done
+abbrev pub EndsWell : Scene → Type 0
+EndsWell a = (t : ℕ) → IsDone a t → outcome_of (record_of (a.records t)) ≡ Some (Plain Done)
 
 -- how often a seat has entered or left the word, by its record and whether it is in the word
 abbrev pub uses_by : Bool → Phase → ℕ → ℕ
@@ -94,8 +94,7 @@ total (suc n) f = total n f + f n
 -- what holds of a scene
 pub record IsSound (a : Scene) : Type 0 where
   pub whole : queue_word (queue_seats a.queue) (queue_version a.queue) ≡ a.queue
-  pub quiet : (t : ℕ) → IsQuiet (record_phase (a.records t))
-  pub done : (t : ℕ) → IsDone a t → outcome_of (record_of (a.records t)) ≡ Some (Plain Done)
+  pub engaged : (t : ℕ) → IsEngaged (record_phase (a.records t)) → IsHead a t
   pub published : (t : ℕ) → IsIn a t → (IsOpen a t ⊎ IsDone a t)
   pub numbered : (t : ℕ) → (IsIn a t ⊎ IsOpen a t) → (1 ≤ record_number (a.records t)) × (op_number (a.ops t) ≡ record_number (a.records t)) × (value_number (a.values t) ≡ record_number (a.records t))
   pub heads : (t : ℕ) → IsIn a t → IsDone a t → IsHead a t
@@ -117,17 +116,17 @@ pub record Announces (who : ℕ) (a b : Scene) (t : ℕ) : Type 0 where
   pub announced : b.announced t ≡ queue_version a.queue
   pub late : (u : ℕ) → b.late u t ≡ true
 
-pub record Completes (a b : Scene) (t : ℕ) : Type 0 where
+pub record Advances (a b : Scene) (t : ℕ) : Type 0 where
   pub opened : IsOpen a t
   pub head : IsHead a t
-  pub done : IsDone b t
+  pub called : IsOpen b t ⊎ IsDone b t
   pub number : record_number (b.records t) ≡ record_number (a.records t)
   pub later : IsEarlier (record_of (a.records t)) (record_of (b.records t))
   pub announced : b.announced t ≡ a.announced t
 
--- the record of a seat stays, or its owner announces its next call, or its call is completed at the head
+-- the record of a seat stays, or its owner announces its next call, or it goes on at the head
 abbrev pub Moves : ℕ → Scene → Scene → ℕ → Type 0
-Moves who a b t = Stays a b t ⊎ (Announces who a b t ⊎ Completes a b t)
+Moves who a b t = Stays a b t ⊎ (Announces who a b t ⊎ Advances a b t)
 
 -- the queue word was changed: by the gather, each seat below the number that had announced before is in it
 pub record Changes (seats : ℕ) (a b : Scene) : Type 0 where
