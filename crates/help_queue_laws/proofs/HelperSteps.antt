@@ -29,7 +29,7 @@ use Rattle.help_queue_laws.specs.Callers.{Caller, after_help, completion, fed_in
 use Rattle.help_queue_laws.specs.Ghosts.{Ghosts}
 use Rattle.help_queue_laws.proofs.Scenes.{Scene, scene_of, IsHead, IsSound}
 use Rattle.help_queue_laws.proofs.Knowledge.{RemoveFacts, HelpFacts, BackFacts, PhaseFacts, IsCallerOf}
-use Rattle.help_queue_laws.proofs.RecordActs.{Completing, completing_ends, completing_sound, completing_later}
+use Rattle.help_queue_laws.proofs.RecordActs.{Completing, advancing_later, advancing_sound, completing_advances, completing_ends}
 use Rattle.help_queue_laws.proofs.QuietActs.{ends_same}
 use Rattle.help_queue_laws.proofs.QueueActs.{exchanging_later, exchanging_sound}
 use Rattle.help_queue_laws.proofs.HelpSteps.{helps_record, helps_head, helps_again, helps_look, helps_check, helps_gather}
@@ -93,9 +93,9 @@ module _ (seats i made s : ℕ) (announced : Bool) (inside : s < seats) (few : s
         | inl same ↦ (
             let act = completing word same help in
             record {
-              sound = completing_sound i s was _ act sound;
+              sound = advancing_sound i s was _ (completing_advances i s was _ act) sound;
               ends = completing_ends i s was _ act;
-              later = completing_later i s was _ act seats;
+              later = advancing_later i s was _ (completing_advances i s was _ act) seats;
               knows = knows_it (scene_after i words ghosts (Helps s announced (Complete word)) (completion s word)) _ (inside, tt, completes_head i (made + 1) s word was _ announced (record_number word) act back);
             })
       ]

@@ -20,3 +20,4 @@ pub mod HelperSteps
 pub mod CallerSteps
 pub mod RunLemmas
 pub mod LawLemmas
+pub mod Frames

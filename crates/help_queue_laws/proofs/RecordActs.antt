@@ -177,6 +177,58 @@ module _ (who n : ℕ) (a b : Scene) (h : Announcing who n a b) where
   pub announcing_open : IsOpen b who
   announcing_open = ap is_open generates
 
+-- ---- the record of the head goes on
+
+pub record Advancing (who s : ℕ) (a b : Scene) : Type 0 where
+  pub rewrites : Rewrites who s a b
+  pub opened : IsOpen a s
+  pub head : IsHead a s
+  pub called : IsOpen b s ⊎ IsDone b s
+  pub number : record_number (b.records s) ≡ record_number (a.records s)
+  pub later : IsEarlier (record_of (a.records s)) (record_of (b.records s))
+  pub announced : (t : ℕ) → b.announced t ≡ a.announced t
+
+module _ (who s : ℕ) (a b : Scene) (h : Advancing who s a b) where
+  advancing_fits : IsSound a → Fits s a b
+  advancing_fits sound =
+      let in' = head_holds a.queue s h.head in
+      let n = sound.numbered s (inl in') in
+      record {
+        engaged = λ _. h.head;
+        called = h.called;
+        some = subst (λ k. 1 ≤ k) (sym h.number) n.0;
+        op = n.1 ∙ sym h.number;
+        value = n.2 ∙ sym h.number;
+        head = λ _ _. h.head;
+        uses' =
+            let number = h.number in
+            let before : uses a s ≡ 2 * record_number (a.records s) - 1 = ap (λ x. uses_by x (record_phase (a.records s)) (record_number (a.records s))) in' in
+            let after : uses_by (holds a.queue s) (record_phase (b.records s)) (record_number (b.records s)) ≡ 2 * record_number (b.records s) - 1 =
+            ap (λ x. uses_by x (record_phase (b.records s)) (record_number (b.records s))) in' in
+            omega (arith, before, after, number);
+        known = λ t. omega (arith, h.announced t, sound.known t);
+      }
+
+  advancing_moves : (t : ℕ) → Moves who a b t
+  advancing_moves t =
+      elim (cases_eq t s) [
+        | inl same ↦ subst (λ k. Moves who a b k) (sym same) (inr (inr (record {
+          opened = h.opened;
+          head = h.head;
+          called = h.called;
+          number = h.number;
+          later = h.later;
+          announced = h.announced s;
+        })))
+        | inr other ↦ inl (record { same = h.rewrites.others t other; announced = h.announced t })
+      ]
+
+  pub advancing_sound : IsSound a → IsSound b
+  advancing_sound sound = rewrites_sound who s a b h.rewrites (advancing_fits sound) sound
+
+  pub advancing_later : (seats : ℕ) → Later seats who a b
+  advancing_later seats = rewrites_later who s a b h.rewrites seats advancing_moves
+
 -- ---- the call of the head is completed
 
 pub record Completing (who s : ℕ) (a b : Scene) : Type 0 where
@@ -203,50 +255,22 @@ module _ (who s : ℕ) (a b : Scene) (h : Completing who s a b) where
   keeps_round : record_round (b.records s) ≡ record_round (a.records s)
   keeps_round = ap record_round h.record' ∙ round-word Completed (record_number (a.records s)) (record_round (a.records s)) _ (number_below (a.records s)) (round_below (a.records s))
 
-  completing_fits : IsSound a → Fits s a b
-  completing_fits sound =
-      let in' = head_holds a.queue s h.head in
-      let n = sound.numbered s (inl in') in
-      record {
-        engaged = λ _. h.head;
-        called = inr completes';
-        some = subst (λ k. 1 ≤ k) (sym keeps_number) n.0;
-        op = n.1 ∙ sym keeps_number;
-        value = n.2 ∙ sym keeps_number;
-        head = λ _ _. h.head;
-        uses' =
-            let before : uses a s ≡ 2 * record_number (a.records s) - 1 = ap (λ x. uses_by x (record_phase (a.records s)) (record_number (a.records s))) in' in
-            let after : uses_by (holds a.queue s) (record_phase (b.records s)) (record_number (b.records s)) ≡ 2 * record_number (b.records s) - 1 =
-            ap (λ x. uses_by x (record_phase (b.records s)) (record_number (b.records s))) in' in
-            omega (arith, before, after, keeps_number);
-        known = λ t. omega (arith, h.announced t, sound.known t);
-      }
-
   completing_earlier : IsEarlier (record_of (a.records s)) (record_of (b.records s))
   completing_earlier =
       let before = open_before (record_phase (a.records s)) h.opened in
       let after : phase_number (record_phase (b.records s)) ≡ 4 = ap phase_number completes' in
       inr (sym keeps_number, inr (sym keeps_round, omega (arith, before, after)))
 
-  completing_moves : (t : ℕ) → Moves who a b t
-  completing_moves t =
-      elim (cases_eq t s) [
-        | inl same ↦ subst (λ k. Moves who a b k) (sym same) (inr (inr (record {
-          opened = h.opened;
-          head = h.head;
-          called = inr completes';
-          number = keeps_number;
-          later = completing_earlier;
-          announced = h.announced s;
-        })))
-        | inr other ↦ inl (record { same = h.rewrites.others t other; announced = h.announced t })
-      ]
-
-  pub completing_sound : IsSound a → IsSound b
-  completing_sound sound = rewrites_sound who s a b h.rewrites (completing_fits sound) sound
-
-  pub completing_later : (seats : ℕ) → Later seats who a b
-  completing_later seats = rewrites_later who s a b h.rewrites seats completing_moves
+  pub completing_advances : Advancing who s a b
+  completing_advances = record {
+    rewrites = h.rewrites;
+    opened = h.opened;
+    head = h.head;
+    called = inr completes';
+    number = keeps_number;
+    later = completing_earlier;
+    announced = h.announced;
+  }
 
   pub completing_ends : EndsWell a → EndsWell b
   completing_ends ends t done =
