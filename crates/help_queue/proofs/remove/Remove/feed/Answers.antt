@@ -1,0 +1,5 @@
+use Rattle.help_queue.proofs.AnswerLemmas.{gone_exactly}
+use Rattle.help_queue.proofs.remove.Remove.feed.Goals as goal
+
+pub returns-clause-gone : goal.returns-clause-gone
+returns-clause-gone c = gone_exactly _ _ _ c.advance.ensures.answer

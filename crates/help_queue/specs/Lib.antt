@@ -1,0 +1,3 @@
+pub mod Gathers
+pub mod Enters
+pub mod Removes

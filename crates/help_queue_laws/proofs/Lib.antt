@@ -1,0 +1,23 @@
+mod WorldLemmas
+pub mod Scenes
+pub mod QueueWords
+pub mod LaterLemmas
+pub mod Knowledge
+pub mod OtherLemmas
+pub mod Totals
+pub mod QuietActs
+pub mod RecordActs
+pub mod QueueActs
+pub mod GhostLemmas
+pub mod GatherSteps
+pub mod EnterSteps
+pub mod HelpSteps
+pub mod WonSteps
+pub mod Results
+pub mod CallSteps
+pub mod OwnerSteps
+pub mod HelperSteps
+pub mod CallerSteps
+pub mod RunLemmas
+pub mod LawLemmas
+pub mod Frames
