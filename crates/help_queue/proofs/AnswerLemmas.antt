@@ -55,17 +55,18 @@ entered_where (enter.Gathers g) seat seats seen can =
     let w = at_exchange (gather_over g) seen.won (among_seats seat g.found) (finishes g seat seen.before) (outcome_or_done seen.before) in
     (λ e. ((w.0 e).0, (w.0 e).1, same ∙ (w.0 e).2), λ h. w.1 (h.0, h.1, sym same ∙ h.2))
 
-finished_where : (stage : EnterStage) (seat : ℕ) (seen : Seen) (told : Outcome) → (entering_in stage seat seen ≡ entering.Finished told) ↔ SeesOutcome stage seat seen told
-finished_where enter.Look seat seen told = elim (holds seen.before seat) as (λ b. (cond b entering.Entered entering.Running ≡ entering.Finished told) ↔ ⊥) [ true ↦ (λ e. absurd (cc), λ h. absurd h) | false ↦ (λ e. absurd (cc), λ h. absurd h) ]
-finished_where (enter.Gathers g) seat seen told =
+finished_where : (stage : EnterStage) (seat seats : ℕ) (seen : Seen) (told : Outcome) → CanEnter stage seat seats → (entering_in stage seat seen ≡ entering.Finished told) ↔ SeesOutcome stage seat seen told
+finished_where enter.Look seat seats seen told can = elim (holds seen.before seat) as (λ b. (cond b entering.Entered entering.Running ≡ entering.Finished told) ↔ ⊥) [ true ↦ (λ e. absurd (cc), λ h. absurd h) | false ↦ (λ e. absurd (cc), λ h. absurd h) ]
+finished_where (enter.Gathers g) seat seats seen told can =
     let w = at_own_record (gather_over g) seen.won (among_seats seat g.found) (finishes g seat seen.before) (outcome_or_done seen.before) told in (
       λ e. (
+        can.2,
         not_over g (w.0 e).0,
         eqb-true g.next seat (and_parts (g.next == seat) (is_completed (record_phase seen.before)) (w.0 e).1).0,
         (and_parts (g.next == seat) (is_completed (record_phase seen.before)) (w.0 e).1).1,
         (w.0 e).2,
       ),
-      λ h. w.1 (not_from_true (nat_lt g.next g.among) (lt-ltb g.next g.among h.0), and_from (g.next == seat) (is_completed (record_phase seen.before)) (eq-eqb g.next seat h.1) h.2, h.3),
+      λ h. w.1 (not_from_true (nat_lt g.next g.among) (lt-ltb g.next g.among h.1), and_from (g.next == seat) (is_completed (record_phase seen.before)) (eq-eqb g.next seat h.2) h.3, h.4),
     )
 
 completed_phase : (phase : Phase) → is_completed phase ≡ true → phase ≡ Completed
@@ -98,8 +99,8 @@ module _ (owner : Owner) (seen : Seen) (answer : Entering) (e : answer ≡ enter
   pub entered_exactly : IsOwner owner → (answer ≡ entering.Entered) ↔ SeesSeat owner.stage owner.seat seen
   entered_exactly is = subst (λ a. (a ≡ entering.Entered) ↔ SeesSeat owner.stage owner.seat seen) (sym e) (entered_where owner.stage owner.seat owner.seats seen is.stage)
 
-  pub finished_exactly : (told : Outcome) → (answer ≡ entering.Finished told) ↔ SeesOutcome owner.stage owner.seat seen told
-  finished_exactly told = subst (λ a. (a ≡ entering.Finished told) ↔ SeesOutcome owner.stage owner.seat seen told) (sym e) (finished_where owner.stage owner.seat seen told)
+  pub finished_exactly : IsOwner owner → (told : Outcome) → (answer ≡ entering.Finished told) ↔ SeesOutcome owner.stage owner.seat seen told
+  finished_exactly is told = subst (λ a. (a ≡ entering.Finished told) ↔ SeesOutcome owner.stage owner.seat seen told) (sym e) (finished_where owner.stage owner.seat owner.seats seen told is.stage)
 
 pub gone_exactly : (removal : Removal) (seen : Seen) (answer : Removing) → answer ≡ removing_in removal.stage removal seen → (answer ≡ removing.Gone) ↔ SeesGone removal.stage removal seen
 gone_exactly removal seen answer e = subst (λ a. (a ≡ removing.Gone) ↔ SeesGone removal.stage removal seen) (sym e) (gone_where removal.stage removal seen)

@@ -64,11 +64,12 @@ abbrev pub SeesSeat : EnterStage → ℕ → Seen → Type 0
 SeesSeat Look seat seen = holds seen.before seat ≡ true
 SeesSeat (Gathers g) seat seen = (gather_over g ≡ true) × (seen.won ≡ true) × (holds (entered_word g) seat ≡ true)
 
--- the step loads the seat's own record, and finds it completed with this outcome
+-- the seat isn't in the word that was loaded, and the step loads its own record and finds it completed with this
+-- outcome
 abbrev pub SeesOutcome : EnterStage → ℕ → Seen → Outcome → Type 0
 SeesOutcome Look seat seen outcome = ⊥
 SeesOutcome (Gathers g) seat seen outcome =
-    (g.next < g.among) × (g.next ≡ seat) × (is_completed (record_phase seen.before) ≡ true) × (outcome ≡ outcome_or_done seen.before)
+    (holds g.word seat ≡ false) × (g.next < g.among) × (g.next ≡ seat) × (is_completed (record_phase seen.before) ≡ true) × (outcome ≡ outcome_or_done seen.before)
 
 -- what holds where an owner stands, whatever words it has seen
 abbrev pub CanEnter : EnterStage → ℕ → ℕ → Type 0

@@ -1,9 +1,8 @@
 //! Entering the queue word: an owner that has announced its call publishes it.
-ghost use Rattle.std.specs.Prelude.{◌≡◌, ℕ, ◌+◌, ◌%◌, ◌^◌, ◌<◌, ◌≤◌, ◌++◌, ◌↔◌, true, IsTrue, unwrap_or};
+ghost use Rattle.std.specs.Prelude.{◌≡◌, ℕ, ◌+◌, ◌%◌, ◌^◌, ◌<◌, ◌≤◌, ◌↔◌, unwrap_or};
 ghost use Rattle.lin_report.specs.declared.calls.Outcome.{Outcome};
 ghost use Rattle.lin_report.specs.declared.calls.Reply.TheVariants.{Done};
 ghost use Rattle.step_memory.specs.declared.steps.Request.{Request};
-ghost use Rattle.word_fields.specs.Seats.{queue_seats};
 ghost use Rattle.word_fields.specs.Queues.{queue_version};
 ghost use Rattle.word_fields.specs.Records.{record_phase};
 ghost use Rattle.op_record.specs.Outcomes;

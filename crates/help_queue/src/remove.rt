@@ -1,5 +1,5 @@
 //! Removing a completed call from the head of the queue word.
-ghost use Rattle.std.specs.Prelude.{◌≡◌, ℕ, ◌+◌, ◌%◌, ◌^◌, ◌<◌, ◌≤◌, ◌↔◌, true};
+ghost use Rattle.std.specs.Prelude.{◌≡◌, ℕ, ◌+◌, ◌%◌, ◌^◌, ◌<◌, ◌≤◌, ◌↔◌};
 ghost use Rattle.step_memory.specs.declared.steps.Request.{Request};
 ghost use Rattle.word_fields.specs.Queues.{queue_version};
 ghost use Rattle.help_queue.specs.Removes.{Removal, IsRemoval, SeesGone, completes, remove_new, remove_request, remove_fed, removing};
