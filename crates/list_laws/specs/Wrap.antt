@@ -18,13 +18,13 @@ use Rattle.list_laws.specs.declared.states.ListWrap.TheVariants.{Over}
 abbrev pub wrap_begun : Op → List Entry → ℕ → ListWrap × Wrapped
 wrap_begun op entries stop = if stop == 0 then (Over, wrapped.Restart) else (Over, wrapped.Done (Plain Yes))
 
--- a wrap-up asks for nothing
+-- a wrap-up never goes on. Asked all the same, it would load a word and be done: its functions are total
 abbrev pub wrap_asked : ListWrap → Request
 wrap_asked Over = Load LIST_START
 
 abbrev pub wrap_fed : ListWrap → Seen → ListWrap × Wrapped
 wrap_fed Over seen = (Over, wrapped.Done (Plain Yes))
 
--- a wrap-up has a next step
+-- so there is nothing that a wrap-up must be to be asked
 abbrev pub Wraps : ListWrap → Type 0
-Wraps Over = ⊥
+Wraps Over = Unit {0}
