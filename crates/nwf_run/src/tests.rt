@@ -239,7 +239,22 @@ fn reports_of_more_seats(rt: HostRuntime) -> Result<(), Fail> {
 }
 
 /// Runs of the list.
-const LISTS: [Row; 8] = [
+const LISTS: [Row; 10] = [
+    // A search of two nodes takes two steps a node, behind the load of the beginning: a call of it takes 8.
+    (
+        ONE_LIST,
+        "0 end/0 end/0 7/",
+        "add 1/add 2/has 3/",
+        0,
+        "0 1 add 1 yes 0 1 fast/0 2 add 2 yes 2 3 fast/0 3 has 3 pending 4 - fast/calls 3 fast 3 slow 0 exhausted 0 pending 1 overtaken 0/",
+    ),
+    (
+        ONE_LIST,
+        "0 end/0 end/0 8/",
+        "add 1/add 2/has 3/",
+        0,
+        "0 1 add 1 yes 0 1 fast/0 2 add 2 yes 2 3 fast/0 3 has 3 no 4 5 fast/calls 3 fast 3 slow 0 exhausted 0 pending 0 overtaken 0/",
+    ),
     (
         ONE_LIST,
         "0 end/0 end/0 end/0 end/0 end/",
