@@ -56,3 +56,4 @@ pub mod HistoryLemmas
 pub mod PlacedLemmas
 pub mod LinearizedLemmas
 pub mod PlaceableLemmas
+pub mod HeadlineLemmas

@@ -13,3 +13,4 @@ pub mod Runs
 pub mod Endings
 pub mod Placed
 pub mod Linearized
+pub mod Headline

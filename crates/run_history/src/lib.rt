@@ -5,6 +5,7 @@
 pub mod beside;
 pub mod entries;
 pub mod hands;
+pub mod headline;
 pub mod journals;
 pub mod linearized;
 pub mod lists;
