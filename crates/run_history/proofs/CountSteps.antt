@@ -100,12 +100,19 @@ module _ {S W : Type 0} (form : NormalForm S W) where
   quiet_step (Value reference) mech held words world draws = absurd (search rules)
   quiet_step (End reply) mech held words world draws = refl
 
-  pub drawn_count : (setup : Setup) (older : List Move) (move : Move) (mech : Mech S W) → slice_get (run_of form setup older).mechs move.seat ≡ Some mech
-      → draws_tick (begun move.begins mech).phase ≡ true → count_of setup (move ∷ older) ≡ count_of setup older
-  drawn_count setup older move mech at draws =
+  -- so the changes and the won exchanges are those before it
+  pub drawn_changes : (setup : Setup) (older : List Move) (move : Move) (mech : Mech S W) → slice_get (run_of form setup older).mechs move.seat ≡ Some mech
+      → draws_tick (begun move.begins mech).phase ≡ true
+      → ((world_of form setup (move ∷ older)).changes ≡ (world_of form setup older).changes) × ((world_of form setup (move ∷ older)).journal ≡ (world_of form setup older).journal)
+  drawn_changes setup older move mech at draws =
       let one = begun move.begins mech in
-      ap (λ (w : World). length w.changes) (sym (made_moved form setup older move mech at))
-      ∙ ap (λ (w : World). length w.changes) (quiet_step one.phase one ((ghost_of form setup older).seats move.seat).held (run_of form setup older).words (world_of form setup older) draws)
+      let made = sym (made_moved form setup older move mech at) in
+      let same = quiet_step one.phase one ((ghost_of form setup older).seats move.seat).held (run_of form setup older).words (world_of form setup older) draws in
+      (ap (λ (w : World). w.changes) made ∙ ap (λ (w : World). w.changes) same, ap (λ (w : World). w.journal) made ∙ ap (λ (w : World). w.journal) same)
+
+  drawn_count : (setup : Setup) (older : List Move) (move : Move) (mech : Mech S W) → slice_get (run_of form setup older).mechs move.seat ≡ Some mech
+      → draws_tick (begun move.begins mech).phase ≡ true → count_of setup (move ∷ older) ≡ count_of setup older
+  drawn_count setup older move mech at draws = ap length (drawn_changes setup older move mech at draws).0
 
   -- at the tick that a move draws there are as many as after it
   pub at_drawn : (setup : Setup) (older : List Move) (move : Move) (mech : Mech S W) → slice_get (run_of form setup older).mechs move.seat ≡ Some mech

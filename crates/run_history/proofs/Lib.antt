@@ -41,6 +41,9 @@ pub mod TellOwn
 pub mod TellLemmas
 pub mod Changing
 pub mod EndingLemmas
+pub mod Offering
+pub mod Listing
+pub mod VainLemmas
 pub mod LineLemmas
 pub mod AccountLemmas
 pub mod StructureLemmas

@@ -10,7 +10,8 @@ use Rattle.fast_slow_engine.specs.declared.setup.Setup.{Setup}
 use Rattle.fast_slow_engine.specs.Runs.{Move, AreMoves, run_of, moves_over}
 use Rattle.run_laws.specs.Claims.{KeepsClaims}
 use Rattle.run_laws.specs.Files.{FilesFit}
-use Rattle.run_laws.specs.Ticks.{KeepsTicks, report_of_run}
+use Rattle.fast_slow_engine.specs.Reports.{report_of_run}
+use Rattle.run_laws.specs.Ticks.{KeepsTicks}
 use Rattle.run_history.specs.Ghosts.{world_of}
 use Rattle.run_history.specs.Known.{IsKept}
 
