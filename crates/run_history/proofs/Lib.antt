@@ -50,6 +50,7 @@ pub mod StructureLemmas
 pub mod KeptLemmas
 pub mod ObeyLemmas
 pub mod RunLemmas
+pub mod ExchangeLemmas
 pub mod ChangeLemmas
 pub mod ReplyLemmas
 pub mod JournalOwners

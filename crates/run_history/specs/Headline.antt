@@ -16,7 +16,7 @@ use Rattle.run_laws.specs.Files.{FilesFit}
 use Rattle.fast_slow_engine.specs.Reports.{report_of_run}
 use Rattle.run_history.specs.Endings.{WasRefused, WonNone}
 use Rattle.run_history.specs.Ghosts.{world_of}
-use Rattle.run_history.specs.Journals.{AreApart}
+use Rattle.run_history.specs.Exchanges.{AreAtMostOnce, TellsExchanges, won_exchanges}
 use Rattle.run_history.specs.Runs.{JournalLaws}
 
 -- of the run of these files in this order: its lines with the calls that run are a report over the files, which
@@ -27,7 +27,8 @@ pub record MeetsHeadline {S W : Type 0} (form : NormalForm S W) (setup : Setup) 
   pub linearizable : IsLinearizable (object_of form.client) (report_of_run (run_of form setup (moves_over form setup files order)))
   pub none_left : All (λ (r : Receipt). r.reply ≡ Exhausted → WasRefused form setup (moves_over form setup files order) r) (run_of form setup (moves_over form setup files order)).receipts
   pub none_won : ChangesAtOnce form → All (λ (r : Receipt). r.reply ≡ Exhausted → WonNone form setup (moves_over form setup files order) r) (run_of form setup (moves_over form setup files order)).receipts
-  pub once : AllPairs AreApart (world_of form setup (moves_over form setup files order)).journal
+  pub exchanges : TellsExchanges form setup (moves_over form setup files order)
+  pub once : AreAtMostOnce setup.cap (won_exchanges form setup (moves_over form setup files order))
   pub journal : JournalLaws setup.cap (world_of form setup (moves_over form setup files order)).journal
 
 -- every run of files that fit does

@@ -10,6 +10,7 @@ pub mod Hands
 pub mod Changes
 pub mod Tells
 pub mod Runs
+pub mod Exchanges
 pub mod Endings
 pub mod Placed
 pub mod Linearized

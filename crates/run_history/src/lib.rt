@@ -4,6 +4,7 @@
 
 pub mod beside;
 pub mod entries;
+pub mod exchanges;
 pub mod hands;
 pub mod headline;
 pub mod journals;
