@@ -27,7 +27,7 @@ use Rattle.run_history.proofs.OwnLemmas.{made_moved}
 use Rattle.run_history.proofs.OwnMover.{moved, own_moved, own_of, seen_by}
 
 -- the counter after a step is no lower
-tick_rises : {S W : Type 0} (state after : RunState S W) → Summary state after → tick_of state ≤ tick_of after
+pub tick_rises : {S W : Type 0} (state after : RunState S W) → Summary state after → tick_of state ≤ tick_of after
 tick_rises state after h =
     elim h.kind [
       | begins two one begin none event word ↦ omega (arith, word)
@@ -47,7 +47,7 @@ module _ {S W : Type 0} (form : NormalForm S W) where
       omega (arith, same, length-append more.0 (world_of form setup older).changes)
 
   -- a tick that was drawn before the move, and one that was not drawn yet
-  at_early : (setup : Setup) (older : List Move) (move : Move) (tick : ℕ) → tick < tick_of (run_of form setup (move ∷ older))
+  pub at_early : (setup : Setup) (older : List Move) (move : Move) (tick : ℕ) → tick < tick_of (run_of form setup (move ∷ older))
       → changes_at form setup (move ∷ older) tick ≡ changes_at form setup older tick
   at_early setup older move tick early =
       ap (λ b. if b then changes_at form setup older tick else count_of setup (move ∷ older)) (lt-ltb tick (tick_of (run_of form setup (move ∷ older))) early)

@@ -89,6 +89,10 @@ module _ {S W : Type 0} (form : NormalForm S W) (setup : Setup) (older : List Mo
   pub first_still : (count : ℕ) → count ≤ count_of form setup older → first_changes count (ghost_of form setup (move ∷ older)).changes ≡ first_changes count (ghost_of form setup older).changes
   first_still count few = ap (first_changes count) changes_grow.1 ∙ first_after count changes_grow.0 (ghost_of form setup older).changes few
 
+  -- the move that drew a tick did so
+  pub drawn_stays : (tick : ℕ) (one : Move) (past : List Move) → IsDrawnAt form setup older tick one past → IsDrawnAt form setup (move ∷ older) tick one past
+  drawn_stays tick one past drawn = record { newer = move ∷ drawn.newer; made = ap (λ (l : List Move). move ∷ l) drawn.made; before = drawn.before; after = drawn.after }
+
   -- ---- the calls that returned before the move
 
   module _ (are : AreMoves form setup (move ∷ older)) (ticks : KeepsTicks form setup (move ∷ older)) where
@@ -120,10 +124,6 @@ module _ {S W : Type 0} (form : NormalForm S W) (setup : Setup) (older : List Mo
           told = subst (λ (l : List Change). r.reply ≡ (object.apply r.op (held_after object l)).1) (sym same) seen.told;
           unchanged = quiet seen.unchanged;
         }
-
-    -- the move that drew a tick did so
-    drawn_stays : (tick : ℕ) (one : Move) (past : List Move) → IsDrawnAt form setup older tick one past → IsDrawnAt form setup (move ∷ older) tick one past
-    drawn_stays tick one past drawn = record { newer = move ∷ drawn.newer; made = ap (λ (l : List Move). move ∷ l) drawn.made; before = drawn.before; after = drawn.after }
 
     refused_stays : (r : Receipt) → (ChangedNone form setup older r → ChangedNone form setup (move ∷ older) r) → (WonInVain form setup older r → WonInVain form setup (move ∷ older) r)
         → WasRefused form setup older r → WasRefused form setup (move ∷ older) r

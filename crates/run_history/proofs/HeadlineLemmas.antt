@@ -6,6 +6,7 @@ use Rattle.run_laws.proofs.FileLemmas.{files_run}
 use Rattle.run_history.specs.Headline.{FilesMeetHeadline}
 use Rattle.run_history.proofs.LinearizedLemmas.{files_linearizable, exhausted_only_where, exhausted_won_none}
 use Rattle.run_history.proofs.ExchangeLemmas.{exchanges_once, journals_tell}
+use Rattle.run_history.proofs.MomentLemmas.{has_history}
 use Rattle.run_history.proofs.PlaceableLemmas.{each_placeable}
 use Rattle.run_history.proofs.RunLemmas.{files_report, journals_obey}
 
@@ -17,6 +18,7 @@ files_meet_headline form laws setup files order fit =
     record {
       complete = files_report form laws setup files order fit;
       linearizable = files_linearizable form laws every setup files order fit;
+      history = has_history form laws setup moves are;
       none_left = exhausted_only_where form laws every setup moves are;
       none_won = λ at_once. exhausted_won_none form laws every at_once setup moves are;
       exchanges = journals_tell form laws setup moves are;

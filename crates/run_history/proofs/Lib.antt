@@ -60,4 +60,5 @@ pub mod HistoryLemmas
 pub mod PlacedLemmas
 pub mod LinearizedLemmas
 pub mod PlaceableLemmas
+pub mod MomentLemmas
 pub mod HeadlineLemmas

@@ -26,17 +26,19 @@ abbrev pub StandsOver : List Change → Change → List Change → Type 0
 StandsOver changes change older = (newer : List Change) × (changes ≡ newer ++ change ∷ older)
 
 module _ {S W : Type 0} (form : NormalForm S W) where
-  -- no change of the run is that of the line's call
+  -- no change of the run is that of the line's call; so it is of a call that observed or was left no block
   abbrev pub ChangedNone : Setup → List Move → Receipt → Type 0
   ChangedNone setup moves r = (change : Change) → Among change (ghost_of form setup moves).changes → change.list.call ≢ called_by r
 
-  -- where a list of the line's call won an exchange, that entry makes no change and the list is given up
+  -- where a list of the line's call won an exchange, that entry makes no change and the list is given up; this is
+  -- what holds of a call that was left no block, whatever the client
   abbrev pub WonInVain : Setup → List Move → Receipt → Type 0
   WonInVain setup moves r =
       (won : Won) (list : Listed) (j : ℕ) → Among won (ghost_of form setup moves).journal → won.maker ≡ By list j → list.call ≡ called_by r
       → (form.adds list j ≡ false) × form.dead list (world_of form setup moves)
 
-  -- no won exchange is that of a list of the line's call
+  -- no won exchange is that of a list of the line's call; so it is of a call that was left no block, where the first
+  -- entry of each list makes its change
   abbrev pub WonNone : Setup → List Move → Receipt → Type 0
   WonNone setup moves r =
       (won : Won) (list : Listed) (j : ℕ) → Among won (ghost_of form setup moves).journal → won.maker ≡ By list j → list.call ≢ called_by r

@@ -14,7 +14,8 @@ use Rattle.fast_slow_engine.specs.PhaseTable.{mech_request}
 use Rattle.fast_slow_engine.specs.Runs.{Move, RunState, AreMoves, begun, run_of}
 use Rattle.run_history.specs.Ghosts.{world_of}
 
--- an exchange that was won: its place, and the words before and after it
+-- an exchange that was won: its place, and the words before and after it; what a run is said to have done at most
+-- once is one of these
 pub record WonExchange : Type 0 where
   pub place : ℕ
   pub before : ℕ
@@ -26,13 +27,13 @@ exchanged_by is_versioned (Exchange at from to) true = if is_versioned at then r
 exchanged_by is_versioned _ _ = []
 
 module _ {S W : Type 0} (form : NormalForm S W) where
-  -- what a move has exchanged, as the request of its machine and what that saw say
+  -- what a move has exchanged, as the request of its machine and what that saw say; no list and no journal is asked
   abbrev pub moved_exchanges : Option (Mech S W) → Move → RunState S W → List WonExchange
   moved_exchanges None move state = []
   moved_exchanges (Some mech) move state =
       let request = mech_request form (begun move.begins mech) in exchanged_by form.is_versioned request (seen_of request state.words).won
 
-  -- of a run, the newest first
+  -- of a run, the newest first: the list with which the journal is compared
   abbrev pub won_exchanges : Setup → List Move → List WonExchange
   won_exchanges setup [] = []
   won_exchanges setup (move ∷ older) =

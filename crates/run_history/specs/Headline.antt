@@ -17,14 +17,18 @@ use Rattle.fast_slow_engine.specs.Reports.{report_of_run}
 use Rattle.run_history.specs.Endings.{WasRefused, WonNone}
 use Rattle.run_history.specs.Ghosts.{world_of}
 use Rattle.run_history.specs.Exchanges.{AreAtMostOnce, TellsExchanges, won_exchanges}
+use Rattle.run_history.specs.History.{HasHistory}
 use Rattle.run_history.specs.Runs.{JournalLaws}
 
 -- of the run of these files in this order: its lines with the calls that run are a report over the files, which
--- is linearizable; a call found no block left only where as many were asked for as there are; each exchange of
--- a list took effect at most once, and the won exchanges obey the laws of the journal
+-- is linearizable; each call made one change while it ran, or observed while it ran, or was left no block before it
+-- ended, and the last two changed nothing; where the first entry of each list makes its change, no list of a call
+-- that was left no block won an exchange; each exchange was won at most once, and the journal tells the exchanges
+-- that were won, with a cause of its own for each
 pub record MeetsHeadline {S W : Type 0} (form : NormalForm S W) (setup : Setup) (files : List (List Op)) (order : List ℕ) : Type 0 where
   pub complete : IsReport files (report_of_run (run_of form setup (moves_over form setup files order)))
   pub linearizable : IsLinearizable (object_of form.client) (report_of_run (run_of form setup (moves_over form setup files order)))
+  pub history : HasHistory form setup (moves_over form setup files order)
   pub none_left : All (λ (r : Receipt). r.reply ≡ Exhausted → WasRefused form setup (moves_over form setup files order) r) (run_of form setup (moves_over form setup files order)).receipts
   pub none_won : ChangesAtOnce form → All (λ (r : Receipt). r.reply ≡ Exhausted → WonNone form setup (moves_over form setup files order) r) (run_of form setup (moves_over form setup files order)).receipts
   pub exchanges : TellsExchanges form setup (moves_over form setup files order)

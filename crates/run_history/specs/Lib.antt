@@ -13,5 +13,6 @@ pub mod Runs
 pub mod Exchanges
 pub mod Endings
 pub mod Placed
+pub mod History
 pub mod Linearized
 pub mod Headline

@@ -7,6 +7,7 @@ pub mod entries;
 pub mod exchanges;
 pub mod hands;
 pub mod headline;
+pub mod history;
 pub mod journals;
 pub mod linearized;
 pub mod lists;
