@@ -1,15 +1,15 @@
 -- The journal of a run tells the exchanges that were won.
-use Rattle.std.proofs.Common.{rules, ◌≡◌, ◌≢◌, ◌∙◌, refl, sym, subst, ap, ℕ, ◌+◌, ◌*◌, ◌≤◌, ◌==◌, if◌then◌else◌, Bool, true, false, List, [], ◌∷◌, ◌++◌, map, length, slice_get, Option, Some, None, All, AllPairs, inl, inr, arith}
+use Rattle.std.proofs.Common.{◌≡◌, ◌≢◌, ◌∙◌, refl, sym, subst, ap, ℕ, ◌+◌, ◌*◌, ◌≤◌, ◌==◌, if◌then◌else◌, Bool, true, false, List, [], ◌∷◌, ◌++◌, map, slice_get, Option, Some, None, All}
 use Rattle.std.proofs.lemmas.List.{length-map}
-use Rattle.std.proofs.lemmas.List.Elements.{All-cons, All-nil, All-weaker}
+use Rattle.std.proofs.lemmas.List.Elements.{All-cons, All-nil}
 use Rattle.arrayvec.specs.ArrayVec.{ArrayVec}
 use Rattle.lin_report.specs.declared.calls.Op.{Op}
 use Rattle.step_memory.specs.declared.steps.Request.{Request}
 use Rattle.step_memory.specs.declared.steps.Request.TheVariants.{Load, Store, Exchange, Add}
-use Rattle.step_memory.specs.Step.{seen_of, words_after}
+use Rattle.step_memory.specs.Step.{seen_of}
 use Rattle.word_fields.specs.Versioned.{versioned_version}
 use Rattle.normal_traits.specs.declared.lists.Entry.{Entry}
-use Rattle.normal_traits.specs.World.{Listed, Won, World}
+use Rattle.normal_traits.specs.World.{Listed, World}
 use Rattle.normal_traits.specs.World.Maker.{By}
 use Rattle.normal_traits.specs.NormalForm.{NormalForm}
 use Rattle.normal_traits.specs.Steps.{exchanged, listed_if}
@@ -22,14 +22,13 @@ use Rattle.fast_slow_engine.specs.declared.phases.Generating.TheVariants.{Search
 use Rattle.fast_slow_engine.specs.declared.phases.Applying.TheVariants.{Fill, Execute}
 use Rattle.fast_slow_engine.specs.declared.setup.Setup.{Setup}
 use Rattle.fast_slow_engine.specs.Mechs.{Mech, block_of}
-use Rattle.fast_slow_engine.specs.PhaseTable.{fill_request, mech_request, request_in, store_of}
-use Rattle.fast_slow_engine.specs.Runs.{Move, AreMoves, begun, run_of}
+use Rattle.fast_slow_engine.specs.PhaseTable.{fill_request, request_in, store_of}
+use Rattle.fast_slow_engine.specs.Runs.{Move, AreMoves, run_of}
 use Rattle.run_laws.proofs.Pairs.{all_map, pairs_map}
-use Rattle.run_history.specs.Ghosts.{Held, asked_beside, asked_listed, uses_block, won_beside, won_entry, world_stepped, ghost_of, world_of}
+use Rattle.run_history.specs.Ghosts.{Held, asked_listed, uses_block, won_beside, won_entry, world_stepped, ghost_of, world_of}
 use Rattle.run_history.specs.Lists.{HoldsIn, OffersList}
 use Rattle.run_history.specs.Known.{OfHeld, KnowsIn, KnowsRun, KnowsWrap}
-use Rattle.run_history.specs.Journals.{AreApart}
-use Rattle.run_history.specs.Exchanges.{WonExchange, AreAtMostOnce, AreOfTwoEntries, ExchangesOnce, IsOfItsEntry, JournalsTell, TellsExchanges, exchanged_by, moved_exchanges, told_exchange, won_exchanges}
+use Rattle.run_history.specs.Exchanges.{WonExchange, AreAtMostOnce, ExchangesOnce, IsOfItsEntry, JournalsTell, exchanged_by, moved_exchanges, told_exchange, won_exchanges}
 use Rattle.run_history.proofs.Before.{Before, mover}
 use Rattle.run_history.proofs.JournalLemmas.{same_maker}
 use Rattle.run_history.proofs.JournalOwners.{beside_by}
@@ -39,7 +38,7 @@ use Rattle.run_history.proofs.MoverLemmas.{mover_command, mover_knows, mover_hol
 use Rattle.run_history.proofs.ObeyLemmas.{obeys}
 use Rattle.run_history.proofs.OnceLemmas.{wins_once}
 use Rattle.run_history.proofs.OwnLemmas.{made_moved}
-use Rattle.run_history.proofs.WinLemmas.{Wins, nothing, beside, takes, won_by, move_wins}
+use Rattle.run_history.proofs.WinLemmas.{nothing, beside, takes, won_by, move_wins}
 
 -- ---- what a request has exchanged
 

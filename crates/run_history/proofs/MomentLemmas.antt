@@ -10,7 +10,7 @@ use Rattle.fast_slow_engine.specs.Runs.{Move, AreMoves, run_of}
 use Rattle.run_laws.specs.Drawn.{IsDrawnAt}
 use Rattle.run_laws.specs.Ticks.{KeepsTicks}
 use Rattle.run_laws.proofs.StepKinds.{begins, returns, goes}
-use Rattle.run_laws.proofs.Summaries.{Summary, summary, tick_of}
+use Rattle.run_laws.proofs.Summaries.{summary, tick_of}
 use Rattle.run_laws.proofs.TickLemmas.{opening_word_at}
 use Rattle.run_history.specs.Ghosts.{ghost_of, world_of}
 use Rattle.run_history.specs.Moves.{Grows}
