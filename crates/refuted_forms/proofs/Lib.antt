@@ -1,0 +1,2 @@
+pub mod QueueWorlds
+pub mod QueueLemmas
