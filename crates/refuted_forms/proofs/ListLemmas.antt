@@ -15,7 +15,7 @@ use Rattle.normal_traits.specs.Steps.IsStep.{first}
 use Rattle.normal_traits.specs.Steps.Requested.{loaded}
 use Rattle.normal_traits.specs.Laws.{Laws}
 use Rattle.list_laws.specs.declared.states.TheConstants.{LIST_START}
-use Rattle.list_laws.specs.declared.states.ListSearch.TheVariants.{Start, Next, Key, DelReady}
+use Rattle.list_laws.specs.declared.states.ListSearch.TheVariants.{Start, Next, Key, AddReady, DelReady}
 use Rattle.list_laws.specs.declared.states.ListSearch.{ListSearch}
 use Rattle.list_laws.specs.Lists.{the_list}
 use Rattle.list_laws.specs.Shape.{AreSorted}
@@ -54,7 +54,7 @@ no_laws_from_a_set_bit laws =
     let begun = laws.begins_knowing set_world lower lower_command shape in
     let started = (laws.search_fed set_world set_world (seen_at LIST_START set_world) (Start sought LIST_START) lower 1 lower_command shape tt begun (loaded LIST_START)).0 in
     let nexted = (laws.search_fed set_world set_world (seen_at (next_place 5) set_world) (Next sought (at_start set_word) false 5) lower 1 lower_command shape (omega arith) started (loaded (next_place 5))).0 in
-    let ready = (laws.search_fed set_world set_world (seen_at (key_place 5) set_world) (Key sought (at_start set_word) false 5 0) lower 1 lower_command shape (omega arith) nexted (loaded (key_place 5))).0 in
+    let ready : Knows the_list (AddReady (at_start set_word) 5) lower set_world 1 = (laws.search_fed set_world set_world (seen_at (key_place 5) set_world) (Key sought (at_start set_word) false 5 0) lower 1 lower_command shape (omega arith) nexted (loaded (key_place 5))).0 in
     let clear : 1 ≡ 0 = ready.learnt.2 in
     omega (arith, clear)
 
@@ -140,6 +140,6 @@ module _ (laws : Laws list_past_a_mark) where
       let sought = sought_of higher in
       let begun = laws.begins_knowing marked_world higher higher_command marked_shape in
       let started = (laws.search_fed marked_world marked_world (seen_at LIST_START marked_world) (Start sought LIST_START) higher 2 higher_command marked_shape tt begun (loaded LIST_START)).0 in
-      let nexted = (laws.search_fed marked_world marked_world (seen_at (next_place 5) marked_world) (Next sought (at_start plain_word) false 5) higher 2 higher_command marked_shape (omega arith) started (loaded (next_place 5))).0 in
-      let even : 1 ≡ 0 = nexted.learnt.3.even in
+      let met : Knows the_list (Key sought (at_start plain_word) false 5 (marking 0)) higher marked_world 2 = (laws.search_fed marked_world marked_world (seen_at (next_place 5) marked_world) (Next sought (at_start plain_word) false 5) higher 2 higher_command marked_shape (omega arith) started (loaded (next_place 5))).0 in
+      let even : 1 ≡ 0 = met.learnt.3.even in
       omega (arith, even)

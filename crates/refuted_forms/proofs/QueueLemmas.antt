@@ -15,9 +15,9 @@ use Rattle.node_arena.specs.Opening.{opening_word, dummy_word}
 use Rattle.normal_traits.specs.World.{Took, Stopped, RightSince, held_after, first_changes}
 use Rattle.normal_traits.specs.World.Maker.{By}
 use Rattle.normal_traits.specs.Steps.Requested.{loaded}
-use Rattle.normal_traits.specs.Laws.{Laws}
+use Rattle.normal_traits.specs.Laws.{Laws, IsFixed}
 use Rattle.queue_laws.specs.declared.states.QueueSearch.TheVariants.{TakeTail}
-use Rattle.queue_laws.specs.Knowledge.{Knows}
+use Rattle.queue_laws.specs.Knowledge.{Knows, IsDead}
 use Rattle.queue_laws.specs.Form.{queue_form}
 use Rattle.refuted_forms.specs.QueueForms.{found_at_the_tail, restarts, queue_without_a_look, queue_that_restarts}
 use Rattle.refuted_forms.proofs.QueueWorlds.{the_list, the_search, the_entry, linked, linked_shape, knows_linked, offered_in}
@@ -61,8 +61,8 @@ pub no_laws_without_a_look : ¬ Laws queue_without_a_look
 unfolding versioned_value versioned_word changed_word block_place node_place node_named opening_word
 no_laws_without_a_look laws =
     let shape = linked_shape found_at_the_tail queue_form.wrap_begun_of laws in
-    let fed = laws.search_fed linked linked (record { before = linked.words TAIL; won = true }) (TakeTail dummy_word) the_take 1 take_command shape tt knows_head (loaded TAIL) in
-    never_empty fed.1.0
+    let told : RightSince (object_of queue_form.client) linked the_take 1 (Plain Empty) × IsFixed queue_form (Plain Empty) = (laws.search_fed linked linked (record { before = linked.words TAIL; won = true }) (TakeTail dummy_word) the_take 1 take_command shape tt knows_head (loaded TAIL)).1 in
+    never_empty told.0
 
 -- ---- the wrap-up of the put
 
@@ -79,5 +79,5 @@ stopped = record { within = omega arith; took = by_entry; failed = λ low. absur
 pub no_laws_with_a_restart : ¬ Laws queue_that_restarts
 no_laws_with_a_restart laws =
     let shape = linked_shape queue_form.found_of restarts laws in
-    let dead = laws.wrap_begun linked the_list the_search 0 1 shape (offered_in queue_form.found_of restarts linked knows_linked) stopped in
+    let dead : IsDead the_list linked = laws.wrap_begun linked the_list the_search 0 1 shape (offered_in queue_form.found_of restarts linked knows_linked) stopped in
     dead.lost took

@@ -21,7 +21,7 @@ behind_first first later rest keeps (zero, within, at) differ = absurd (differ a
 behind_first first later rest keeps (suc k, within, at) differ = subst (λ (c : Call). ¬ EndedBefore c first) at (keeps 0 (suc k) later (omega arith) within)
 
 -- the replies that say that nothing was there
-abbrev says_empty : Reply → Bool
+abbrev pub says_empty : Reply → Bool
 says_empty Empty = true
 says_empty (Value value) = false
 says_empty Yes = false
@@ -30,7 +30,7 @@ says_empty Done = false
 says_empty Absent = false
 says_empty Exhausted = false
 
-abbrev says_value : Reply → Bool
+abbrev pub says_value : Reply → Bool
 says_value (Value value) = true
 says_value Yes = false
 says_value No = false
@@ -39,7 +39,7 @@ says_value Empty = false
 says_value Absent = false
 says_value Exhausted = false
 
-abbrev says_done : Reply → Bool
+abbrev pub says_done : Reply → Bool
 says_done Done = true
 says_done (Value value) = false
 says_done Yes = false

@@ -1,5 +1,5 @@
--- Reports that are none, or are not linearizable.
-use Rattle.std.specs.Prelude.{◌≡◌, ◌≢◌, ℕ, ◌+◌, ◌-◌, ◌<◌, List, [], ◌∷◌, slice_get, Some, All, Contains}
+-- Reports that are none, or are not linearizable, beside those that are.
+use Rattle.std.specs.Prelude.{◌≡◌, ◌≢◌, ℕ, ◌+◌, ◌-◌, ◌<◌, ◌≤◌, List, [], ◌∷◌, slice_get, Some, All, Contains}
 use Rattle.lin_report.specs.declared.calls.Client.TheVariants as client
 use Rattle.lin_report.specs.declared.calls.Op.{Op}
 use Rattle.lin_report.specs.declared.calls.Path.TheVariants.{Fast}
@@ -33,6 +33,13 @@ EmptyAfterPut = (put_begin put_end take_begin take_end : ℕ) → put_end < take
 -- the take had ended when the put began, and yet it took the value
 abbrev pub ValueBeforePut : Type 0
 ValueBeforePut = (put_begin put_end take_begin take_end : ℕ) → take_end < put_begin → ¬ IsLinearizable (object_of client.Queue) (two_calls (the_put put_begin put_end) (the_take (Value 7) take_begin take_end))
+
+-- and the other way round: where the ticks leave it open, either answer will do
+abbrev pub EmptyBeforeEnd : Type 0
+EmptyBeforeEnd = (put_begin put_end take_begin take_end : ℕ) → take_begin ≤ put_end → IsLinearizable (object_of client.Queue) (two_calls (the_put put_begin put_end) (the_take Empty take_begin take_end))
+
+abbrev pub ValueAfterBegin : Type 0
+ValueAfterBegin = (put_begin put_end take_begin take_end : ℕ) → put_begin ≤ take_end → IsLinearizable (object_of client.Queue) (two_calls (the_put put_begin put_end) (the_take (Value 7) take_begin take_end))
 
 -- ---- calls left out
 

@@ -1,7 +1,7 @@
-//! Reports that the definitions of a report and of linearizability refuse.
+//! Reports that the definitions of a report and of linearizability refuse, and the next ones that they allow.
 #![tactic(auto)]
 
-ghost use Rattle.refuted_reports.specs.Refuted.{AnotherCommand, EmptyAfterPut, SkippedCall, ValueBeforePut};
+ghost use Rattle.refuted_reports.specs.Refuted.{AnotherCommand, EmptyAfterPut, EmptyBeforeEnd, SkippedCall, ValueAfterBegin, ValueBeforePut};
 
 /// Where a put of 7 was done, and a take that began after the put's end was answered `empty`, the report is
 /// not linearizable.
@@ -13,6 +13,16 @@ pub fn empty_after_put()
 /// is moved past its end tick.
 pub fn value_before_put()
     ensures { ValueBeforePut }
+{}
+
+/// Where the take began before the put had ended, it may be answered `empty`.
+pub fn empty_before_the_end()
+    ensures { EmptyBeforeEnd }
+{}
+
+/// Where the put began before the take had ended, the take may be answered the value 7.
+pub fn value_after_the_begin()
+    ensures { ValueAfterBegin }
 {}
 
 /// Where a call is in a report, and the call before it of the same seat has no line, it is no report over
