@@ -2,3 +2,4 @@ pub mod Mechs
 pub mod PhaseTable
 pub mod Runs
 pub mod Lines
+pub mod Reports

@@ -1,0 +1,10 @@
+//! What every run of command files comes to.
+ghost use Rattle.run_history.specs.Headline.{FilesMeetHeadline};
+
+use normal_traits::Normalized;
+
+/// In any order of the seats the report over the command files is whole and linearizable, a call is told that
+/// no block was left only where none was, and each exchange of a list took effect at most once.
+pub fn files_meet_headline<C: Normalized>()
+    ensures { FilesMeetHeadline C.form }
+{}
