@@ -1,14 +1,14 @@
 -- Moves are the run over the commands that they begin.
-use Rattle.std.proofs.Common.{arith, ◌≡◌, ◌∙◌, refl, sym, subst, ap, ℕ, zero, suc, ◌<◌, ◌≤◌, ◌==◌, cond, List, [], ◌∷◌, ◌++◌, length, append_assoc, append-nil, slice_get, Option, Some, None, option_map, All}
+use Rattle.std.proofs.Common.{arith, ◌≡◌, ◌∙◌, refl, sym, subst, ap, ℕ, zero, suc, ◌<◌, ◌≤◌, ◌==◌, cond, List, [], ◌∷◌, ◌++◌, length, get_or, append_assoc, append-nil, slice_get, Option, Some, None, option_map}
 use Rattle.std.specs.Option.{option_to_list}
 use Rattle.std.proofs.lemmas.List.FromFn.{get_or-map-range_with_len, length-map-range_with_len}
 use Rattle.std.proofs.lemmas.Option.{slice_get-get_or, slice_get_within}
 use Rattle.lin_report.specs.declared.calls.Op.{Op}
-use Rattle.lin_report.specs.Commands.{IsCommandOf}
+use Rattle.lin_report.specs.CommandFiles.{IsCommandFile}
 use Rattle.normal_traits.specs.NormalForm.{NormalForm}
 use Rattle.fast_slow_engine.specs.declared.setup.Setup.{Setup}
 use Rattle.fast_slow_engine.specs.Mechs.{Mech}
-use Rattle.fast_slow_engine.specs.PhaseTable.{rests}
+use Rattle.fast_slow_engine.specs.PhaseTable.{mech_new, rests}
 use Rattle.fast_slow_engine.specs.Runs.{CanMove, Move, AreMoves, move_of_seat, move_over, moves_over, next_move, run_of, with_move}
 use Rattle.run_laws.proofs.SeatLemmas.{seats_stay}
 use Rattle.move_orders.specs.Orders.{MovesOverFiles, begun_at, begun_files, seats_of}
@@ -51,6 +51,15 @@ module _ {S W : Type 0} (form : NormalForm S W) where
       ∙ next_over move.begins move.seat is.mech (begun_at older move.seat) (rest move.seat) is.can number in
       ap (λ ms. with_move (next_move files move.seat (run_of form setup ms)) ms) earlier ∙ ap (λ o. with_move o older) next
 
+  -- what a seat has begun is a file that it can run
+  runnable : (setup : Setup) (moves : List Move) → AreMoves form setup moves → (seat : ℕ) → seat < setup.seats → IsCommandFile form.client (begun_at moves seat)
+  runnable setup moves are seat low =
+      let mechs = (run_of form setup moves).mechs in
+      let count = (seats_stay form setup moves are).count in
+      let mech = get_or mechs seat (mech_new seat setup) in
+      let counts = each_counts form setup moves are seat mech (slice_get-get_or mechs seat (mech_new seat setup) (omega (arith, count, low))) in
+      record { few = subst (λ n. n ≤ 65535) counts.number counts.few; commands = counts.commands }
+
   pub moves_over_files : MovesOverFiles form
   moves_over_files setup moves are =
       let files = begun_files setup moves in
@@ -58,28 +67,10 @@ module _ {S W : Type 0} (form : NormalForm S W) where
       let long : length files ≡ setup.seats = length-map-range_with_len make 0 setup.seats in
       let at : (seat : ℕ) → seat < setup.seats → slice_get files seat ≡ Some (begun_at moves seat) =
       λ seat low. slice_get-get_or files seat (make seat) (omega (arith, long, low)) ∙ ap Some (get_or-map-range_with_len make 0 setup.seats seat seat (make seat) low (omega arith)) in
-      let counts : (seat : ℕ) → seat < setup.seats → (length (begun_at moves seat) ≤ 65535) × All (IsCommandOf form.client) (begun_at moves seat) = λ seat low. counted setup moves are seat low in
       record {
         fit = record {
           count = long;
-          few = λ k d inside. subst (λ (l : List Op). length l ≤ 65535) (sym (get_or-map-range_with_len make 0 setup.seats k k d (omega (arith, long, inside)) (omega arith))) (counts k (omega (arith, long, inside))).0;
-          commands = λ k d inside. subst (λ (l : List Op). All (IsCommandOf form.client) l) (sym (get_or-map-range_with_len make 0 setup.seats k k d (omega (arith, long, inside)) (omega arith))) (counts k (omega (arith, long, inside))).1;
+          runnable = λ k d inside. subst (IsCommandFile form.client) (sym (get_or-map-range_with_len make 0 setup.seats k k d (omega (arith, long, inside)) (omega arith))) (runnable setup moves are k (omega (arith, long, inside)));
         };
         same = over files setup moves (λ seat. []) are (λ seat low. at seat low ∙ ap Some (sym (append-nil (begun_at moves seat))));
       }
-    where
-      counted : (setup : Setup) (moves : List Move) → AreMoves form setup moves → (seat : ℕ) → seat < setup.seats → (length (begun_at moves seat) ≤ 65535) × All (IsCommandOf form.client) (begun_at moves seat)
-      counted setup moves are seat low =
-          let mechs = (run_of form setup moves).mechs in
-          let count = (seats_stay form setup moves are).count in
-          by setup moves are seat (slice_get mechs seat) refl (omega (arith, count, low))
-        where
-          by : (setup : Setup) (moves : List Move) (are : AreMoves form setup moves) (seat : ℕ) (o : Option (Mech S W)) → slice_get (run_of form setup moves).mechs seat ≡ o → seat < length (run_of form setup moves).mechs
-              → (length (begun_at moves seat) ≤ 65535) × All (IsCommandOf form.client) (begun_at moves seat)
-          by setup moves are seat (Some mech) at low = let c = each_counts form setup moves are seat mech at in (subst (λ n. n ≤ 65535) c.number c.few, c.commands)
-          by setup moves are seat None at low = absurd (past (run_of form setup moves).mechs seat at low)
-            where
-              past : (ms : List (Mech S W)) (k : ℕ) → slice_get ms k ≡ None → k < length ms → ⊥
-              past [] k e low = omega (arith, low)
-              past (m ∷ ms) zero e low = cc
-              past (m ∷ ms) (suc k) e low = past ms k e (omega (arith, low))

@@ -1,10 +1,9 @@
 -- A worker that stands in its place, before and after it ran.
-use Rattle.std.specs.Prelude.{◌≡◌, ℕ, ◌+◌, ◌≤◌, ◌-◌, List, [], ◌∷◌, ◌++◌, length, All, vec_capacity, true}
+use Rattle.std.specs.Prelude.{◌≡◌, ℕ, ◌+◌, ◌-◌, List, [], ◌∷◌, ◌++◌, length, vec_capacity, true}
 use Rattle.atomic_table.specs.Seated.{TableId}
 use Rattle.lin_report.specs.declared.calls.Client.{Client}
 use Rattle.lin_report.specs.declared.calls.Op.{Op}
 use Rattle.lin_report.specs.declared.calls.Receipt.{Receipt}
-use Rattle.lin_report.specs.Commands.{IsCommandOf}
 use Rattle.fast_slow_engine.specs.declared.setup.Setup.{Setup}
 use Rattle.fast_slow_engine.specs.Mechs.{Mech}
 use Rattle.fast_slow_engine.specs.PhaseTable.{rests}
@@ -13,11 +12,6 @@ use Rattle.shared_memory.specs.declared.view.Gathered.{Gathered}
 use Rattle.shared_memory.specs.Views.{first_view}
 use Rattle.thread_runs.specs.declared.worker.Worker.{Worker}
 use Rattle.thread_runs.specs.Work.{CanWork}
-
--- a file is of commands of the client, as many as a seat can number
-pub record IsFile (client : Client) (file : List Op) : Type 0 where
-  pub commands : All (IsCommandOf client) file
-  pub few : length file ≤ 65535
 
 -- the seats n - 1, n - 2, .. with these lines
 abbrev pub gathers : ℕ → List (List Receipt) → List Gathered

@@ -3,7 +3,8 @@ ghost use Rattle.std.specs.Prelude.{◌≡◌, ◌≢◌, ℕ, ◌+◌, ◌-◌,
 ghost use Rattle.node_arena.specs.Opening.{IsLaidOut};
 ghost use Rattle.fast_slow_engine.specs.PhaseTable.{mech_new};
 ghost use Rattle.shared_memory.specs.Views.{new_view};
-ghost use Rattle.thread_runs.specs.Placed.{IsFile, IsPlaced, root_view};
+ghost use Rattle.lin_report.specs.CommandFiles.{IsCommandFile};
+ghost use Rattle.thread_runs.specs.Placed.{IsPlaced, root_view};
 
 use crate::worker::Worker;
 use fast_slow_engine::{Machine, Setup};
@@ -54,7 +55,7 @@ fn new_worker<C: Normalized>(
 ) -> Result<Worker<C>, NoMemory>
     requires seat { seat < setup.seats }
     requires port { (port.view.machine ≡ mech_new seat setup) × (port.view.receipts ≡ []) }
-    requires file { IsFile C.form.client commands.items }
+    requires file { IsCommandFile C.form.client commands.items }
     ensures { IfOk result (λ w. IsPlaced C.form.client port.table port.view commands.items w) }
 {
     let receipts = room_for_lines(alloc, commands.len())?;
@@ -87,7 +88,7 @@ fn split_all<C: Normalized>(
     workers: &mut Vec<Worker<C>>,
 ) -> Result<(), NoMemory>
     requires count { length files.old.items ≡ setup.seats }
-    requires files { All (λ file. IsFile C.form.client file.items) files.old.items }
+    requires files { All (λ file. IsCommandFile C.form.client file.items) files.old.items }
     requires root { (root.old.table ≡ shared.now.table) × (root.old.view ≡ root_view setup 0) }
     requires room { (workers.old.items ≡ []) × (length files.old.items ≤ vec_capacity workers.old) }
     ensures root { IfOk result (λ _. (root.new.table ≡ shared.now.table) × (root.new.view ≡ root_view setup (length files.old.items - 1))) }
@@ -111,7 +112,7 @@ pub fn open<C: Normalized>(
 ) -> Result<(Shared<C>, Vec<Worker<C>>), NoMemory>
     requires client { IsLaidOut C.form.client }
     requires count { length files.items ≡ setup.seats }
-    requires files { All (λ file. IsFile C.form.client file.items) files.items }
+    requires files { All (λ file. IsCommandFile C.form.client file.items) files.items }
     ensures count { IfOk result (λ r. length r.1.items ≡ length files.items) }
     ensures setup { IfOk result (λ r. r.0.setup ≡ setup) }
     ensures others { IfOk result (λ r. (j : ℕ) (d : _) (e : _) → j + 1 < length files.items → IsPlaced C.form.client r.0.table (new_view (j + 1) setup false) (slice_index_or files.items (j + 1) e).items (slice_index_or r.1.items j d)) }

@@ -2,7 +2,8 @@ use Rattle.std.proofs.Common.{◌≡◌, ℕ, ◌+◌, ◌<◌, ◌≤◌, List,
 use Rattle.shared_memory.specs.declared.view.View.{View}
 use Rattle.shared_memory.specs.Views.{cut_left, new_view}
 use Rattle.thread_runs.specs.declared.worker.Worker.{Worker}
-use Rattle.thread_runs.specs.Placed.{IsFile, IsPlaced, root_view}
+use Rattle.lin_report.specs.CommandFiles.{IsCommandFile}
+use Rattle.thread_runs.specs.Placed.{IsPlaced, root_view}
 use Rattle.thread_runs.proofs.Places.{snoc_each, placed_as}
 use Rattle.thread_runs.proofs.opening.split_all.Goals as goal
 
@@ -10,7 +11,7 @@ pub new_worker-requires-clause-file : goal.new_worker-requires-clause-file
 new_worker-requires-clause-file g c κs within =
     let seat : ℕ = c.loop-seat.seat in
     let none = c.take_file-commands.result in
-    subst (λ f. IsFile g.C.Normalized.form.client f.items) (sym (c.take_file-commands.ensures.file none ∙ c.loop-seat.invariant.6 seat none (omega arith)))
+    subst (λ f. IsCommandFile g.C.Normalized.form.client f.items) (sym (c.take_file-commands.ensures.file none ∙ c.loop-seat.invariant.6 seat none (omega arith)))
     (c.requires.files seat none (let b = c.loop-seat-test.true in let n = c.loop-seat.invariant.5 in omega (arith, b, n)))
 
 pub loop-seat-preserved : goal.loop-seat-preserved
