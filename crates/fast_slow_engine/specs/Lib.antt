@@ -1,4 +1,5 @@
 pub mod Mechs
 pub mod PhaseTable
 pub mod Runs
+pub mod Lines
 pub mod Reports

@@ -7,6 +7,7 @@ pub use setup::{Setup, Turn};
 
 mod call;
 mod fast;
+pub mod lines;
 pub mod machine;
 pub mod phases;
 mod requests;

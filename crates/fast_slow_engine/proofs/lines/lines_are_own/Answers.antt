@@ -1,0 +1,5 @@
+use Rattle.fast_slow_engine.proofs.LineLemmas.{lines_are_own}
+use Rattle.fast_slow_engine.proofs.lines.lines_are_own.Goals as goal
+
+pub returns : goal.returns
+returns g c = lines_are_own

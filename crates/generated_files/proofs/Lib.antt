@@ -1,0 +1,3 @@
+pub mod Numbering
+pub mod Moved
+pub mod Runnable

@@ -1,0 +1,5 @@
+pub mod Begun
+pub mod OverFiles
+pub mod SeatLines
+pub mod Gathered
+pub mod Told

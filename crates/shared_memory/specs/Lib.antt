@@ -1,0 +1,4 @@
+pub mod ProvedSetup
+pub mod Views
+pub mod Rule
+pub mod Closing

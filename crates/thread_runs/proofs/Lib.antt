@@ -1,0 +1,6 @@
+pub mod Calls
+pub mod Places
+pub mod Gathering
+pub mod Runs
+pub mod Wholes
+pub mod Together

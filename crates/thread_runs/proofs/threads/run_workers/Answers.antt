@@ -1,0 +1,23 @@
+use Rattle.std.proofs.Common.{◌≡◌, sym, subst, vec_capacity}
+use denote.Exit.{no}
+use denote.Param.Send.{arg_send, arg_sync, param_send, param_sync}
+use Rattle.thread_runs.specs.declared.worker.Worker.{Worker}
+use Rattle.thread_runs.specs.Work.{CanWork}
+use Rattle.thread_runs.proofs.threads.run_workers.Goals as goal
+
+pub for_each_mut-requires-clause-accepts : goal.for_each_mut-requires-clause-accepts
+for_each_mut-requires-clause-accepts g c κs within i p inside is =
+    let r = c.requires.ready i p.now inside in (
+      subst (λ (w : Worker g.row.C.Denot g.row.C-Search.Denot g.row.C-Wrap.Denot). w.port.table ≡ c.args.shared.now.table) (sym is) r.0,
+      (
+        subst (λ (w : Worker g.row.C.Denot g.row.C-Search.Denot g.row.C-Wrap.Denot). CanWork g.C.Normalized.form.client w.port.view w.machine w.commands.items w.receipts.items (vec_capacity w.receipts)) (sym is) r.1,
+        (
+          param_send _ _ (arg_send _ no _ c.type_bounds.send-C),
+          param_send _ _ (arg_send _ no _ c.type_bounds.send-C-Search),
+          param_send _ _ (arg_send _ no _ c.type_bounds.send-C-Wrap),
+          param_sync _ _ (arg_sync _ no _ c.type_bounds.sync-R),
+          param_sync _ _ (arg_sync _ no _ c.type_bounds.sync-C),
+          param_sync _ _ (arg_sync _ no _ c.type_bounds.sync-G),
+        ),
+      ),
+    )
