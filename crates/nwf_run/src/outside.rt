@@ -11,6 +11,7 @@ pub use memory_sink::SinkInMemory;
 mod host;
 mod memory_files;
 mod memory_sink;
+mod openings;
 #[cfg(test)]
 mod tests;
 
