@@ -2,6 +2,7 @@ pub mod FirstNamed
 pub mod Known
 pub mod CutFiles
 pub mod JudgedFiles
+pub mod JudgedBytes
 pub mod FirstRefused
 pub mod ReadFiles
 pub mod SameOrder
