@@ -36,9 +36,9 @@ module _ (served : Served) (seats : ℕ) (files : ℕ → Option (List ℕ)) whe
       elim (cases_lt file other) [
         | inl less ↦ absurd (not_earlier file refusal other mate first second less)
         | inr after ↦ elim (cases_lt other file) [
-            | inl less ↦ absurd (not_earlier other mate file refusal second first less)
-            | inr before ↦ omega (arith, after, before)
-          ]
+          | inl less ↦ absurd (not_earlier other mate file refusal second first less)
+          | inr before ↦ omega (arith, after, before)
+        ]
       ]
 
   -- the reason of a result that names this file, where it is the first that is refused
@@ -60,4 +60,4 @@ module _ (served : Served) (seats : ℕ) (files : ℕ → Option (List ℕ)) whe
   pub refused_or : {X : Type 0} (result : Result X NoReport) → IfErr result (IsReason served seats files) → IfOk result (λ x. (entries : List ScheduleEntry) × (commands : List (List Op)) × Accepts served seats files entries commands)
       → (file : ℕ) (refusal : Refusal) → IsFirstRefused served seats files file refusal → (result ≡ Err (Refused file refusal)) ⊎ (result ≡ Err NoMemory)
   refused_or (Ok x) reason accepts file refusal first = absurd (accepted_none accepts.0 accepts.1 accepts.2 file refusal first)
-  refused_or (Err why) reason accepts file refusal first = elim (named why file refusal reason first) [ | inl is ↦ inl (ap Err is) | inr is ↦ inr (ap Err is) ]
+  refused_or (Err why) reason accepts file refusal first = elim (named why file refusal reason first) [ inl is ↦ inl (ap Err is) | inr is ↦ inr (ap Err is) ]
