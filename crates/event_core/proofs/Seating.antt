@@ -2,9 +2,10 @@
 use Rattle.std.proofs.Common.{rules, arith, ◌<◌, subst, remove, suc, slice_index_or, sum_by, ◌*◌, ◌≡◌, ◌∙◌, ◌+◌, ◌≤◌, ◌++◌, ◌∷◌, [], refl, sym, ap, ℕ, List, length, map, All}
 use Rattle.lin_report.specs.declared.calls.Client.{Client}
 use Rattle.lin_report.specs.declared.calls.Op.{Op}
+use Rattle.lin_report.specs.CommandFiles.{IsCommandFile}
 use Rattle.normal_traits.specs.NormalForm.{NormalForm}
 use Rattle.fast_slow_engine.specs.declared.setup.Setup.{Setup}
-use Rattle.event_core.specs.Seats.{Seat, IsFileOf, lines_owed, events_owed}
+use Rattle.event_core.specs.Seats.{Seat, lines_owed, events_owed}
 use Rattle.fast_slow_engine.specs.PhaseTable.{mech_new}
 use Rattle.std.proofs.lemmas.List.Sums.{sum_by-cons}
 use Rattle.std.proofs.lemmas.List.{length-append, append_assoc, append-nil}
@@ -18,13 +19,13 @@ use Rattle.event_core.proofs.CoreLemmas.{rebuilt}
 -- so many seats stand, and the others come from the files that are left
 pub record Seating {S W : Type 0} {F : Type 0} (commands : F → List Op) (form : NormalForm S W) (setup : Setup) (seats : List (Seat S W)) (room : ℕ) (rest files : List F) : Type 0 where
   pub made : seats ++ new_seats setup (length seats) (map commands rest) ≡ new_seats setup 0 (map commands files)
-  pub commanded : All (λ file. IsFileOf form.client (commands file)) rest
+  pub commanded : All (λ file. IsCommandFile form.client (commands file)) rest
   pub count : length seats + length rest ≡ setup.seats
   pub room' : length seats + length rest ≤ room
 
 -- the first file that is left is one of commands
-pub first_file : {F : Type 0} (client : Client) (commands : F → List Op) (rest : List F) (file : F) → All (λ f. IsFileOf client (commands f)) rest → 0 < length rest → file ≡ slice_index_or rest 0 file → IsFileOf client (commands file)
-first_file client commands rest file all some at = subst (λ x. IsFileOf client (commands x)) (sym at) (all 0 file some)
+pub first_file : {F : Type 0} (client : Client) (commands : F → List Op) (rest : List F) (file : F) → All (λ f. IsCommandFile client (commands f)) rest → 0 < length rest → file ≡ slice_index_or rest 0 file → IsCommandFile client (commands file)
+first_file client commands rest file all some at = subst (λ x. IsCommandFile client (commands x)) (sym at) (all 0 file some)
 
 all_behind : {F : Type 0} (P : F → Type 0) (rest : List F) → All P rest → All P (remove rest 0)
 all_behind P [] all = all
@@ -45,7 +46,7 @@ module _ {S W F : Type 0} (commands : F → List Op) (form : NormalForm S W) (se
       ∙ ap (λ x. seats ++ x ∷ new_seats setup (length seats + 1) (map commands rest)) (is ∙ ap (λ x. record { mech = mech_new (length seats) setup; file = commands x }) at)
 
   -- no seat stands, and the files are all left
-  pub none_seated : (seats : List (Seat S W)) (room : ℕ) (files : List F) → seats ≡ [] → All (λ file. IsFileOf form.client (commands file)) files → length files ≡ setup.seats → length files ≤ room
+  pub none_seated : (seats : List (Seat S W)) (room : ℕ) (files : List F) → seats ≡ [] → All (λ file. IsCommandFile form.client (commands file)) files → length files ≡ setup.seats → length files ≤ room
       → Seating commands form setup seats room files files
   none_seated seats room files none all count room' =
       record {
@@ -70,7 +71,7 @@ module _ {S W F : Type 0} (commands : F → List Op) (form : NormalForm S W) (se
       (subst (λ x. Seating commands form setup (seats ++ seat ∷ []) x (remove rest 0) files) (sym same)
       (record {
         made = next_made seats seat rest file some at seat_is ∙ s.made;
-        commanded = all_behind (λ f. IsFileOf form.client (commands f)) rest s.commanded;
+        commanded = all_behind (λ f. IsCommandFile form.client (commands f)) rest s.commanded;
         count = omega (arith, longer, fewer, s.count);
         room' = omega (arith, longer, fewer, s.room');
       })))

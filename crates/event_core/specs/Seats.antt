@@ -1,8 +1,8 @@
 -- A seat with the file of its commands.
-use Rattle.std.specs.Prelude.{ℕ, ◌+◌, ◌-◌, ◌*◌, ◌≤◌, Bool, false, if◌then◌else◌, List, length, slice_get, Option, None, IsTrue, All, is_none}
+use Rattle.std.specs.Prelude.{ℕ, ◌+◌, ◌-◌, ◌*◌, ◌≤◌, Bool, false, if◌then◌else◌, List, length, slice_get, Option, None, is_none}
 use Rattle.lin_report.specs.declared.calls.Client.{Client}
 use Rattle.lin_report.specs.declared.calls.Op.{Op}
-use Rattle.lin_report.specs.Commands.{is_command}
+use Rattle.lin_report.specs.CommandFiles.{IsCommandFile}
 use Rattle.fast_slow_engine.specs.Mechs.{Mech}
 use Rattle.fast_slow_engine.specs.PhaseTable.{lines_left, rests, ticks_left}
 
@@ -11,14 +11,9 @@ pub record Seat (S W : Type 0) : Type 0 where
   pub mech : Mech S W
   pub file : List Op
 
--- a file is of commands of the client, as many as a seat can number
-pub record IsFileOf (client : Client) (file : List Op) : Type 0 where
-  pub commands : All (λ op. IsTrue (is_command client op)) file
-  pub few : length file ≤ 65535
-
 -- the seat's calls are commands of its file, begun in order
 pub record IsSeatOf {S W : Type 0} (client : Client) (seat : Seat S W) : Type 0 where
-  pub file : IsFileOf client seat.file
+  pub file : IsCommandFile client seat.file
   pub number : seat.mech.number ≤ length seat.file
 
 -- how many lines the seat has still to write: one for each command that hasn't returned

@@ -1,7 +1,7 @@
 //! A run of seats over their command files.
 ghost use Rattle.std.specs.Prelude.{◌≡◌, ◌+◌, ◌++◌, ◌<◌, ◌≤◌, All, IfOk, Some, [], length, map, slice_get, sum_by, vec_len, vec_capacity};
 ghost use Rattle.node_arena.specs.Opening.{IsLaidOut};
-ghost use Rattle.event_core.specs.Seats.{IsFileOf};
+ghost use Rattle.lin_report.specs.CommandFiles.{IsCommandFile};
 ghost use Rattle.std.specs.Option.{option_to_list};
 ghost use Rattle.fast_slow_engine.specs.Runs.{returned};
 ghost use Rattle.event_core.specs.Cores.{core_new, core_turn_of, new_seats};
@@ -61,7 +61,7 @@ impl<C: Normalized> Core<C> {
     pub fn new(alloc: Global, setup: Setup, files: Vec<Vec<Op>>) -> Result<Core<C>, NoMemory>
         requires client { IsLaidOut C.form.client }
         requires seats { length files.items ≡ setup.seats }
-        requires files { All (λ file. IsFileOf C.form.client file.items) files.items }
+        requires files { All (λ file. IsCommandFile C.form.client file.items) files.items }
         ensures core { IfOk result (λ core. core ≡ core_new C.form setup (map (λ file. file.items) files.items)) }
     {
         let words = opening_words(alloc, setup.cap, C::CLIENT)?;
@@ -179,7 +179,7 @@ fn seats_of<C: Normalized>(
     files: Vec<Vec<Op>>,
 ) -> Result<Vec<Seat<C>>, NoMemory>
     requires seats { length files.items ≡ setup.seats }
-    requires files { All (λ file. IsFileOf C.form.client file.items) files.items }
+    requires files { All (λ file. IsCommandFile C.form.client file.items) files.items }
     ensures seats { IfOk result (λ seats. seats.items ≡ new_seats setup 0 (map (λ file. file.items) files.items)) }
 {
     let mut seats = room_for(alloc, files.len())?;

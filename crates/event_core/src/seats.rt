@@ -30,7 +30,8 @@ impl<C: Normalized> Model for Seat<C> {
 
 impl<C: Normalized> Seat<C> {
     ghost use Rattle.std.specs.Prelude.{Some, None};
-    ghost use Rattle.event_core.specs.Seats.{IsFileOf, command_of, events_owed, is_over, lines_owed};
+    ghost use Rattle.lin_report.specs.CommandFiles.{IsCommandFile};
+    ghost use Rattle.event_core.specs.Seats.{command_of, events_owed, is_over, lines_owed};
 
     /// Begins the seat's next command where no call runs. Whether a call runs then.
     pub fn begin_next(&mut self) -> bool
@@ -55,7 +56,7 @@ impl<C: Normalized> Seat<C> {
     /// The seat of this number, whose machine has made no call.
     pub fn new(seat: u32, setup: Setup, file: Vec<Op>) -> Seat<C>
         requires seat { seat < setup.seats }
-        requires file { IsFileOf C.form.client file.items }
+        requires file { IsCommandFile C.form.client file.items }
         ensures mech { result.mech ≡ mech_new seat setup }
         ensures file { result.file ≡ file.items }
     {

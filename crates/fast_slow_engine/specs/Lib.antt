@@ -1,3 +1,4 @@
 pub mod Mechs
 pub mod PhaseTable
 pub mod Runs
+pub mod Reports

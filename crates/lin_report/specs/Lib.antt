@@ -1,4 +1,5 @@
 pub mod Commands
+pub mod CommandFiles
 pub mod Object
 pub mod Calls
 pub mod Report

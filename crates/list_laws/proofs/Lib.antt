@@ -19,3 +19,4 @@ pub mod Searching
 pub mod Offers
 pub mod Wrapping
 pub mod Laws
+pub mod AtOnce

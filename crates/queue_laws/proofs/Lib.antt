@@ -14,3 +14,4 @@ pub mod Searching
 pub mod Offers
 pub mod Wrapping
 pub mod Laws
+pub mod AtOnce

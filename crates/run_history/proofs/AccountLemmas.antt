@@ -1,7 +1,7 @@
 -- All calls and all changes are accounted for, after one more move.
-use Rattle.std.proofs.Common.{rules, ◌≡◌, ◌≢◌, ◌∙◌, refl, sym, subst, ap, ℕ, ◌⊎◌, List, [], ◌∷◌, ◌++◌, slice_get, slice_index, Option, Some, None, All, AllPairs, Contains, get_or, inl, inr, arith}
+use Rattle.std.proofs.Common.{◌≡◌, ◌∙◌, refl, sym, subst, ap, ℕ, ◌⊎◌, List, [], ◌∷◌, ◌++◌, slice_get, slice_index, Option, Some, None, All, AllPairs, Contains, get_or, inl, inr, arith}
 use Rattle.std.proofs.lemmas.Bool.{cases_eq}
-use Rattle.std.proofs.lemmas.List.Elements.{All-append, All-nil, Contains-append_left, Contains-push}
+use Rattle.std.proofs.lemmas.List.Elements.{All-append, All-nil, Contains-append_left, Contains-get_or, Contains-push}
 use Rattle.lin_report.specs.declared.calls.Op.{Op}
 use Rattle.lin_report.specs.declared.calls.Receipt.{Receipt}
 use Rattle.lin_report.specs.declared.calls.Reply.{Reply}
@@ -22,27 +22,22 @@ use Rattle.run_laws.proofs.CallLemmas as calls
 use Rattle.run_laws.proofs.StepKinds.{rests_none}
 use Rattle.run_laws.proofs.Steps.{beside_set, move_steps, some_same}
 use Rattle.run_laws.proofs.Summaries.{tick_of}
-use Rattle.run_history.specs.Ghosts.{Held, SeatGhost, ghost_of, world_of}
-use Rattle.run_history.specs.Lists.{HoldsIn, called}
-use Rattle.run_history.specs.Known.{OfHeld}
-use Rattle.run_history.specs.Changes.{IsOfCall, MadeBy}
+use Rattle.run_history.specs.Ghosts.{ghost_of, world_of}
+use Rattle.run_history.specs.Lists.{called}
+use Rattle.run_history.specs.Changes.{IsOfCall}
 use Rattle.run_history.specs.Tells.{EachTells, TellsIn}
 use Rattle.run_history.specs.Tells.TellsRight.{observed, changed}
 use Rattle.run_history.specs.Endings.{CallsAccounted, HasEnded, IsMadeBy, StandsOver}
 use Rattle.run_history.specs.Endings.IsMadeBy.{runs, returned as has_line}
 use Rattle.run_history.proofs.Before.{mover}
-use Rattle.run_history.proofs.Changing.{Adds, IsHeldNow, Moved}
+use Rattle.run_history.proofs.Changing.{Adds, IsHeldNow, JournalOwned, Moved}
 use Rattle.run_history.proofs.Changing.Adds.{none, makes}
 use Rattle.run_history.proofs.EndingLemmas.{DifferentLists, ending_stays, first_differs, made_stays, same_change, stands_among, stands_in}
-use Rattle.run_history.proofs.HeldLemmas.{lists_held}
-use Rattle.run_history.proofs.LineLemmas.{all_lines, all_moves, claims_kept, line_ends, line_of, made_by_line, of_call, tells_end, ticks_kept}
+use Rattle.run_history.proofs.LineLemmas.{all_lines, all_moves, line_ends, line_of, made_by_line, of_call, tells_end, ticks_kept}
 use Rattle.run_history.proofs.TellLemmas.{called_same, none_made}
-use Rattle.run_history.proofs.TellStays.{holds_none}
+use Rattle.run_history.proofs.Offering.{held_of, offering}
+use Rattle.run_history.proofs.VainLemmas.{quiet_stays, vain_stays}
 use Rattle.run_history.proofs.OwnMover.{moved, moved_seated, own_of, seen_by}
-
--- what holds of all holds of each
-held_of : {X : Type 0} (P : X → Type 0) (xs : List X) (x : X) → All P xs → Contains xs x → P x
-held_of P xs x each has = subst P has.2 (each has.0 x has.1)
 
 module _ {S W : Type 0} (form : NormalForm S W) where
   -- a call that runs goes on, or returns
@@ -60,26 +55,6 @@ module _ {S W : Type 0} (form : NormalForm S W) where
   runs_as : (begins : Option Op) (mech : Mech S W) → CanMove form begins mech → ticks_left mech.phase ≡ 1 → begun begins mech ≡ mech
   runs_as None mech can one = refl
   runs_as (Some op) mech can one = absurd (omega (arith, one, rests_none mech.phase can.0))
-
-  -- of a machine that holds a list: its call runs and doesn't return now, and no other list made its change
-  record OffersNow (phase : Phase S W) (mech : Mech S W) (world : World) (held : Held S) : Type 0 where
-    pub one_left : ticks_left phase ≡ 1
-    pub stays : (reply : Reply) → phase ≢ End reply
-    pub only : MadeBy held.list world mech
-
-  only_held : (list : Option (Held S)) (mech : Mech S W) (world : World) (held : Held S) → list ≡ Some held → OfHeld (λ (h : Held S). MadeBy h.list world mech) list → MadeBy held.list world mech
-  only_held list mech world held is only = subst (λ (o : Option (Held S)). OfHeld (λ (h : Held S). MadeBy h.list world mech) o) is only
-
-  offers_now : (phase : Phase S W) (mech : Mech S W) (own : SeatGhost S) (world : World) (claims : ℕ) (held : Held S) → own.held ≡ Some held → HoldsIn form phase mech own.held
-      → TellsIn form phase mech own world claims → OffersNow phase mech world held
-  offers_now Idle mech own world claims held is holds tells = holds_none own.held held holds is
-  offers_now Begin mech own world claims held is holds tells = holds_none own.held held holds is
-  offers_now Look mech own world claims held is holds tells = holds_none own.held held holds is
-  offers_now (Generate s at) mech own world claims held is holds tells = holds_none own.held held holds is
-  offers_now (Apply run stores at) mech own world claims held is holds tells = record { one_left = refl; stays = λ reply e. absurd (search rules); only = only_held own.held mech world held is tells }
-  offers_now (Wrap w) mech own world claims held is holds tells = record { one_left = refl; stays = λ reply e. absurd (search rules); only = only_held own.held mech world held is tells }
-  offers_now (Value reference) mech own world claims held is holds tells = holds_none own.held held holds is
-  offers_now (End reply) mech own world claims held is holds tells = holds_none own.held held holds is
 
   module _ {setup : Setup} {older : List Move} {move : Move} (m : Moved form setup older move) (each : EachTells form setup older) where
     abbrev state : RunState S W
@@ -111,12 +86,15 @@ module _ {S W : Type 0} (form : NormalForm S W) where
     drawn : All (calls.HasEnded (tick_of state)) state.receipts
     drawn = (calls.ticks_go_on form setup older m.before.are (ticks_kept form m each).0).ended
 
-    all_ended : All (HasEnded form setup older) state.receipts → All (HasEnded form setup (move ∷ older)) after.receipts
-    all_ended old =
+    all_ended : JournalOwned form setup older → Adds form setup older move → All (HasEnded form setup older) state.receipts → All (HasEnded form setup (move ∷ older)) after.receipts
+    all_ended owned adds old =
         let P = HasEnded form setup (move ∷ older) in
         subst (All P) (sym receipts_are) (All-append P state.receipts (returned (mech_turn one (seen_by form m.before)))
-        (λ k d inside. ending_stays form setup older move (all_moves form m each) (ticks_kept form m each) (get_or state.receipts k d) (claims_kept form m each) (drawn k d inside) (old k d inside))
-        (all_lines P one.phase one (seen_by form m.before) (λ reply is. line_ends form m each reply is)))
+        (λ k d inside.
+        (let r = get_or state.receipts k d in
+        let known = Contains-get_or state.receipts k d inside in
+        ending_stays form setup older move (all_moves form m each) (ticks_kept form m each) r (drawn k d inside) (quiet_stays form m each r known adds) (vain_stays form m each r known) (old k d inside)))
+        (all_lines P one.phase one (seen_by form m.before) (λ reply is. line_ends form m each reply is owned)))
 
     -- ---- the calls that run
 
@@ -186,15 +164,10 @@ module _ {S W : Type 0} (form : NormalForm S W) where
     old_made change past stands (has_line r has made) =
         has_line r (line_stays r has) (made_stays form setup older move (all_moves form m each) (ticks_kept form m each) r change past (held_of (calls.HasEnded (tick_of state)) state.receipts r drawn has) made)
 
-    -- what is known of the seat whose list makes a change
-    offering : (seat : ℕ) (list : Listed) (held : IsHeldNow form setup older seat list) → OffersNow held.mech.phase held.mech world held.held
-    offering seat list held =
-        offers_now held.mech.phase held.mech ((ghost_of form setup older).seats seat) world (slice_index state.words 2) held.held held.holds (lists_held form setup older m.before.are seat held.mech held.seated) (each seat held.mech held.seated).tells
-
     -- the change that the move makes
     new_made : (change : Change) (past : List Change) (seat : ℕ) (list : Listed) → IsHeldNow form setup older seat list → change.list ≡ list → IsMadeBy form setup (move ∷ older) change past
     new_made change past seat list held is =
-        let now = offering seat list held in
+        let now = offering form setup older m.before.are each seat list held in
         by_running change past seat held.mech held.seated now.one_left (ap (λ (l : Listed). l.call) is ∙ held.call)
         (λ reply mine ends. absurd (now.stays reply (subst (λ (x : Mech S W). x.phase ≡ End reply) mine ends)))
 
@@ -218,7 +191,7 @@ module _ {S W : Type 0} (form : NormalForm S W) where
         let new = change_of (object_of form.client) list world.changes in
         let apart = first_differs new world.changes mate (subst (AllPairs DifferentLists) comes (m.laws.one_change_a_list (world_of form setup (move ∷ older)) m.kept.shape)) among in
         let own : IsOfCall held.mech mate = record { seat = sym same ∙ ap (λ (c : Called). c.seat) held.call; number = sym number ∙ ap (λ (c : Called). c.number) held.call } in
-        let one_list : mate.list ≡ list = (offering seat list held).only mate among own ∙ held.list_is in
+        let one_list : mate.list ≡ list = (offering form setup older m.before.are each seat list held).only mate among own ∙ held.list_is in
         apart (ap (λ (l : Listed). l.identity) (sym one_list))
 
     all_once : Adds form setup older move → CallsAccounted form setup older → (change mate : Change) (past rest : List Change) → StandsOver (ghost_of form setup (move ∷ older)).changes change past → StandsOver past mate rest
@@ -234,8 +207,8 @@ module _ {S W : Type 0} (form : NormalForm S W) where
         ]
 
     -- so after the move
-    pub accounted_more : Adds form setup older move → CallsAccounted form setup older → CallsAccounted form setup (move ∷ older)
-    accounted_more adds old = record { ended = all_ended old.ended; made = all_made adds old.made; once = all_once adds old }
+    pub accounted_more : JournalOwned form setup older → Adds form setup older move → CallsAccounted form setup older → CallsAccounted form setup (move ∷ older)
+    accounted_more owned adds old = record { ended = all_ended owned adds old.ended; made = all_made adds old.made; once = all_once adds old }
 
   -- nothing was changed when a run opens
   pub accounted_open : (setup : Setup) → CallsAccounted form setup []

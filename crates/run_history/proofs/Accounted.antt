@@ -29,4 +29,4 @@ module _ {S W : Type 0} (form : NormalForm S W) (laws : Laws form) where
   calls_accounted setup (move ∷ older) are =
       let m = moved_well setup older move are in
       let kept = changes_kept setup older are.0 in
-      accounted_more form m kept.tells (adds form m kept.owned) (calls_accounted setup older are.0)
+      accounted_more form m kept.tells kept.owned (adds form m kept.owned) (calls_accounted setup older are.0)

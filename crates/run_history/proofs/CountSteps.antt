@@ -27,7 +27,7 @@ use Rattle.run_history.proofs.OwnLemmas.{made_moved}
 use Rattle.run_history.proofs.OwnMover.{moved, own_moved, own_of, seen_by}
 
 -- the counter after a step is no lower
-tick_rises : {S W : Type 0} (state after : RunState S W) → Summary state after → tick_of state ≤ tick_of after
+pub tick_rises : {S W : Type 0} (state after : RunState S W) → Summary state after → tick_of state ≤ tick_of after
 tick_rises state after h =
     elim h.kind [
       | begins two one begin none event word ↦ omega (arith, word)
@@ -47,7 +47,7 @@ module _ {S W : Type 0} (form : NormalForm S W) where
       omega (arith, same, length-append more.0 (world_of form setup older).changes)
 
   -- a tick that was drawn before the move, and one that was not drawn yet
-  at_early : (setup : Setup) (older : List Move) (move : Move) (tick : ℕ) → tick < tick_of (run_of form setup (move ∷ older))
+  pub at_early : (setup : Setup) (older : List Move) (move : Move) (tick : ℕ) → tick < tick_of (run_of form setup (move ∷ older))
       → changes_at form setup (move ∷ older) tick ≡ changes_at form setup older tick
   at_early setup older move tick early =
       ap (λ b. if b then changes_at form setup older tick else count_of setup (move ∷ older)) (lt-ltb tick (tick_of (run_of form setup (move ∷ older))) early)
@@ -100,12 +100,19 @@ module _ {S W : Type 0} (form : NormalForm S W) where
   quiet_step (Value reference) mech held words world draws = absurd (search rules)
   quiet_step (End reply) mech held words world draws = refl
 
-  pub drawn_count : (setup : Setup) (older : List Move) (move : Move) (mech : Mech S W) → slice_get (run_of form setup older).mechs move.seat ≡ Some mech
-      → draws_tick (begun move.begins mech).phase ≡ true → count_of setup (move ∷ older) ≡ count_of setup older
-  drawn_count setup older move mech at draws =
+  -- so the changes and the won exchanges are those before it
+  pub drawn_changes : (setup : Setup) (older : List Move) (move : Move) (mech : Mech S W) → slice_get (run_of form setup older).mechs move.seat ≡ Some mech
+      → draws_tick (begun move.begins mech).phase ≡ true
+      → ((world_of form setup (move ∷ older)).changes ≡ (world_of form setup older).changes) × ((world_of form setup (move ∷ older)).journal ≡ (world_of form setup older).journal)
+  drawn_changes setup older move mech at draws =
       let one = begun move.begins mech in
-      ap (λ (w : World). length w.changes) (sym (made_moved form setup older move mech at))
-      ∙ ap (λ (w : World). length w.changes) (quiet_step one.phase one ((ghost_of form setup older).seats move.seat).held (run_of form setup older).words (world_of form setup older) draws)
+      let made = sym (made_moved form setup older move mech at) in
+      let same = quiet_step one.phase one ((ghost_of form setup older).seats move.seat).held (run_of form setup older).words (world_of form setup older) draws in
+      (ap (λ (w : World). w.changes) made ∙ ap (λ (w : World). w.changes) same, ap (λ (w : World). w.journal) made ∙ ap (λ (w : World). w.journal) same)
+
+  drawn_count : (setup : Setup) (older : List Move) (move : Move) (mech : Mech S W) → slice_get (run_of form setup older).mechs move.seat ≡ Some mech
+      → draws_tick (begun move.begins mech).phase ≡ true → count_of setup (move ∷ older) ≡ count_of setup older
+  drawn_count setup older move mech at draws = ap length (drawn_changes setup older move mech at draws).0
 
   -- at the tick that a move draws there are as many as after it
   pub at_drawn : (setup : Setup) (older : List Move) (move : Move) (mech : Mech S W) → slice_get (run_of form setup older).mechs move.seat ≡ Some mech

@@ -8,13 +8,12 @@ use Rattle.normal_traits.specs.World.{Change, Among, Observes, first_changes, he
 use Rattle.normal_traits.specs.NormalForm.{NormalForm}
 use Rattle.fast_slow_engine.specs.declared.setup.Setup.{Setup}
 use Rattle.fast_slow_engine.specs.Runs.{Move, AreMoves, run_of}
-use Rattle.run_laws.specs.Claims.{KeepsClaims}
+use Rattle.run_laws.specs.Drawn.{IsDrawnAt}
 use Rattle.run_laws.specs.Ticks.{KeepsTicks}
 use Rattle.run_laws.proofs.CallLemmas.{HasEnded}
-use Rattle.run_laws.proofs.ClaimLemmas.{claims_rise}
 use Rattle.run_laws.proofs.Summaries.{tick_of}
 use Rattle.run_history.specs.Ghosts.{ghost_of}
-use Rattle.run_history.specs.Endings.{HasSeen, MadeChange, StandsOver, WasRefused}
+use Rattle.run_history.specs.Endings.{ChangedNone, HasSeen, MadeChange, StandsOver, WasRefused, WonInVain}
 use Rattle.run_history.specs.Endings as endings
 use Rattle.run_history.specs.Endings.HasEnded.{made, saw, refused}
 use Rattle.run_history.proofs.CountSteps.{at_stays, at_within, count_of}
@@ -90,6 +89,10 @@ module _ {S W : Type 0} (form : NormalForm S W) (setup : Setup) (older : List Mo
   pub first_still : (count : ℕ) → count ≤ count_of form setup older → first_changes count (ghost_of form setup (move ∷ older)).changes ≡ first_changes count (ghost_of form setup older).changes
   first_still count few = ap (first_changes count) changes_grow.1 ∙ first_after count changes_grow.0 (ghost_of form setup older).changes few
 
+  -- the move that drew a tick did so
+  pub drawn_stays : (tick : ℕ) (one : Move) (past : List Move) → IsDrawnAt form setup older tick one past → IsDrawnAt form setup (move ∷ older) tick one past
+  drawn_stays tick one past drawn = record { newer = move ∷ drawn.newer; made = ap (λ (l : List Move). move ∷ l) drawn.made; before = drawn.before; after = drawn.after }
+
   -- ---- the calls that returned before the move
 
   module _ (are : AreMoves form setup (move ∷ older)) (ticks : KeepsTicks form setup (move ∷ older)) where
@@ -106,8 +109,9 @@ module _ {S W : Type 0} (form : NormalForm S W) (setup : Setup) (older : List Mo
           ended = omega (arith, end, by.ended);
         }
 
-    pub seen_stays : (r : Receipt) → HasEnded (tick_of (run_of form setup older)) r → HasSeen form setup older r → HasSeen form setup (move ∷ older) r
-    seen_stays r drawn seen =
+    pub seen_stays : (r : Receipt) → HasEnded (tick_of (run_of form setup older)) r → (ChangedNone form setup older r → ChangedNone form setup (move ∷ older) r)
+        → HasSeen form setup older r → HasSeen form setup (move ∷ older) r
+    seen_stays r drawn quiet seen =
         let begin = at_stays form setup older move r.begin are ticks (omega (arith, drawn.forward, drawn.below)) in
         let end = at_stays form setup older move r.end are ticks drawn.below in
         let object = object_of form.client in
@@ -118,19 +122,28 @@ module _ {S W : Type 0} (form : NormalForm S W) (setup : Setup) (older : List Mo
           ended = omega (arith, end, seen.ended);
           observes = subst (λ (l : List Change). Observes object r.op (held_after object l)) (sym same) seen.observes;
           told = subst (λ (l : List Change). r.reply ≡ (object.apply r.op (held_after object l)).1) (sym same) seen.told;
+          unchanged = quiet seen.unchanged;
         }
 
-    pub refused_stays : (r : Receipt) → KeepsClaims form setup (move ∷ older) → WasRefused form setup older r → WasRefused form setup (move ∷ older) r
-    refused_stays r claims none =
-        let rises = claims_rise form setup older move are claims in
-        record { exhausted = none.exhausted; may = none.may; none_left = omega (arith, none.none_left, rises) }
+    refused_stays : (r : Receipt) → (ChangedNone form setup older r → ChangedNone form setup (move ∷ older) r) → (WonInVain form setup older r → WonInVain form setup (move ∷ older) r)
+        → WasRefused form setup older r → WasRefused form setup (move ∷ older) r
+    refused_stays r quiet vain was = record {
+      exhausted = was.exhausted;
+      may = was.may;
+      move = was.move;
+      older = was.older;
+      drawn = drawn_stays r.end was.move was.older was.drawn;
+      none_left = was.none_left;
+      unchanged = quiet was.unchanged;
+      in_vain = vain was.in_vain;
+    }
 
     -- how a call ended stays
-    pub ending_stays : (r : Receipt) → KeepsClaims form setup (move ∷ older) → HasEnded (tick_of (run_of form setup older)) r
-        → endings.HasEnded form setup older r → endings.HasEnded form setup (move ∷ older) r
-    ending_stays r claims drawn ending =
+    pub ending_stays : (r : Receipt) → HasEnded (tick_of (run_of form setup older)) r → (ChangedNone form setup older r → ChangedNone form setup (move ∷ older) r)
+        → (WonInVain form setup older r → WonInVain form setup (move ∷ older) r) → endings.HasEnded form setup older r → endings.HasEnded form setup (move ∷ older) r
+    ending_stays r drawn quiet vain ending =
         elim ending [
           | made change past by ↦ made change past (made_stays r change past drawn by)
-          | saw seen ↦ saw (seen_stays r drawn seen)
-          | refused none ↦ refused (refused_stays r claims none)
+          | saw seen ↦ saw (seen_stays r drawn quiet seen)
+          | refused none ↦ refused (refused_stays r quiet vain none)
         ]

@@ -4,8 +4,9 @@ use Rattle.normal_traits.specs.Laws.{Laws}
 use Rattle.fast_slow_engine.specs.Runs.{moves_over}
 use Rattle.run_laws.proofs.FileLemmas.{files_run}
 use Rattle.run_history.specs.Headline.{FilesMeetHeadline}
-use Rattle.run_history.proofs.LinearizedLemmas.{files_linearizable, exhausted_only_where}
-use Rattle.run_history.proofs.OnceLemmas.{wins_once}
+use Rattle.run_history.proofs.LinearizedLemmas.{files_linearizable, exhausted_only_where, exhausted_won_none}
+use Rattle.run_history.proofs.ExchangeLemmas.{exchanges_once, journals_tell}
+use Rattle.run_history.proofs.MomentLemmas.{has_history}
 use Rattle.run_history.proofs.PlaceableLemmas.{each_placeable}
 use Rattle.run_history.proofs.RunLemmas.{files_report, journals_obey}
 
@@ -17,7 +18,10 @@ files_meet_headline form laws setup files order fit =
     record {
       complete = files_report form laws setup files order fit;
       linearizable = files_linearizable form laws every setup files order fit;
+      history = has_history form laws setup moves are;
       none_left = exhausted_only_where form laws every setup moves are;
-      once = wins_once form setup moves are;
+      none_won = λ at_once. exhausted_won_none form laws every at_once setup moves are;
+      exchanges = journals_tell form laws setup moves are;
+      once = exchanges_once form laws setup moves are;
       journal = journals_obey form laws setup moves are;
     }

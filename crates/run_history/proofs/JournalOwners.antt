@@ -38,7 +38,7 @@ among_behind x (y ∷ front) xs among = inr (among_behind x front xs among)
 same_list : (list other : Listed) (j k : ℕ) → By list j ≡ By other k → list ≡ other
 same_list list other j k same = cc
 
-beside_by : {B : Type 0} (maker : Maker) (list : Listed) (j : ℕ) → maker ≡ Beside → maker ≡ By list j → B
+pub beside_by : {B : Type 0} (maker : Maker) (list : Listed) (j : ℕ) → maker ≡ Beside → maker ≡ By list j → B
 beside_by maker list j is was = absurd (cc)
 
 module _ {S W : Type 0} (form : NormalForm S W) where

@@ -41,12 +41,16 @@ pub mod TellOwn
 pub mod TellLemmas
 pub mod Changing
 pub mod EndingLemmas
+pub mod Offering
+pub mod Listing
+pub mod VainLemmas
 pub mod LineLemmas
 pub mod AccountLemmas
 pub mod StructureLemmas
 pub mod KeptLemmas
 pub mod ObeyLemmas
 pub mod RunLemmas
+pub mod ExchangeLemmas
 pub mod ChangeLemmas
 pub mod ReplyLemmas
 pub mod JournalOwners
@@ -56,4 +60,5 @@ pub mod HistoryLemmas
 pub mod PlacedLemmas
 pub mod LinearizedLemmas
 pub mod PlaceableLemmas
+pub mod MomentLemmas
 pub mod HeadlineLemmas

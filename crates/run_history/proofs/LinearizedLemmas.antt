@@ -9,6 +9,7 @@ use Rattle.lin_report.specs.declared.calls.Op.{Op}
 use Rattle.lin_report.specs.declared.calls.Receipt.{Receipt}
 use Rattle.lin_report.specs.Calls.{Call, Report, answered_call}
 use Rattle.lin_report.specs.Commands.{IsCommandOf}
+use Rattle.lin_report.specs.CommandFiles.{IsCommandFile}
 use Rattle.lin_report.specs.Report.{IsCommand, IsReport, file_of}
 use Rattle.lin_report.proofs.Merging.{call_at_answered, count_of_calls}
 use Rattle.normal_traits.specs.NormalForm.{NormalForm}
@@ -16,11 +17,12 @@ use Rattle.normal_traits.specs.Laws.{Laws}
 use Rattle.fast_slow_engine.specs.declared.setup.Setup.{Setup}
 use Rattle.fast_slow_engine.specs.Runs.{Move, AreMoves, run_of, moves_over}
 use Rattle.run_laws.specs.Files.{FilesFit}
-use Rattle.run_laws.specs.Ticks.{report_of_run}
+use Rattle.fast_slow_engine.specs.Reports.{report_of_run}
 use Rattle.run_laws.proofs.FileLemmas.{files_run}
-use Rattle.run_history.specs.Linearized.{FilesLinearizable, RepliesFit, ExhaustedOnlyWhere}
+use Rattle.run_history.specs.Linearized.{FilesLinearizable, RepliesFit, ExhaustedOnlyWhere, ExhaustedWonNone}
 use Rattle.run_history.proofs.PlacedLemmas.{Placeable, linearizable, replies_fit, exhausted_only}
 use Rattle.run_history.proofs.RunLemmas.{files_report}
+use Rattle.run_history.proofs.VainLemmas.{nothing_won}
 
 -- ---- the commands of a report over files
 
@@ -37,7 +39,7 @@ module _ (client : Client) (setup : Setup) (files : List (List Op)) (fit : Files
   command_of : (c : Call) → IsCommand files c → IsCommandOf client c.op
   command_of c is =
       element_at (IsCommandOf client) (file_of files c.seat) (c.number - 1) c.op
-      (file_at (λ file. All (λ op. IsCommandOf client op) file) files c.seat (All-nil (λ op. IsCommandOf client op)) fit.commands) is.command
+      (file_at (IsCommandFile client) files c.seat (record { few = omega arith; commands = All-nil (IsCommandOf client) }) fit.runnable).commands is.command
 
   -- each answered call is of a command of the client
   pub commands_of : (report : Report) → IsReport files report → All (λ (r : Receipt). IsCommandOf client r.op) report.receipts
@@ -54,6 +56,10 @@ module _ {S W : Type 0} (form : NormalForm S W) (laws : Laws form) (every : (set
 
   pub exhausted_only_where : ExhaustedOnlyWhere form
   exhausted_only_where setup moves are = exhausted_only form setup moves (every setup moves are)
+
+  pub exhausted_won_none : ExhaustedWonNone form
+  exhausted_won_none at_once setup moves are k d inside exhausted =
+      let r = get_or (run_of form setup moves).receipts k d in nothing_won form at_once setup moves are r (exhausted_only_where setup moves are k d inside exhausted)
 
   pub replies_all_fit : RepliesFit form
   replies_all_fit setup files order fit =

@@ -1,5 +1,5 @@
 -- The laws of the journal of every run.
-use Rattle.std.proofs.Common.{◌≡◌, ◌≢◌, ◌∙◌, refl, sym, subst, ap, ℕ, ◌+◌, ◌<◌, ◌==◌, ◌||◌, ◌&&◌, not, nat_le, Bool, true, false, List, [], ◌∷◌, slice_get, Some, arith, rules}
+use Rattle.std.proofs.Common.{◌≡◌, ◌≢◌, ◌∙◌, refl, sym, subst, ap, ℕ, ◌+◌, ◌<◌, ◌≤◌, ◌==◌, ◌||◌, ◌&&◌, not, nat_le, Bool, true, false, List, [], ◌∷◌, slice_get, Some, arith, rules}
 use Rattle.std.specs.Prelude.{All, AllPairs}
 use Rattle.std.proofs.lemmas.List.Elements.{All-nil, All-cons, All-weaker}
 use Rattle.std.proofs.lemmas.List.Kept.{AllPairs-cons}
@@ -120,9 +120,11 @@ module _ {S W : Type 0} (form : NormalForm S W) (laws : Laws form) where
       let world = world_of form setup moves in
       let kept = is_kept form laws setup moves are in
       let on = are_past setup moves are in
+      let used = (structured form setup moves are (client_keeps_claims form setup moves kept.claims)).used in
       record {
         once_from = on.once;
         raised = All-weaker (IsPast world) (λ (won : Won). versioned_version won.after ≡ versioned_version won.before + 1) (λ item is. is.raised) world.journal on.each;
         causes = laws.causes_differ world kept.shape;
-        few = journal_few form world setup.cap laws kept.shape (structured form setup moves are (client_keeps_claims form setup moves kept.claims)).used;
+        bounded = All-weaker (λ (won : Won). (world.used won.cause.block ≡ true) × (won.cause.kind < 8)) (λ (won : Won). (won.cause.block ≤ setup.cap) × (won.cause.kind < 8)) (λ (won : Won) is. (used won.cause.block is.0, is.1)) world.journal (laws.causes_bounded world kept.shape);
+        few = journal_few form world setup.cap laws kept.shape used;
       }

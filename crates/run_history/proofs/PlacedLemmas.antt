@@ -1,5 +1,5 @@
 -- The report of a run is placed in the history of its changes, so it is linearizable.
-use Rattle.std.proofs.Common.{◌≡◌, ℕ, zero, suc, ◌<◌, ◌≤◌, List, [], ◌∷◌, ◌++◌, ◌-◌, map, take, length, slice_get, slice_index, get_or, Some, All, Contains, refl, sym, ap, subst, ◌∙◌, inl, inr, arith}
+use Rattle.std.proofs.Common.{◌≡◌, ℕ, zero, suc, ◌<◌, ◌≤◌, List, [], ◌∷◌, ◌++◌, ◌-◌, map, take, length, slice_get, get_or, Some, All, Contains, refl, sym, ap, subst, ◌∙◌, inl, inr, arith}
 use Rattle.std.specs.Option.{option_to_list}
 use Rattle.std.proofs.lemmas.List.{append_assoc, take-append-drop}
 use Rattle.std.proofs.lemmas.List.Elements.{All-weaker, Contains-append_left, Contains-append_right}
@@ -16,7 +16,6 @@ use Rattle.lin_report.specs.Object.{Object, object_of}
 use Rattle.lin_report.specs.Report.{IsReport}
 use Rattle.lin_report.proofs.Replies.{HoldsInRange, reply_fits}
 use Rattle.lin_report.proofs.Sequences.{object_answers}
-use Rattle.node_arena.specs.declared.places.TheConstants.{CLAIMS}
 use Rattle.normal_traits.specs.World.{Called, Change, first_changes, held_after}
 use Rattle.normal_traits.specs.NormalForm.{NormalForm}
 use Rattle.fast_slow_engine.specs.declared.phases.Phase.{Phase}
@@ -28,14 +27,14 @@ use Rattle.fast_slow_engine.specs.Runs.{Move, run_of, pending_of}
 use Rattle.placing_law.specs.Placing.{IsMade, HasObserved, IsAccounted, IsPlaced, change_of, held_at}
 use Rattle.placing_law.specs.Placing as placing
 use Rattle.placing_law.proofs.Placed.{placed_is_linearizable}
-use Rattle.run_laws.specs.Ticks.{report_of_run}
+use Rattle.fast_slow_engine.specs.Reports.{report_of_run}
 use Rattle.run_laws.proofs.StepKinds.{pending_open}
 use Rattle.run_laws.proofs.Steps.{some_same}
 use Rattle.run_history.specs.Ghosts.{SeatGhost, ghost_of}
 use Rattle.run_history.specs.Lists.{called}
 use Rattle.run_history.specs.Changes.{changes_at}
 use Rattle.run_history.specs.Tells.{CountsIn, EachTells}
-use Rattle.run_history.specs.Endings.{StandsOver, HasSeen, HasEnded, made, saw, refused, IsMadeBy, runs, returned, CallsAccounted}
+use Rattle.run_history.specs.Endings.{StandsOver, HasSeen, WasRefused, HasEnded, made, saw, refused, IsMadeBy, runs, returned, CallsAccounted}
 use Rattle.run_history.specs.Placed.{placed, history_of}
 use Rattle.run_history.proofs.HistoryLemmas.{length_history, at_place, change_at, held_before, held_first, placed_once}
 
@@ -193,14 +192,14 @@ module _ {S W : Type 0} (form : NormalForm S W) where
     pub replies_fit : All (λ r. IsCommandOf form.client r.op) report.receipts → All (λ r. IsReplyTo r.op r.reply) report.receipts
     replies_fit commands k d inside = reply_of (get_or report.receipts k d) (commands k d inside) (can.accounted.ended k d inside)
 
-    none_left : (r : Receipt) → HasEnded form setup moves r → r.reply ≡ Exhausted → setup.cap ≤ slice_index (run_of form setup moves).words CLAIMS
+    none_left : (r : Receipt) → HasEnded form setup moves r → r.reply ≡ Exhausted → WasRefused form setup moves r
     none_left r (made change older m) exhausted =
         absurd (object_answers form.client r.op (held_after object older) (sym (replies_there change older r.op m.stands (ap (λ (c : Called). c.op) m.call)) ∙ m.reply ∙ exhausted))
     none_left r (saw seen) exhausted = absurd (object_answers form.client r.op (held_after object (first_changes seen.count changes)) (sym seen.told ∙ exhausted))
-    none_left r (refused none) exhausted = none.none_left
+    none_left r (refused none) exhausted = none
 
-    -- only where no block was left is a call told so
-    pub exhausted_only : All (λ (r : Receipt). r.reply ≡ Exhausted → setup.cap ≤ slice_index (run_of form setup moves).words CLAIMS) report.receipts
+    -- only where no block was left is a call told so, and it changed nothing
+    pub exhausted_only : All (λ (r : Receipt). r.reply ≡ Exhausted → WasRefused form setup moves r) report.receipts
     exhausted_only k d inside = none_left (get_or report.receipts k d) (can.accounted.ended k d inside)
 
 -- ---- a change of a call that runs came after its begin tick

@@ -10,7 +10,9 @@ pub mod Hands
 pub mod Changes
 pub mod Tells
 pub mod Runs
+pub mod Exchanges
 pub mod Endings
 pub mod Placed
+pub mod History
 pub mod Linearized
 pub mod Headline

@@ -1,5 +1,5 @@
 -- The laws of every run of a client with its laws, over any moves and over command files.
-use Rattle.std.specs.Prelude.{◌≡◌, ◌≢◌, ℕ, ◌+◌, ◌*◌, ◌≤◌, List, ◌∷◌, length, All, AllPairs}
+use Rattle.std.specs.Prelude.{◌≡◌, ◌≢◌, ℕ, ◌+◌, ◌*◌, ◌<◌, ◌≤◌, List, ◌∷◌, length, All, AllPairs}
 use Rattle.lin_report.specs.declared.calls.Op.{Op}
 use Rattle.lin_report.specs.Report.{IsReport}
 use Rattle.word_fields.specs.Versioned.{versioned_version}
@@ -10,16 +10,19 @@ use Rattle.fast_slow_engine.specs.declared.setup.Setup.{Setup}
 use Rattle.fast_slow_engine.specs.Runs.{Move, AreMoves, run_of, moves_over}
 use Rattle.run_laws.specs.Claims.{KeepsClaims}
 use Rattle.run_laws.specs.Files.{FilesFit}
-use Rattle.run_laws.specs.Ticks.{KeepsTicks, report_of_run}
+use Rattle.fast_slow_engine.specs.Reports.{report_of_run}
+use Rattle.run_laws.specs.Ticks.{KeepsTicks}
 use Rattle.run_history.specs.Ghosts.{world_of}
 use Rattle.run_history.specs.Known.{IsKept}
 
 -- what the won exchanges of a run obey: at one place no word before is another's word before, a won exchange
--- raises the version by one, and no two have one cause; so there are few of them and no version wraps
+-- raises the version by one, and no two have one cause, which is of a block of the run and of one of eight kinds; so
+-- there are few of them and no version wraps
 pub record JournalLaws (cap : ℕ) (journal : List Won) : Type 0 where
   pub once_from : AllPairs (λ (a b : Won). a.place ≡ b.place → a.before ≢ b.before) journal
   pub raised : All (λ (won : Won). versioned_version won.after ≡ versioned_version won.before + 1) journal
   pub causes : AllPairs (λ (a b : Won). a.cause ≢ b.cause) journal
+  pub bounded : All (λ (won : Won). (won.cause.block ≤ cap) × (won.cause.kind < 8)) journal
   pub few : length journal ≤ 8 * (cap + 1)
 
 module _ {S W : Type 0} (form : NormalForm S W) where

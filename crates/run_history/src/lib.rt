@@ -4,8 +4,10 @@
 
 pub mod beside;
 pub mod entries;
+pub mod exchanges;
 pub mod hands;
 pub mod headline;
+pub mod history;
 pub mod journals;
 pub mod linearized;
 pub mod lists;

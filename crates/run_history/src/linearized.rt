@@ -1,5 +1,5 @@
 //! The reports of the runs of a client with its laws.
-ghost use Rattle.run_history.specs.Linearized.{FilesLinearizable, RepliesFit, ExhaustedOnlyWhere};
+ghost use Rattle.run_history.specs.Linearized.{FilesLinearizable, RepliesFit, ExhaustedOnlyWhere, ExhaustedWonNone};
 
 use normal_traits::Normalized;
 
@@ -13,7 +13,13 @@ pub fn replies_fit<C: Normalized>()
     ensures { RepliesFit C.form }
 {}
 
-/// A call is told that it found no block only where as many were asked for as there are.
+/// A call is told that it found no block only where none was left before it drew its end tick. It made no change,
+/// and where a list of it won an exchange, that entry makes no change and the list is given up.
 pub fn exhausted_only<C: Normalized>()
     ensures { ExhaustedOnlyWhere C.form }
+{}
+
+/// Where the first entry of each list makes its change, no list of such a call won an exchange.
+pub fn exhausted_won_none<C: Normalized>()
+    ensures { ExhaustedWonNone C.form }
 {}

@@ -20,7 +20,8 @@ pub fn counters_kept<C: Normalized>()
 {}
 
 /// The won exchanges: at one place no two have the same word before, each raises the version by one, no two
-/// have one cause, and there are at most eight for each block.
+/// have one cause, which is of a block of the run and of one of eight kinds, and there are at most eight for each
+/// block.
 pub fn journals_obey<C: Normalized>()
     ensures { JournalsObey C.form }
 {}

@@ -13,7 +13,8 @@ use Rattle.fast_slow_engine.specs.declared.setup.Setup.{Setup}
 use Rattle.fast_slow_engine.specs.Mechs.{Mech}
 use Rattle.fast_slow_engine.specs.PhaseTable.{mech_pending, ticks_left}
 use Rattle.fast_slow_engine.specs.Runs.{Move, RunState, AreMoves, pending_of, run_of}
-use Rattle.run_laws.specs.Ticks.{KeepsTicks, report_of_run}
+use Rattle.fast_slow_engine.specs.Reports.{report_of_run}
+use Rattle.run_laws.specs.Ticks.{KeepsTicks}
 use Rattle.run_laws.proofs.SeatLemmas.{new_mech}
 use Rattle.run_laws.proofs.StepKinds.{StepKind, begins, returns, goes, pending_none, pending_open}
 use Rattle.run_laws.proofs.TickLemmas.{each_all, opening_word_at, set_sum}

@@ -1,8 +1,9 @@
 -- A run over command files makes their commands.
-use Rattle.std.proofs.Common.{rules, arith, ◌≡◌, ◌∙◌, refl, sym, subst, ap, ℕ, ◌+◌, ◌-◌, ◌<◌, ◌≤◌, Bool, true, false, List, [], ◌∷◌, length, slice_get, slice_index_or, Option, Some, None, option_map, All}
+use Rattle.std.proofs.Common.{rules, arith, ◌≡◌, ◌∙◌, refl, sym, subst, ap, ℕ, ◌+◌, ◌-◌, ◌<◌, ◌≤◌, Bool, true, false, List, [], ◌∷◌, length, slice_get, slice_index_or, Option, Some, None, option_map}
 use Rattle.std.proofs.lemmas.Option.{get_or_from_slice_get, slice_get_within}
 use Rattle.lin_report.specs.declared.calls.Op.{Op}
 use Rattle.lin_report.specs.Commands.{IsCommandOf}
+use Rattle.lin_report.specs.CommandFiles.{IsCommandFile}
 use Rattle.lin_report.specs.Report.{file_of}
 use Rattle.step_memory.specs.Step.{seen_of}
 use Rattle.normal_traits.specs.NormalForm.{NormalForm}
@@ -76,11 +77,11 @@ module _ {S W : Type 0} where
   }
 
   module _ (form : NormalForm S W) where
-    can_move : (file : List Op) (begins : Option Op) (mech : Mech S W) → length file ≤ 65535 → All (λ op. IsCommandOf form.client op) file → IsNext begins file mech → CanMove form begins mech
-    can_move file None mech few commands next = next
-    can_move file (Some op) mech few commands next =
+    can_move : (file : List Op) (begins : Option Op) (mech : Mech S W) → IsCommandFile form.client file → IsNext begins file mech → CanMove form begins mech
+    can_move file None mech runnable next = next
+    can_move file (Some op) mech runnable next =
         let inside = slice_get_within file mech.number op next.1 in
-        (next.0, omega arith, subst (λ o. IsCommandOf form.client o) (get_or_from_slice_get file mech.number op op next.1) (commands mech.number op inside))
+        (next.0, omega (arith, inside, runnable.few), subst (λ o. IsCommandOf form.client o) (get_or_from_slice_get file mech.number op op next.1) (runnable.commands mech.number op inside))
 
     run_more : (setup : Setup) (files : List (List Op)) (moves : List Move) (move : Move) → FilesFit form.client setup files → IsFileRun form setup files moves
         → IsNextOf files (run_of form setup moves).mechs move → IsFileRun form setup files (move ∷ moves)
@@ -89,13 +90,12 @@ module _ {S W : Type 0} where
         let inside = slice_get_within files move.seat next.file next.filed in
         let own : slice_index_or files move.seat next.file ≡ next.file = get_or_from_slice_get files move.seat next.file next.file next.filed in
         let file : file_of files move.seat ≡ next.file = get_or_from_slice_get files move.seat next.file [] next.filed in
-        let few = subst (λ (f : List Op). length f ≤ 65535) own (fit.few move.seat next.file inside) in
-        let commands = subst (λ (f : List Op). All (λ op. IsCommandOf form.client op) f) own (fit.commands move.seat next.file inside) in
+        let runnable = subst (IsCommandFile form.client) own (fit.runnable move.seat next.file inside) in
         let mech = begun move.begins next.mech in
         let seen = seen_of (mech_request form mech) state.words in
         let old = subst (λ f. RunsFile f next.mech) file (run.runs move.seat next.mech next.seated) in
         let new = same_runs next.file (mech_fed form mech seen) mech (same_fed form mech seen) (begun_at next.file move.begins next.mech next.next old) in
-        let is : IsMove form state move = record { mech = next.mech; seated = next.seated; can = can_move next.file move.begins next.mech few commands next.next } in
+        let is : IsMove form state move = record { mech = next.mech; seated = next.seated; can = can_move next.file move.begins next.mech runnable next.next } in
         record {
           follow = (run.follow, is);
           runs = subst (λ (s : RunState S W). EachMech (λ seat mech. RunsFile (file_of files seat) mech) s.mechs) (sym (move_steps form state move next.mech next.seated))

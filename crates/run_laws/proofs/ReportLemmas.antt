@@ -18,7 +18,8 @@ use Rattle.fast_slow_engine.specs.PhaseTable.{mech_pending, pending_call, receip
 use Rattle.fast_slow_engine.specs.Runs.{Move, RunState, AreMoves, moves_over, next_move, pending_of, run_of, with_move}
 use Rattle.run_laws.specs.Seats.{EachMech, IsSeated}
 use Rattle.run_laws.specs.Files.{FilesFit, RunsFile, IsFileRun}
-use Rattle.run_laws.specs.Ticks.{KeepsTicks, TicksOnce, report_of_run}
+use Rattle.fast_slow_engine.specs.Reports.{report_of_run}
+use Rattle.run_laws.specs.Ticks.{KeepsTicks, TicksOnce}
 use Rattle.run_laws.specs.Reports.{RunsReport}
 use Rattle.run_laws.proofs.Pairs.{all_map, pairs_append, pairs_map, pairs_nil, pairs_one}
 use Rattle.run_laws.proofs.SeatLemmas.{seats_stay}

@@ -2,7 +2,7 @@
 use Rattle.std.specs.Prelude.{◌≡◌, ℕ, ◌-◌, ◌<◌, ◌≤◌, false, List, length, slice_get, Some, All}
 use Rattle.lin_report.specs.declared.calls.Client.{Client}
 use Rattle.lin_report.specs.declared.calls.Op.{Op}
-use Rattle.lin_report.specs.Commands.{IsCommandOf}
+use Rattle.lin_report.specs.CommandFiles.{IsCommandFile}
 use Rattle.lin_report.specs.Report.{file_of}
 use Rattle.normal_traits.specs.NormalForm.{NormalForm}
 use Rattle.fast_slow_engine.specs.declared.setup.Setup.{Setup}
@@ -11,11 +11,10 @@ use Rattle.fast_slow_engine.specs.PhaseTable.{rests}
 use Rattle.fast_slow_engine.specs.Runs.{Move, AreMoves, run_of, moves_over}
 use Rattle.run_laws.specs.Seats.{EachMech}
 
--- the files can be run: one for each seat, of commands of the client, as many as a seat can number
+-- the files can be run: one for each seat
 pub record FilesFit (client : Client) (setup : Setup) (files : List (List Op)) : Type 0 where
   pub count : length files ≡ setup.seats
-  pub few : All (λ file. length file ≤ 65535) files
-  pub commands : All (λ file. All (λ op. IsCommandOf client op) file) files
+  pub runnable : All (IsCommandFile client) files
 
 -- the call of the machine is the command of the file with its number, counted from 1, and as many calls
 -- have begun as its number says; a report names its commands by this

@@ -4,3 +4,4 @@ pub mod Ticks
 pub mod Reports
 pub mod Claims
 pub mod Premises
+pub mod Drawn

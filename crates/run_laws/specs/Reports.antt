@@ -6,7 +6,8 @@ use Rattle.normal_traits.specs.NormalForm.{NormalForm}
 use Rattle.fast_slow_engine.specs.declared.setup.Setup.{Setup}
 use Rattle.fast_slow_engine.specs.Runs.{moves_over, run_of}
 use Rattle.run_laws.specs.Files.{FilesFit}
-use Rattle.run_laws.specs.Ticks.{KeepsTicks, report_of_run}
+use Rattle.fast_slow_engine.specs.Reports.{report_of_run}
+use Rattle.run_laws.specs.Ticks.{KeepsTicks}
 
 module _ {S W : Type 0} (form : NormalForm S W) where
   -- every order of the seats makes a report over the files; linearizability is a property of such a report

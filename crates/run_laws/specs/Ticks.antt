@@ -1,6 +1,5 @@
--- The tick counter, and the report of a run.
+-- The tick counter: the ticks of a run are drawn once each.
 use Rattle.std.specs.Prelude.{◌≡◌, ℕ, ◌==◌, nat_lt, if◌then◌else◌, count_by, Bool, true, false, List, [], ◌∷◌, length, slice_get, slice_index, Some}
-use Rattle.lin_report.specs.Calls.{Report, report_of}
 use Rattle.lin_report.specs.Report.{ticks_of}
 use Rattle.step_memory.specs.declared.steps.Request.{Request}
 use Rattle.step_memory.specs.Step.{words_after}
@@ -11,7 +10,8 @@ use Rattle.fast_slow_engine.specs.declared.phases.Phase.TheVariants as phase
 use Rattle.fast_slow_engine.specs.declared.setup.Setup.{Setup}
 use Rattle.fast_slow_engine.specs.Mechs.{Mech}
 use Rattle.fast_slow_engine.specs.PhaseTable.{mech_request}
-use Rattle.fast_slow_engine.specs.Runs.{Move, RunState, AreMoves, begun, pending_of, run_of}
+use Rattle.fast_slow_engine.specs.Runs.{Move, RunState, AreMoves, begun, run_of}
+use Rattle.fast_slow_engine.specs.Reports.{report_of_run}
 
 -- the request leaves the word at the place as it was
 abbrev pub LeavesWord : ℕ → Request → List ℕ → Type 0
@@ -22,10 +22,6 @@ abbrev pub draws_tick : {S W : Type 0} → Phase S W → Bool
 draws_tick phase.Begin = true
 draws_tick (phase.End reply) = true
 draws_tick _ = false
-
--- the report of a run: the calls that returned and those that run
-abbrev pub report_of_run : {S W : Type 0} → RunState S W → Report
-report_of_run state = report_of state.receipts (pending_of state.mechs)
 
 -- each tick below the counter is that of one begin or return of the report, and no other tick is
 pub record HasTicksOnce {S W : Type 0} (state : RunState S W) : Type 0 where
