@@ -16,10 +16,10 @@ use Rattle.nwf_run.proofs.JudgedFiles.{there-weaker}
 
 -- a stop has none of the statuses of a report
 not_report : (stop : Stop) (status : ℕ) → status ≡ status_of stop → (status ≡ 0) ⊎ (status ≡ 5) ⊎ (status ≡ 7) → ⊥
-not_report Usage status is h = elim h [ | inl a ↦ omega (arith, is, a) | inr b ↦ elim b [ | inl a ↦ omega (arith, is, a) | inr a ↦ omega (arith, is, a) ] ]
-not_report (Refused file refusal) status is h = elim h [ | inl a ↦ omega (arith, is, a) | inr b ↦ elim b [ | inl a ↦ omega (arith, is, a) | inr a ↦ omega (arith, is, a) ] ]
-not_report (ReadFault file) status is h = elim h [ | inl a ↦ omega (arith, is, a) | inr b ↦ elim b [ | inl a ↦ omega (arith, is, a) | inr a ↦ omega (arith, is, a) ] ]
-not_report NoMemory status is h = elim h [ | inl a ↦ omega (arith, is, a) | inr b ↦ elim b [ | inl a ↦ omega (arith, is, a) | inr a ↦ omega (arith, is, a) ] ]
+not_report Usage status is h = elim h [ inl a ↦ omega (arith, is, a) | inr b ↦ elim b [ inl a ↦ omega (arith, is, a) | inr a ↦ omega (arith, is, a) ] ]
+not_report (Refused file refusal) status is h = elim h [ inl a ↦ omega (arith, is, a) | inr b ↦ elim b [ inl a ↦ omega (arith, is, a) | inr a ↦ omega (arith, is, a) ] ]
+not_report (ReadFault file) status is h = elim h [ inl a ↦ omega (arith, is, a) | inr b ↦ elim b [ inl a ↦ omega (arith, is, a) | inr a ↦ omega (arith, is, a) ] ]
+not_report NoMemory status is h = elim h [ inl a ↦ omega (arith, is, a) | inr b ↦ elim b [ inl a ↦ omega (arith, is, a) | inr a ↦ omega (arith, is, a) ] ]
 
 marked_status : (status : ℕ) (mark : Bool) → status ≡ cond mark 7 0 → status ≡ 7 → mark ≡ true
 marked_status status true is seven = refl
@@ -63,9 +63,9 @@ module _ (tells : Bool) (held : List ℕ → Option (List ℕ)) (words : Option 
       there-weaker _ _ (λ (r : Replay) (m : MakesReplay tells held r made.text.items made.exhausted). (m.run, m.is, m.headline, subst (AppendsPrefix written written') m.text_is.written prefix)) words text
   cut (Ok made) text (wrote is appends calm) five = absurd (not_five made.exhausted is)
     where
-    not_five : (mark : Bool) → status ≡ cond mark 7 0 → ⊥
-    not_five true seven = omega (arith, five, seven)
-    not_five false none = omega (arith, five, none)
+      not_five : (mark : Bool) → status ≡ cond mark 7 0 → ⊥
+      not_five true seven = omega (arith, five, seven)
+      not_five false none = omega (arith, five, none)
 
 module _ (tells : Bool) (held : List ℕ → Option (List ℕ)) (written written' : Option (List ℕ)) (faults faults' status read : ℕ) (before now : List Opening) where
   -- every file was opened where there is a report

@@ -3,7 +3,6 @@ pub mod Known
 pub mod CutFiles
 pub mod JudgedFiles
 pub mod JudgedBytes
-pub mod FirstRefused
 pub mod ReadFiles
 pub mod SameOrder
 pub mod Writable

@@ -1,11 +1,9 @@
 -- What the files of a replay are by the grammar. File 0 is the schedule, and file k the k-th command file, of
 -- which there is one for each seat. The files are given by their numbers: the bytes of each that is there.
-use Rattle.std.specs.Prelude.{◌≡◌, ℕ, ◌+◌, ◌-◌, ◌<◌, ◌≤◌, ◌==◌, if◌then◌else◌, List, [], Vec, length, slice_get, slice_index_or, Option, Some, None, IsSomeAnd, Result, Ok, Err, All}
+use Rattle.std.specs.Prelude.{◌≡◌, ℕ, ◌+◌, ◌-◌, ◌<◌, ◌≤◌, ◌==◌, if◌then◌else◌, List, [], Vec, length, slice_get, slice_index_or, Option, Some, None, IsSomeAnd, Result, Ok, Err}
 use Rattle.std.specs.Result.{result_err}
 use Rattle.std.specs.declared.alloc.Global.{Global}
-use Rattle.lin_report.specs.declared.calls.Client.{Client}
 use Rattle.lin_report.specs.declared.calls.Op.{Op}
-use Rattle.lin_report.specs.Commands.{IsCommandOf}
 use Rattle.script_reader.specs.declared.causes.Refusal.{Refusal}
 use Rattle.script_reader.specs.declared.schedules.ScheduleEntry.{ScheduleEntry}
 use Rattle.script_reader.specs.Schedules.{schedule_outcome}
@@ -51,11 +49,6 @@ module _ (served : Served) (seats : ℕ) (files : ℕ → Option (List ℕ)) whe
 -- the files of a replay by their numbers, where these are their bytes
 abbrev pub files_of_bytes : List ℕ → List (List ℕ) → ℕ → Option (List ℕ)
 files_of_bytes schedule files file = if file == 0 then Some schedule else slice_get files (file - 1)
-
--- what holds of the commands of an accepted file
-pub record IsCommandFile (client : Client) (ops : List Op) : Type 0 where
-  pub few : length ops ≤ 65535
-  pub commands : All (IsCommandOf client) ops
 
 -- the bytes of the file with this number were judged as what they are, unless there was no memory
 abbrev pub IsJudged : {X : Type 0} → Result (List X) Refusal → ℕ → Result (Vec X Global) NoReport → Type 0

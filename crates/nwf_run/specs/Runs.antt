@@ -12,7 +12,7 @@ use Rattle.list_laws.specs.Lists.{the_list}
 use Rattle.list_laws.specs.Form.{list_form}
 use Rattle.fast_slow_engine.specs.declared.setup.Setup.{Setup}
 use Rattle.fast_slow_engine.specs.Runs.{moves_over, run_of}
-use Rattle.run_laws.specs.Ticks.{report_of_run}
+use Rattle.fast_slow_engine.specs.Reports.{report_of_run}
 use Rattle.run_history.specs.Headline.{MeetsHeadline}
 use Rattle.schedule_runs.specs.Orders.{IsOrderOf}
 use Rattle.nwf_run.specs.Judging.{Accepts, files_of_bytes}

@@ -1,8 +1,9 @@
 //! Judges the bytes of the files of a replay.
 ghost use Rattle.std.specs.Prelude.{◌≡◌, ◌<◌, ◌≤◌, ◌+◌, ℕ, List, map, length, IfOk, IfErr, All};
+ghost use Rattle.lin_report.specs.CommandFiles.{IsCommandFile};
 ghost use Rattle.script_reader.specs.Schedules.{schedule_outcome};
 ghost use Rattle.script_reader.specs.Scripts.{script_outcome};
-ghost use Rattle.nwf_run.specs.Judging.{Accepts, IsCommandFile, IsJudged, IsReason, files_of_bytes};
+ghost use Rattle.nwf_run.specs.Judging.{Accepts, IsJudged, IsReason, files_of_bytes};
 ghost use Rattle.nwf_run.specs.Words.{client_of};
 
 use crate::stops::NoReport;

@@ -4,7 +4,7 @@ ghost use Rattle.std.specs.List.{list_any};
 ghost use Rattle.node_arena.specs.Opening.{IsLaidOut};
 ghost use Rattle.lin_report.specs.declared.calls.Op.{Op};
 ghost use Rattle.lin_report.specs.Text.{reply_is_exhausted};
-ghost use Rattle.nwf_run.specs.Judging.{IsCommandFile};
+ghost use Rattle.lin_report.specs.CommandFiles.{IsCommandFile};
 ghost use Rattle.nwf_run.specs.Words.{client_of};
 ghost use Rattle.nwf_run.specs.Writable.{RunsCanBeWritten};
 ghost use Rattle.nwf_run.specs.Runs.{IsDriven, MakesReport};

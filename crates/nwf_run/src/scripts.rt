@@ -1,10 +1,11 @@
 //! Reads the files of a replay in order and judges each before the next one is opened.
 ghost use Rattle.std.specs.Prelude.{◌≡◌, ◌<◌, ◌≤◌, ◌+◌, ◌∷◌, ◌⊎◌, ℕ, List, IsTrue, IfOk, IfErr, IsSomeAnd, All, length, map, take};
+ghost use Rattle.lin_report.specs.CommandFiles.{IsCommandFile};
 ghost use Rattle.script_reader.specs.Schedules.{schedule_outcome};
 ghost use Rattle.script_reader.specs.Scripts.{script_outcome};
 ghost use Rattle.nwf_run.specs.Words.{client_of};
 ghost use Rattle.nwf_run.specs.Said.{said};
-ghost use Rattle.nwf_run.specs.Judging.{Accepts, IsCommandFile};
+ghost use Rattle.nwf_run.specs.Judging.{Accepts};
 ghost use Rattle.nwf_run.specs.Reading.{FaultsAsTold, FileReads, OpensUntil, StopsAt, files_by_name};
 ghost use Rattle.nwf_run.specs.declared.stops.Stop.TheVariants as stop;
 

@@ -3,9 +3,10 @@ use Rattle.std.specs.Global.{Global}
 use Rattle.std.proofs.lemmas.List.{length-map, map-append}
 use Rattle.std.proofs.lemmas.List.Elements.{All-push}
 use Rattle.lin_report.specs.declared.calls.Op.{Op}
+use Rattle.lin_report.specs.CommandFiles.{IsCommandFile}
 use Rattle.script_reader.specs.Scripts.{script_outcome}
 use Rattle.nwf_run.specs.Words.{client_of}
-use Rattle.nwf_run.specs.Judging.{IsJudged, IsReason, SayFirst, IsCommandFile, files_of_bytes}
+use Rattle.nwf_run.specs.Judging.{IsJudged, IsReason, SayFirst, files_of_bytes}
 use Rattle.nwf_run.proofs.JudgedFiles.{say_more, told_err}
 use Rattle.nwf_run.proofs.JudgedBytes.{file_at, reason_next}
 use Rattle.nwf_run.proofs.judging.judge_files.Goals as goal

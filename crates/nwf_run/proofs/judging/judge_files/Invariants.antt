@@ -1,5 +1,6 @@
 use Rattle.std.proofs.Common.{◌≡◌, ◌≤◌, All, map, length, vec_len, vec_capacity}
-use Rattle.nwf_run.specs.Judging.{SayFirst, IsCommandFile, files_of_bytes}
+use Rattle.lin_report.specs.CommandFiles.{IsCommandFile}
+use Rattle.nwf_run.specs.Judging.{SayFirst, files_of_bytes}
 use Rattle.nwf_run.specs.Words.{client_of}
 use Rattle.nwf_run.proofs.judging.judge_files.Given as goal
 

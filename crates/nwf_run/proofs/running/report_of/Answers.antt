@@ -7,7 +7,7 @@ use Rattle.lin_report.specs.declared.calls.Op.{Op}
 use Rattle.lin_report.specs.declared.calls.Receipt.{Receipt}
 use Rattle.lin_report.specs.Calls.{report_of}
 use Rattle.lin_report.specs.Text.{reply_is_exhausted, report_text}
-use Rattle.run_laws.specs.Ticks.{report_of_run}
+use Rattle.fast_slow_engine.specs.Reports.{report_of_run}
 use Rattle.event_core.specs.Cores.{CoreView}
 use Rattle.nwf_run.proofs.RunReports.{files_of, files_fit, in_order, driven, can_be_written, can_write, few_lines, text_is, marked}
 use Rattle.nwf_run.proofs.running.report_of.Goals as goal

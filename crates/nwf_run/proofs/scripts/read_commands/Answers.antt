@@ -10,8 +10,8 @@ use Rattle.nwf_run.proofs.scripts.read_commands.Goals as goal
 
 pub returns-in-Ok-clause-reads : goal.returns-in-Ok-clause-reads
 returns-in-Ok-clause-reads g c = λ t.
-  judged_script c.args.client (g.F.Files.held c.args.files.now c.args.name.now) c.in_ok-bytes.bytes.items (Ok c.in-Ok.ops.items) (c.in_ok-bytes.ensures.bytes t)
-      (ap (script_outcome c.args.client) (sym c.deref.ensures.value) ∙ c.in-Ok.ensures.judged)
+    judged_script c.args.client (g.F.Files.held c.args.files.now c.args.name.now) c.in_ok-bytes.bytes.items (Ok c.in-Ok.ops.items) (c.in_ok-bytes.ensures.bytes t)
+    (ap (script_outcome c.args.client) (sym c.deref.ensures.value) ∙ c.in-Ok.ensures.judged)
 
 pub returns-clause-reads : goal.returns-clause-reads
 returns-clause-reads g c =

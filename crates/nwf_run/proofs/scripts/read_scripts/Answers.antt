@@ -3,12 +3,13 @@ use Rattle.std.specs.Global.{Global}
 use Rattle.std.proofs.lemmas.List.{get_or-map, length-map, map-append}
 use Rattle.std.proofs.lemmas.List.Elements.{All-push}
 use Rattle.lin_report.specs.declared.calls.Op.{Op}
+use Rattle.lin_report.specs.CommandFiles.{IsCommandFile}
 use Rattle.script_reader.specs.Schedules.{schedule_outcome}
 use Rattle.script_reader.specs.Scripts.{script_outcome}
 use Rattle.nwf_run.specs.declared.judging.Scripts.{Scripts}
 use Rattle.nwf_run.specs.Words.{client_of}
 use Rattle.nwf_run.specs.Said.{said}
-use Rattle.nwf_run.specs.Judging.{SayFirst, IsCommandFile}
+use Rattle.nwf_run.specs.Judging.{SayFirst}
 use Rattle.nwf_run.specs.Reading.{FileReads, Opens, OpensUntil, StopsAt, files_by_name, name_of}
 use Rattle.nwf_run.proofs.JudgedFiles.{say_more, told_err}
 use Rattle.nwf_run.proofs.ReadFiles.{name_at, opens_more, opens_until, stops_next}
@@ -107,7 +108,7 @@ loop-name-preserved g c =
     let file : IsCommandFile client ops = subst (λ k. IsCommandFile k ops) c.client.ensures c.in_ok-ops.ensures.commands in
     record {
       say = λ t. subst (SayFirst words.served (length (map string_bytes words.files.now)) (files_by_name held (said words))) same
-      (say_more words.served (length (map string_bytes words.files.now)) (files_by_name held (said words)) commands ops (c.loop-name.invariant.say t) (told t));
+          (say_more words.served (length (map string_bytes words.files.now)) (files_by_name held (said words)) commands ops (c.loop-name.invariant.say t) (told t));
       commands = subst (All (λ (o : Vec Op Global). IsCommandFile client o.items)) (sym more) (All-push (λ (o : Vec Op Global). IsCommandFile client o.items) done c.in_ok-ops.ops c.loop-name.invariant.commands file);
       count = search rules;
       room = search rules;

@@ -1,5 +1,6 @@
 use Rattle.std.proofs.Common.{◌≡◌, ◌≤◌, ◌+◌, ℕ, IsTrue, List, All, map, length, vec_len, vec_capacity}
-use Rattle.nwf_run.specs.Judging.{SayFirst, IsCommandFile}
+use Rattle.lin_report.specs.CommandFiles.{IsCommandFile}
+use Rattle.nwf_run.specs.Judging.{SayFirst}
 use Rattle.nwf_run.specs.Reading.{Opens, files_by_name}
 use Rattle.nwf_run.specs.Said.{said}
 use Rattle.nwf_run.specs.Words.{client_of}
