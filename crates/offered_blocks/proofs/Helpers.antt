@@ -1,0 +1,6 @@
+-- The steps of helpers on the list of an offered block.
+pub mod Deeds
+pub mod OwnDeeds
+pub mod BitsKept
+pub mod RunKept
+pub mod Allowed

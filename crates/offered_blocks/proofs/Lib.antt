@@ -1,0 +1,4 @@
+pub mod Blocks
+pub mod Helpers
+pub mod Others
+pub mod Records

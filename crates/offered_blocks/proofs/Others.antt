@@ -1,0 +1,3 @@
+-- The steps of anyone else.
+pub mod Foreign
+pub mod OthersKept

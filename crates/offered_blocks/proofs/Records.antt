@@ -1,0 +1,4 @@
+-- The steps on records, and what a record tells.
+pub mod RecordSteps
+pub mod Names
+pub mod Settles
