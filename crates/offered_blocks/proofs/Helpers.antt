@@ -4,3 +4,6 @@ pub mod OwnDeeds
 pub mod BitsKept
 pub mod RunKept
 pub mod Allowed
+pub mod Executes
+pub mod HelperBlocks
+pub mod Helping

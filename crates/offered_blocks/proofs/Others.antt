@@ -1,3 +1,5 @@
 -- The steps of anyone else.
 pub mod Foreign
 pub mod OthersKept
+pub mod Stores
+pub mod Exchanges

@@ -2,3 +2,5 @@
 pub mod RecordSteps
 pub mod Names
 pub mod Settles
+pub mod Puts
+pub mod Naming
