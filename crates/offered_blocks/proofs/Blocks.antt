@@ -6,4 +6,6 @@ pub mod Begins
 pub mod Named
 pub mod Kept
 pub mod Rises
+pub mod Opening
+pub mod Settled
 pub mod HoldsKept

@@ -7,3 +7,4 @@ pub mod Allowed
 pub mod Executes
 pub mod HelperBlocks
 pub mod Helping
+pub mod Running

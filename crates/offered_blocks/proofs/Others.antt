@@ -3,3 +3,4 @@ pub mod Foreign
 pub mod OthersKept
 pub mod Stores
 pub mod Exchanges
+pub mod Beside

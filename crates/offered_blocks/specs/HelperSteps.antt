@@ -1,6 +1,6 @@
 -- What a helper may do to the world, on the list of an offered block: however late it comes, and whoever it is. It is
 -- said of the words alone, of no machine.
-use Rattle.std.specs.Prelude.{◌≡◌, ◌≢◌, ℕ, ◌<◌, Option, Some}
+use Rattle.std.specs.Prelude.{◌≡◌, ◌≢◌, ℕ, ◌<◌, ◌≤◌, length}
 use Rattle.word_fields.specs.Versioned.{versioned_version, marked_word}
 use Rattle.normal_traits.specs.declared.lists.Entry.{Entry}
 use Rattle.normal_traits.specs.World.{World}
@@ -24,6 +24,7 @@ AreBehind world offer j =
 
 -- the list has stopped: behind entries that succeeded stands one that failed, or none
 pub record HasStopped {S : Type 0} (world : World) (offer : Offer S) (stop : ℕ) : Type 0 where
+  pub within : stop ≤ length offer.list.entries
   pub behind : AreBehind world offer stop
   pub last : (entry : Entry) → IsEntry offer.list.entries stop entry → state_at world offer stop ≡ state_word Failed
 

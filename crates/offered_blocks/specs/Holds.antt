@@ -1,6 +1,6 @@
 -- What holds of all blocks at every moment: of those that records have named, of those that none has, and of the
 -- client's world besides.
-use Rattle.std.specs.Prelude.{◌≡◌, ◌≢◌, ℕ, ◌<◌, true, false, Option, Some}
+use Rattle.std.specs.Prelude.{◌≡◌, ◌≢◌, ℕ, ◌<◌, true, false, Option, Some, None}
 use Rattle.normal_traits.specs.World.{Among, Won, World, is_word}
 use Rattle.normal_traits.specs.NormalForm.{NormalForm}
 use Rattle.normal_traits.specs.Steps.{IsFilled}
@@ -10,6 +10,9 @@ use Rattle.offered_blocks.specs.Blocks.{Offer, HasBlocks, has_taken}
 -- no record has named the block
 abbrev pub IsUnnamed : {S : Type 0} → (ℕ → Option (Offer S)) → ℕ → Type 0
 IsUnnamed {S} offers block = (offer : Offer S) → offers block ≢ Some offer
+
+abbrev pub no_offers : {S : Type 0} → ℕ → Option (Offer S)
+no_offers block = None
 
 -- the states of the entries of a block that no record has named are 0: its list, when it comes, is pending
 abbrev pub StatesPending : {S : Type 0} → World → (ℕ → Option (Offer S)) → Type 0

@@ -10,8 +10,8 @@ use Rattle.node_arena.specs.MemoryMap.{block_place, record_place}
 use Rattle.normal_traits.specs.declared.lists.Entry.{Entry}
 use Rattle.normal_traits.specs.World.{Listed, Maker, World, is_word}
 use Rattle.normal_traits.specs.NormalForm.{NormalForm}
-use Rattle.normal_traits.specs.Steps.{IsOffered, IsStep, object, put_word, with_change, with_word}
-use Rattle.offered_blocks.specs.Blocks.{Offer, IsExecuting, MayBeMarked, has_taken, is_of}
+use Rattle.normal_traits.specs.Steps.{IsOffered, IsStep, object, with_change, with_word}
+use Rattle.offered_blocks.specs.Blocks.{Offer, IsExecuting, has_taken, is_of}
 use Rattle.offered_blocks.specs.Holds.{IsUnnamed, FilledFor}
 
 -- the lists with one more: that of a block which a record now names

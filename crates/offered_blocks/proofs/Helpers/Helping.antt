@@ -1,24 +1,22 @@
 -- What a helper may do, as a step of a run: so it is an allowed step, and what holds of all blocks holds after it.
-use Rattle.std.proofs.Common.{◌≡◌, ◌≢◌, ◌∙◌, refl, sym, subst, ap, ℕ, ◌+◌, ◌<◌, ◌≤◌, ◌==◌, ◌||◌, Bool, true, false, if◌then◌else◌, inl, inr, List, length, slice_get, Option, Some, ◌⊎◌, arith}
+use Rattle.std.proofs.Common.{◌≡◌, ◌≢◌, ◌∙◌, refl, sym, subst, ap, ℕ, ◌<◌, ◌==◌, ◌||◌, Bool, true, false, if◌then◌else◌, inl, inr, Option, Some, ◌⊎◌, arith}
 use Rattle.std.proofs.lemmas.Bool.{cases_Bool, cases_eq, eq-eqb, ne_eqb, or_right}
 use Rattle.std.proofs.lemmas.Option.{slice_get_within}
 use Rattle.step_memory.specs.declared.steps.Request.TheVariants.{Exchange}
 use Rattle.step_memory.specs.declared.steps.Seen.{Seen}
 use Rattle.word_fields.specs.Versioned.{versioned_version, marked_word}
-use Rattle.word_fields.proofs.VersionedLemmas.{version-marked}
 use Rattle.normal_traits.specs.declared.lists.Entry.{Entry}
 use Rattle.normal_traits.specs.World.{World}
 use Rattle.normal_traits.specs.NormalForm.{NormalForm}
 use Rattle.normal_traits.specs.Laws.{Laws}
-use Rattle.normal_traits.specs.Steps.{IsStep, put_word, using_block, with_word}
+use Rattle.normal_traits.specs.Steps.{IsStep, put_word, with_word}
 use Rattle.normal_traits.specs.Steps.IsStep.{nothing}
 use Rattle.normal_traits.specs.World.Maker.{By}
 use Rattle.normal_traits.proofs.Stays.{word_beside, word_put}
 use Rattle.cas_executor.specs.declared.slow_run.SlowStep.{SlowStep}
-use Rattle.cas_executor.specs.declared.slow_run.SlowStep.TheVariants.{LoadState, Install, LoadTarget, Succeed, Fail, LoadDecision, Clear}
+use Rattle.cas_executor.specs.declared.slow_run.SlowStep.TheVariants.{Install, Succeed, Fail, Clear}
 use Rattle.cas_executor.specs.SlowRuns.{SlowWalk, installs, request_at, slow_request, state_place, step_request}
 use Rattle.cas_executor_laws.specs.ExecRuns.{IsEntry}
-use Rattle.cas_executor_laws.specs.Entries.{IsPast}
 use Rattle.cas_executor_laws.specs.Parts.{AreDone, IsMade, Knows, KnowsEntry, view_in}
 use Rattle.cas_executor_laws.proofs.SiteLemmas.{entry_at}
 use Rattle.offered_blocks.specs.Blocks.{Offer, IsOffer, has_taken, site_of}

@@ -1,5 +1,5 @@
 -- A won exchange of a word of the client beside the offered lists: what holds of all blocks holds after it.
-use Rattle.std.proofs.Common.{◌≡◌, ◌≢◌, ◌∙◌, refl, sym, subst, ap, ℕ, ◌+◌, ◌≤◌, ◌<◌, ◌||◌, Bool, true, false, inl, inr, List, Option, Some, arith}
+use Rattle.std.proofs.Common.{◌≡◌, ◌≢◌, ◌∙◌, refl, sym, subst, ap, ℕ, ◌<◌, ◌||◌, Bool, true, false, inl, inr, List, Option, Some, arith}
 use Rattle.std.proofs.lemmas.Bool.{cases_Bool, cases_eq, or_right}
 use Rattle.word_fields.specs.Versioned.{versioned_bit, versioned_version}
 use Rattle.word_fields.proofs.VersionedLemmas.{bit-cleared, version-cleared}
@@ -13,7 +13,7 @@ use Rattle.normal_traits.proofs.Stays.{passed_stays, word_beside, word_put}
 use Rattle.cas_executor.specs.SlowRuns.{state_place}
 use Rattle.cas_executor_laws.specs.Parts.{Deed}
 use Rattle.offered_blocks.specs.Blocks.{Offer, HasBlocks, MayBeMarked, site_of, has_taken, is_of}
-use Rattle.offered_blocks.specs.Holds.{HasOffers, IsUnnamed, JournalWords}
+use Rattle.offered_blocks.specs.Holds.{HasOffers, JournalWords}
 use Rattle.offered_blocks.specs.OtherSteps.{IsExchange}
 use Rattle.offered_blocks.proofs.Blocks.HoldsKept.{holds_kept}
 use Rattle.offered_blocks.proofs.Blocks.Places.{record_apart, spare_apart, word_grows}

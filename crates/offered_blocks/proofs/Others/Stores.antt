@@ -1,11 +1,11 @@
 -- A store of the engine, at its own first words but the records or in a spare block, is an allowed step, and what
 -- holds of all blocks holds after it.
-use Rattle.std.proofs.Common.{◌≡◌, ◌≢◌, ◌∙◌, refl, sym, subst, ap, ℕ, ◌+◌, ◌≤◌, ◌<◌, true, false, inl, inr, Option, Some, arith}
+use Rattle.std.proofs.Common.{◌≡◌, ◌≢◌, ◌∙◌, refl, sym, subst, ap, ℕ, ◌+◌, ◌<◌, true, false, inl, inr, Option, Some, arith}
 use Rattle.std.proofs.lemmas.Bool.{cases_eq}
 use Rattle.word_fields.specs.Versioned.{versioned_bit, versioned_version}
 use Rattle.node_arena.specs.MemoryMap.{block_place, record_place}
 use Rattle.node_arena.proofs.PlaceLemmas.{block_place_behind, same_block, same_field}
-use Rattle.normal_traits.specs.World.{Among, Won, World, is_word}
+use Rattle.normal_traits.specs.World.{World, is_word}
 use Rattle.normal_traits.specs.NormalForm.{NormalForm}
 use Rattle.normal_traits.specs.Steps.{IsStep, put_word}
 use Rattle.normal_traits.specs.Steps.IsStep.{elsewhere}
@@ -15,7 +15,7 @@ use Rattle.cas_executor.specs.SlowRuns.{state_place}
 use Rattle.cas_executor_laws.specs.Parts.{Deed}
 use Rattle.cas_executor_laws.proofs.SiteLemmas.{beside_deed}
 use Rattle.offered_blocks.specs.Blocks.{Offer, HasBlocks, MayBeMarked, site_of, has_taken}
-use Rattle.offered_blocks.specs.Holds.{HasOffers, IsUnnamed}
+use Rattle.offered_blocks.specs.Holds.{HasOffers}
 use Rattle.offered_blocks.specs.OtherSteps.{IsEngines, IsStored}
 use Rattle.offered_blocks.specs.OtherSteps.IsEngines.{first_word, in_spare}
 use Rattle.offered_blocks.proofs.Blocks.HoldsKept.{holds_kept}

@@ -1,15 +1,13 @@
 -- A record that names a spare block, filled for a new list of its call: what holds of all blocks holds after it.
-use Rattle.std.proofs.Common.{◌≡◌, ◌≢◌, ◌∙◌, refl, sym, subst, ap, ℕ, ◌+◌, ◌<◌, ◌==◌, if◌then◌else◌, Bool, true, false, inl, inr, List, Option, Some, All, arith}
+use Rattle.std.proofs.Common.{◌≡◌, ◌≢◌, ◌∙◌, refl, sym, subst, ap, ℕ, ◌+◌, if◌then◌else◌, Bool, inl, inr, Option, Some}
 use Rattle.std.proofs.lemmas.Bool.{cases_eq, eq-eqb, ne_eqb}
-use Rattle.word_fields.specs.declared.records.Phase.TheVariants.{Executing}
 use Rattle.word_fields.specs.Payloads.{payload_block}
 use Rattle.word_fields.specs.Records.{record_phase, record_number, record_payload}
-use Rattle.node_arena.specs.MemoryMap.{block_place, record_place}
-use Rattle.normal_traits.specs.World.{Listed, World}
+use Rattle.node_arena.specs.MemoryMap.{record_place}
+use Rattle.normal_traits.specs.World.{World}
 use Rattle.normal_traits.specs.NormalForm.{NormalForm}
-use Rattle.normal_traits.specs.Laws.{IsGoodStore, Laws}
-use Rattle.cas_executor.specs.SlowRuns.{state_place}
-use Rattle.offered_blocks.specs.Blocks.{Offer, HasBlocks, IsExecuting, has_taken}
+use Rattle.normal_traits.specs.Laws.{Laws}
+use Rattle.offered_blocks.specs.Blocks.{Offer, HasBlocks, IsExecuting}
 use Rattle.offered_blocks.specs.Holds.{FilledFor, HasOffers, Waits}
 use Rattle.offered_blocks.specs.OtherSteps.{CanName, with_offer}
 use Rattle.offered_blocks.proofs.Blocks.HoldsKept.{filled_stays, waits_kept}

@@ -1,5 +1,5 @@
 -- A word put into the record of a seat is an allowed step, and leaves what the blocks and the words of the client are.
-use Rattle.std.proofs.Common.{◌≡◌, ◌≢◌, ◌∙◌, refl, sym, subst, ap, ℕ, ◌+◌, ◌≤◌, ◌<◌, true, false, inl, inr, Option, Some, arith}
+use Rattle.std.proofs.Common.{◌≡◌, ◌≢◌, ◌∙◌, refl, sym, ap, ℕ, ◌+◌, ◌<◌, true, inl, inr, Option, Some, arith}
 use Rattle.std.proofs.lemmas.Bool.{cases_eq}
 use Rattle.word_fields.specs.declared.records.Phase.TheVariants.{Executing}
 use Rattle.word_fields.specs.Records.{record_phase}
@@ -14,7 +14,6 @@ use Rattle.normal_traits.specs.Laws.{Laws}
 use Rattle.normal_traits.proofs.Stays.{word_beside, word_put}
 use Rattle.cas_executor_laws.specs.Parts.{Deed, KnowsStop}
 use Rattle.cas_executor_laws.proofs.SiteLemmas.{beside_deed}
-use Rattle.cas_executor.specs.SlowRuns.{state_place}
 use Rattle.offered_blocks.specs.Blocks.{Offer, HasBlocks, IsExecuting, JournalRises, MayBeMarked, site_of, has_taken}
 use Rattle.offered_blocks.specs.Holds.{HasOffers}
 use Rattle.offered_blocks.proofs.Blocks.HoldsKept.{holds_kept}

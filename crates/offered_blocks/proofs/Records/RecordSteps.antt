@@ -17,10 +17,10 @@ use Rattle.offered_blocks.specs.Blocks.{Offer}
 use Rattle.offered_blocks.specs.Records.{MadeNone, TellsRight, Names, RecordTells, RecordIsRight}
 use Rattle.offered_blocks.specs.Records.TellsRight.{observed, changed}
 
-module _ {S W : Type 0} (form : NormalForm S W) (laws : Laws form) (world : World) (shape : form.shape world) (offers : ℕ → Option (Offer S)) (call : Called) (begun : ℕ) where
+module _ {S W : Type 0} (form : NormalForm S W) (laws : Laws form) (world : World) (offers : ℕ → Option (Offer S)) (call : Called) (begun : ℕ) where
   -- a list that is named by its record is dead: the call made no change
-  pub restarts : (block : ℕ) (names : Names form world offers call begun block) → form.dead names.offer.list world → MadeNone world call
-  restarts block names dead change among of = laws.dead_unchanged world names.offer.list change shape dead among (names.only change among of)
+  pub restarts : form.shape world → (block : ℕ) (names : Names form world offers call begun block) → form.dead names.offer.list world → MadeNone world call
+  restarts shape block names dead change among of = laws.dead_unchanged world names.offer.list change shape dead among (names.only change among of)
 
   -- the list made the change, with this outcome
   pub done : (block : ℕ) (names : Names form world offers call begun block) (outcome : Outcome) → ChangedBy world names.offer.list outcome → IsFixed form outcome → TellsRight form world call begun outcome
