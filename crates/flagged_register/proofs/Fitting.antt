@@ -18,13 +18,13 @@ use Rattle.flagged_register.specs.Register.Help.{Deciding, Checking, Reading, Ch
 use Rattle.flagged_register.specs.Register.Search.{AtFlag, AtRegister, Named, Helping}
 
 -- a choice fits where both ways do
-either : (b : Bool) (yes no : Outcome) → FitsRecord yes → FitsRecord no → FitsRecord (if b then yes else no)
-either true yes no y n = y
-either false yes no y n = n
+either : (b : Bool) (one other : Outcome) → FitsRecord one → FitsRecord other → FitsRecord (if b then one else other)
+either true one other y n = y
+either false one other y n = n
 
-either_found : (b : Bool) (yes no : Found) → FoundFits yes → FoundFits no → FoundFits (if b then yes else no)
-either_found true yes no y n = y
-either_found false yes no y n = n
+either_found : (b : Bool) (one other : Found) → FoundFits one → FoundFits other → FoundFits (if b then one else other)
+either_found true one other y n = y
+either_found false one other y n = n
 
 told_fits : (op : Op) (register : ℕ) → FitsRecord (told op register)
 told_fits op register =

@@ -20,18 +20,18 @@ use Rattle.list_laws.specs.declared.states.ListSearch.{ListSearch}
 use Rattle.list_laws.specs.declared.states.ListSearch.TheVariants.{Start, Next, Key, Unlink, AddReady, DelReady}
 use Rattle.list_laws.specs.declared.states.ListWrap.{ListWrap}
 use Rattle.list_laws.specs.declared.states.ListWrap.TheVariants.{Over}
-use Rattle.list_laws.specs.Nodes.{is_marked, leading, led, next_place}
+use Rattle.list_laws.specs.Search.{is_marked, leading, led, next_place}
 use Rattle.list_laws.specs.Search.{decided, decided_absent, decided_found, fed, finished, met_key, met_next, moved_on}
 use Rattle.list_laws.specs.Wrap.{wrap_begun, wrap_fed}
 
 -- a choice fits where both ways do
-either : (b : Bool) (yes no : ListSearch × Found) → FoundFits yes.1 → FoundFits no.1 → FoundFits (if b then yes else no).1
-either true yes no y n = y
-either false yes no y n = n
+either : (b : Bool) (one other : ListSearch × Found) → FoundFits one.1 → FoundFits other.1 → FoundFits (if b then one else other).1
+either true one other y n = y
+either false one other y n = n
 
-either_end : (b : Bool) (yes no : ListWrap × Wrapped) → WrappedFits yes.1 → WrappedFits no.1 → WrappedFits (if b then yes else no).1
-either_end true yes no y n = y
-either_end false yes no y n = n
+either_end : (b : Bool) (one other : ListWrap × Wrapped) → WrappedFits one.1 → WrappedFits other.1 → WrappedFits (if b then one else other).1
+either_end true one other y n = y
+either_end false one other y n = n
 
 absent_fits : (stay : ListSearch) (aim : Aim) (left : Left) (cur : ℕ) → FoundFits (decided_absent stay aim left cur).1
 absent_fits stay Add left cur = either (is_modified left.word) (stay, Contended) (AddReady left cur, Ready) tt tt

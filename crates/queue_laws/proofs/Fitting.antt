@@ -19,13 +19,13 @@ use Rattle.queue_laws.specs.Search.{fed, is_put, met_by_put, met_by_take, next_p
 use Rattle.queue_laws.specs.Wrap.{after_entry, done, wrap_begun, wrap_fed}
 
 -- a choice fits where both ways do
-either : (b : Bool) (yes no : QueueSearch × Found) → FoundFits yes.1 → FoundFits no.1 → FoundFits (if b then yes else no).1
-either true yes no y n = y
-either false yes no y n = n
+either : (b : Bool) (one other : QueueSearch × Found) → FoundFits one.1 → FoundFits other.1 → FoundFits (if b then one else other).1
+either true one other y n = y
+either false one other y n = n
 
-either_end : (b : Bool) (yes no : QueueWrap × Wrapped) → WrappedFits yes.1 → WrappedFits no.1 → WrappedFits (if b then yes else no).1
-either_end true yes no y n = y
-either_end false yes no y n = n
+either_end : (b : Bool) (one other : QueueWrap × Wrapped) → WrappedFits one.1 → WrappedFits other.1 → WrappedFits (if b then one else other).1
+either_end true one other y n = y
+either_end false one other y n = n
 
 put_fits : (tail next : ℕ) → FoundFits (met_by_put tail next).1
 put_fits tail next =
