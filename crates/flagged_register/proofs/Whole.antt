@@ -25,6 +25,7 @@ use Rattle.flagged_register.specs.Register.{FLAG, REGISTER, note_place, flag_val
 use Rattle.flagged_register.specs.Register.Help.{Deciding}
 use Rattle.flagged_register.specs.Register.Search.{AtFlag, AtRegister, Named, Helping}
 use Rattle.flagged_register.specs.Meanings.{Flagged, Shape, IsOver, IsSpent, EachChanges, flagged_block, flagger, adds_beside, WasRead, Knows, Dead, is_ready, flagged_form, IsGone}
+use Rattle.flagged_register.proofs.Fitting.{begun_fits, found_fits, wrapped_fits}
 use Rattle.flagged_register.proofs.Basics.{all_among, word_of, flag_value_below, note_register, note_flag, note_decision, value_decision, decided_once}
 use Rattle.flagged_register.proofs.Effects.{Effect, made_won, cleared_won, decided_won}
 use Rattle.flagged_register.proofs.Effects.Effect.{quiet, sets, makes, decides, clears}
@@ -330,4 +331,7 @@ flagged_laws = record {
   dead_unchanged = λ world list change shape dead among. dead_unchanged world list change shape dead among;
   dead_first = λ world list search since entry shape dead offered fresh listed'. dead_first world list search since entry dead offered fresh listed';
   beside = λ world list entry shape e. beside world list entry shape e;
+  answers_fit = λ world after seen search op since command shape asking knows r. found_fits search seen;
+  begun_fits = λ world list search since stop shape offered stopped. begun_fits list.call.op list.entries stop;
+  wraps_fit = λ world after seen help list stop command shape asking follows r. wrapped_fits help seen;
 }
