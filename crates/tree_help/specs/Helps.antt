@@ -1,7 +1,7 @@
 -- The help of a flag. For an insertion the child is exchanged to the new node, and the flag is taken away. For a
 -- removal the node that is to go is marked, and the child above it swings past it to the child that stays; where
 -- it can't be marked any more, neither is done; then the flag is taken away.
-use Rattle.std.specs.Prelude.{◌≡◌, ℕ, ◌+◌, ◌*◌, ◌^◌, ◌<◌, ◌==◌, ◌&&◌, not, if◌then◌else◌, Bool, true, false}
+use Rattle.std.specs.Prelude.{ℕ, ◌+◌, ◌*◌, ◌^◌, ◌<◌, ◌==◌, ◌&&◌, not, if◌then◌else◌, Bool, true, false}
 use Rattle.step_memory.specs.declared.steps.Request.{Request}
 use Rattle.step_memory.specs.declared.steps.Request.TheVariants.{Load, Exchange}
 use Rattle.step_memory.specs.declared.steps.Seen.{Seen}

@@ -43,8 +43,17 @@ fn delete_next(help: HelpDelete, seen: Seen) -> HelpDelete
         HelpDelete::Check { flag, .. } => HelpDelete::Unflag { flag, made: false },
         HelpDelete::StayPlace { flag } => HelpDelete::StayWord { flag, at: noted },
         HelpDelete::StayWord { flag, .. } => HelpDelete::SwingPlace { flag, stays: from },
-        HelpDelete::SwingPlace { flag, stays } => HelpDelete::SwingWord { flag, stays, at: noted },
-        HelpDelete::SwingWord { flag, stays, at } => HelpDelete::Swing { flag, stays, at, from },
+        HelpDelete::SwingPlace { flag, stays } => HelpDelete::SwingWord {
+            flag,
+            stays,
+            at: noted,
+        },
+        HelpDelete::SwingWord { flag, stays, at } => HelpDelete::Swing {
+            flag,
+            stays,
+            at,
+            from,
+        },
         HelpDelete::Swing { flag, .. } => HelpDelete::Unflag { flag, made: true },
         HelpDelete::Unflag { .. } => help,
     }
@@ -86,7 +95,10 @@ impl HelpDelete {
             HelpDelete::SwingPlace { flag, .. } => noted(flag, SWING_PLACE),
             HelpDelete::SwingWord { flag, .. } => noted(flag, SWING_WORD),
             HelpDelete::Swing {
-                stays, at, from, ..
+                stays,
+                at,
+                from,
+                ..
             } => Request::Exchange {
                 at,
                 from,

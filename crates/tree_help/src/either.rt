@@ -3,7 +3,9 @@ ghost use Rattle.std.specs.Prelude.{◌≡◌, ◌≢◌};
 ghost use Rattle.tree_help.specs.Helps.{Fits, help_asked, help_fed, help_of};
 ghost use Rattle.tree_help.specs.Updates.{state_of};
 
-use crate::states::{CLEAN, DELETING, Flag, Help, HelpDelete, HelpInsert, HelpMark, Helping, INSERTING};
+use crate::states::{
+    CLEAN, DELETING, Flag, Help, HelpDelete, HelpInsert, HelpMark, Helping, INSERTING,
+};
 use crate::words::{block_of, state_of};
 use step_memory::{Request, Seen};
 

@@ -42,24 +42,13 @@ pub enum Helping {
 #[derive(Clone, Copy, Debug, PartialEq, Eq)]
 pub enum HelpInsert {
     /// The place of the child is loaded next.
-    ReadPlace {
-        flag: Flag,
-    },
+    ReadPlace { flag: Flag },
     /// The word that the call saw there is.
-    ReadWord {
-        flag: Flag,
-        at: u32,
-    },
+    ReadWord { flag: Flag, at: u32 },
     /// The child is exchanged next, from that word to the new node.
-    Link {
-        flag: Flag,
-        at: u32,
-        from: u64,
-    },
+    Link { flag: Flag, at: u32, from: u64 },
     /// The flag is taken away next.
-    Unflag {
-        flag: Flag,
-    },
+    Unflag { flag: Flag },
 }
 
 /// The help of a removal.
@@ -123,30 +112,17 @@ pub enum HelpDelete {
 #[derive(Clone, Copy, Debug, PartialEq, Eq)]
 pub enum HelpMark {
     /// The place of the child that swings is loaded next: the flag stands at its node.
-    FindPlace {
-        block: u32,
-    },
+    FindPlace { block: u32 },
     /// The update word of that node is.
-    FindFlag {
-        block: u32,
-        at: u32,
-    },
+    FindFlag { block: u32, at: u32 },
     /// The flag was found.
-    Deletes {
-        help: HelpDelete,
-    },
+    Deletes { help: HelpDelete },
 }
 
 /// The help of any update word that isn't clean.
 #[derive(Clone, Copy, Debug, PartialEq, Eq)]
 pub enum Help {
-    Insert {
-        help: HelpInsert,
-    },
-    Delete {
-        help: HelpDelete,
-    },
-    Mark {
-        help: HelpMark,
-    },
+    Insert { help: HelpInsert },
+    Delete { help: HelpDelete },
+    Mark { help: HelpMark },
 }
