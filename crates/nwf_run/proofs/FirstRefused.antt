@@ -23,15 +23,15 @@ one_way judge refusal other None a r = absurd a
 one_way judge refusal other (Some bytes) a r = same_Some refusal other (sym a ∙ r)
 
 module _ (served : Served) (seats : ℕ) (files : ℕ → Option (List ℕ)) where
-  pub accepted_none : (entries : List ScheduleEntry) (commands : List (List Op)) → Accepts served seats files entries commands → (file : ℕ) (refusal : Refusal) → IsFirstRefused served seats files file refusal → ⊥
+  pub accepted_none : (entries : List ScheduleEntry) (commands : List (List Op)) → Accepts served seats files entries commands → (file : ℕ) (refusal : Refusal) → IsFirstRefused served seats files 0 file refusal → ⊥
   accepted_none entries commands all file refusal first =
       let before = accepted_before served seats files entries all.schedule commands all.each in
-      not_both (refusal_in served seats file) refusal (files file) (before file (omega (arith, first.within, all.count))) first.refused
+      not_both (refusal_in served seats file) refusal (files file) (before file first.from (omega (arith, first.within, all.count))) first.refused
 
-  not_earlier : (file : ℕ) (refusal : Refusal) (other : ℕ) (mate : Refusal) → IsFirstRefused served seats files file refusal → IsFirstRefused served seats files other mate → file < other → ⊥
-  not_earlier file refusal other mate first second less = not_both (refusal_in served seats file) refusal (files file) (second.before file less) first.refused
+  not_earlier : (file : ℕ) (refusal : Refusal) (other : ℕ) (mate : Refusal) → IsFirstRefused served seats files 0 file refusal → IsFirstRefused served seats files 0 other mate → file < other → ⊥
+  not_earlier file refusal other mate first second less = not_both (refusal_in served seats file) refusal (files file) (second.before file first.from less) first.refused
 
-  same_first : (file : ℕ) (refusal : Refusal) (other : ℕ) (mate : Refusal) → IsFirstRefused served seats files file refusal → IsFirstRefused served seats files other mate → file ≡ other
+  same_first : (file : ℕ) (refusal : Refusal) (other : ℕ) (mate : Refusal) → IsFirstRefused served seats files 0 file refusal → IsFirstRefused served seats files 0 other mate → file ≡ other
   same_first file refusal other mate first second =
       elim (cases_lt file other) [
         | inl less ↦ absurd (not_earlier file refusal other mate first second less)
@@ -42,10 +42,10 @@ module _ (served : Served) (seats : ℕ) (files : ℕ → Option (List ℕ)) whe
       ]
 
   -- the reason of a result that names this file, where it is the first that is refused
-  named : (why : NoReport) (file : ℕ) (refusal : Refusal) → IsReason served seats files why → IsFirstRefused served seats files file refusal → (why ≡ Refused file refusal) ⊎ (why ≡ NoMemory)
+  named : (why : NoReport) (file : ℕ) (refusal : Refusal) → IsReason served seats files why → IsFirstRefused served seats files 0 file refusal → (why ≡ Refused file refusal) ⊎ (why ≡ NoMemory)
   named (Refused other mate) file refusal reason first =
       let same = same_first other mate file refusal reason first in
-      let moved = subst (λ n. IsFirstRefused served seats files n mate) same reason in
+      let moved = subst (λ n. IsFirstRefused served seats files 0 n mate) same reason in
       let way = one_way (refusal_in served seats file) mate refusal (files file) moved.refused first.refused in
       inl (ap (λ n. Refused n mate) same ∙ ap (λ r. Refused file r) way)
   named NoMemory file refusal reason first = inr refl
@@ -58,6 +58,6 @@ module _ (served : Served) (seats : ℕ) (files : ℕ → Option (List ℕ)) whe
 
   -- where one is the first that is refused, it is told or memory fails
   pub refused_or : {X : Type 0} (result : Result X NoReport) → IfErr result (IsReason served seats files) → IfOk result (λ x. (entries : List ScheduleEntry) × (commands : List (List Op)) × Accepts served seats files entries commands)
-      → (file : ℕ) (refusal : Refusal) → IsFirstRefused served seats files file refusal → (result ≡ Err (Refused file refusal)) ⊎ (result ≡ Err NoMemory)
+      → (file : ℕ) (refusal : Refusal) → IsFirstRefused served seats files 0 file refusal → (result ≡ Err (Refused file refusal)) ⊎ (result ≡ Err NoMemory)
   refused_or (Ok x) reason accepts file refusal first = absurd (accepted_none accepts.0 accepts.1 accepts.2 file refusal first)
   refused_or (Err why) reason accepts file refusal first = elim (named why file refusal reason first) [ inl is ↦ inl (ap Err is) | inr is ↦ inr (ap Err is) ]
