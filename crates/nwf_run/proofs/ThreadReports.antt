@@ -10,20 +10,12 @@ use Rattle.lin_report.specs.declared.calls.Op.{Op}
 use Rattle.lin_report.specs.declared.calls.Receipt.{Receipt}
 use Rattle.lin_report.specs.declared.calls.PendingCall.{PendingCall}
 use Rattle.normal_traits.specs.NormalForm.{NormalForm}
-use Rattle.normal_traits.specs.Laws.{Laws}
 use Rattle.fast_slow_engine.specs.declared.setup.Setup.{Setup}
 use Rattle.fast_slow_engine.specs.Runs.{RunState, moves_over, pending_of, run_of}
-use Rattle.run_laws.specs.Files.{FilesFit}
-use Rattle.run_laws.proofs.FileLemmas.{files_run}
-use Rattle.run_history.proofs.LinearizedLemmas.{replies_all_fit}
-use Rattle.run_history.proofs.PlaceableLemmas.{each_placeable}
-use Rattle.run_history.proofs.RunLemmas.{counters_kept}
 use Rattle.move_orders.specs.SeatLines.{lines_down, lines_of, ops_of}
 use Rattle.thread_runs.specs.Whole.{IsRun}
 use Rattle.thread_laws.specs.Headline.{MeetsInSomeOrder}
-use Rattle.nwf_run.specs.Writable.{CanBeWritten}
 use Rattle.nwf_run.proofs.RunReports.{InOrder}
-use Rattle.nwf_run.proofs.Writable as writable
 
 -- the lines of the first seats, put down, are as many as the commands of their files
 long_down : (lines : List Receipt) (files : List (List Op)) (n : ℕ) → n ≤ length files → ((seat : ℕ) → seat < n → ops_of (lines_of seat lines) ≡ get_or files seat []) → length (lines_down n lines) ≡ sum_by length (take n files)
@@ -47,12 +39,6 @@ module _ {S W : Type 0} (form : NormalForm S W) (setup : Setup) (files : List (L
     -- the run of the files in the order in which the threads made its steps
     abbrev pub ran : RunState S W
     ran = run_of form setup (moves_over form setup files meets.order)
-
-    pub writable_run : Laws form → FilesFit form.client setup files → CanBeWritten ran (sum_by length files)
-    writable_run laws fit =
-        writable.can_be_written form setup files meets.order fit
-        (counters_kept form laws setup (moves_over form setup files meets.order) (files_run form setup files meets.order fit).follow).0
-        (replies_all_fit form laws (each_placeable form laws) setup files meets.order fit)
 
     -- its lines in order, and no pending call
     pub sorted_lines : (sorted : List Receipt) → IsPermutation lines sorted → IsNonDecreasingBy (λ (r : Receipt). r.begin) sorted → InOrder ran sorted []
