@@ -59,3 +59,7 @@ run_words _ = None
 abbrev pub starts_run : List (List ℕ) → Bool
 starts_run (command ∷ words) = bytes_eq command (codes "run")
 starts_run [] = false
+
+-- what the words of the program say: those of a run where the first is `run`, and else those of a replay
+abbrev pub nwf_words : List (List ℕ) → Option Replay
+nwf_words words = if starts_run words then run_words words else replay_words words

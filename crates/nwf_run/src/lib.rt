@@ -3,6 +3,7 @@
 #![tactic(auto)]
 
 pub use outside::{Failed, Files, FilesInMemory, HostFiles, HostOut, Sink, SinkInMemory};
+pub use program::nwf_main;
 pub use replay::replay_main;
 pub use replay_bytes::replay_of_bytes;
 pub use run::run_main;
@@ -13,6 +14,7 @@ pub use words::Served;
 
 mod judging;
 pub mod outside;
+pub mod program;
 mod reading;
 pub mod replay;
 pub mod replay_bytes;
