@@ -15,19 +15,23 @@ use Rattle.nwf_run.specs.Words.{Replay}
 use Rattle.nwf_run.proofs.JudgedFiles.{there-weaker}
 
 -- a stop has none of the statuses of a report
-not_report : (stop : Stop) (status : ℕ) → status ≡ status_of stop → (status ≡ 0) ⊎ (status ≡ 5) ⊎ (status ≡ 7) → ⊥
+pub not_report : (stop : Stop) (status : ℕ) → status ≡ status_of stop → (status ≡ 0) ⊎ (status ≡ 5) ⊎ (status ≡ 7) → ⊥
 not_report Usage status is h = elim h [ inl a ↦ omega (arith, is, a) | inr b ↦ elim b [ inl a ↦ omega (arith, is, a) | inr a ↦ omega (arith, is, a) ] ]
 not_report (Refused file refusal) status is h = elim h [ inl a ↦ omega (arith, is, a) | inr b ↦ elim b [ inl a ↦ omega (arith, is, a) | inr a ↦ omega (arith, is, a) ] ]
 not_report (ReadFault file) status is h = elim h [ inl a ↦ omega (arith, is, a) | inr b ↦ elim b [ inl a ↦ omega (arith, is, a) | inr a ↦ omega (arith, is, a) ] ]
 not_report NoMemory status is h = elim h [ inl a ↦ omega (arith, is, a) | inr b ↦ elim b [ inl a ↦ omega (arith, is, a) | inr a ↦ omega (arith, is, a) ] ]
 
-marked_status : (status : ℕ) (mark : Bool) → status ≡ cond mark 7 0 → status ≡ 7 → mark ≡ true
+pub marked_status : (status : ℕ) (mark : Bool) → status ≡ cond mark 7 0 → status ≡ 7 → mark ≡ true
 marked_status status true is seven = refl
 marked_status status false is seven = absurd (omega (arith, is, seven))
 
-unmarked_status : (status : ℕ) (mark : Bool) → status ≡ cond mark 7 0 → status ≡ 0 → mark ≡ true → ⊥
+pub unmarked_status : (status : ℕ) (mark : Bool) → status ≡ cond mark 7 0 → status ≡ 0 → mark ≡ true → ⊥
 unmarked_status status true is zero_is marked = omega (arith, is, zero_is)
 unmarked_status status false is zero_is marked = absurd (search rules)
+
+pub not_five : (status : ℕ) (mark : Bool) → status ≡ cond mark 7 0 → status ≡ 5 → ⊥
+not_five status true seven five = omega (arith, five, seven)
+not_five status false none five = omega (arith, five, none)
 
 module _ (tells : Bool) (held : List ℕ → Option (List ℕ)) (words : Option Replay) (written written' : Option (List ℕ)) (faults faults' status : ℕ) where
   abbrev Made : Result Replayed Stop → Type 0
@@ -61,11 +65,7 @@ module _ (tells : Bool) (held : List ℕ → Option (List ℕ)) (words : Option 
   cut (Err stop) made ends five = absurd (not_report stop status ends.0 (inr (inl five)))
   cut (Ok made) text (failed is prefix rose) five =
       there-weaker _ _ (λ (r : Replay) (m : MakesReplay tells held r made.text.items made.exhausted). (m.run, m.is, m.headline, subst (AppendsPrefix written written') m.text_is.written prefix)) words text
-  cut (Ok made) text (wrote is appends calm) five = absurd (not_five made.exhausted is)
-    where
-      not_five : (mark : Bool) → status ≡ cond mark 7 0 → ⊥
-      not_five true seven = omega (arith, five, seven)
-      not_five false none = omega (arith, five, none)
+  cut (Ok made) text (wrote is appends calm) five = absurd (not_five status made.exhausted is five)
 
 module _ (tells : Bool) (held : List ℕ → Option (List ℕ)) (written written' : Option (List ℕ)) (faults faults' status read : ℕ) (before now : List Opening) where
   -- every file was opened where there is a report

@@ -12,7 +12,7 @@ use Rattle.nwf_run.specs.declared.stops.NoReport.TheVariants.{Refused, NoMemory}
 use Rattle.nwf_run.specs.declared.words.Served.{Served}
 use Rattle.nwf_run.specs.Words.{client_of}
 use Rattle.nwf_run.specs.Judging.{IsFirstRefused, IsJudged, IsReason, SayFirst, files_of_bytes}
-use Rattle.nwf_run.proofs.JudgedFiles.{back, counted, refused_next}
+use Rattle.nwf_run.proofs.JudgedFiles.{back, counted, refused_after, refused_next}
 
 -- the bytes of a command file, by its place
 pub file_at : (schedule : List ℕ) (files : List (Bor (List ℕ))) (k : ℕ) (d : Bor (List ℕ)) → k < length files → files_of_bytes schedule (map (λ (file : Bor (List ℕ)). file.now) files) (k + 1) ≡ Some (get_or files k d).now
@@ -30,6 +30,6 @@ pub reason_next : (served : Served) (seats : ℕ) (files : ℕ → Option (List 
     → (commands : List (List Op)) → SayFirst served seats files commands → length commands + 1 ≤ seats → (bytes : List ℕ) → files (length commands + 1) ≡ Some bytes
     → (why : NoReport) → IsJudged {X = Op} (script_outcome (client_of served) bytes) (length commands + 1) (Err why) → IsReason served seats files why
 reason_next served seats files entries schedule commands say few bytes at (Refused file refusal) judged =
-    subst (λ n. IsFirstRefused served seats files n refusal) (sym judged.0)
-    (refused_next served seats files entries schedule commands refusal say few (subst (λ o. IsSomeAnd o (λ b. script_outcome (client_of served) b ≡ Err refusal)) (sym at) judged.1))
+    subst (λ n. IsFirstRefused served seats files 0 n refusal) (sym judged.0)
+    (refused_after served seats files entries schedule (length commands + 1) refusal (refused_next served seats files commands refusal say few (subst (λ o. IsSomeAnd o (λ b. script_outcome (client_of served) b ≡ Err refusal)) (sym at) judged.1)))
 reason_next served seats files entries schedule commands say few bytes at NoMemory judged = tt

@@ -42,36 +42,48 @@ module _ (served : Served) (seats : ℕ) (files : ℕ → Option (List ℕ)) whe
   refusal_at : (k : ℕ) (bytes : List ℕ) (o : Option Refusal) → result_err (script_outcome (client_of served) bytes) ≡ o → refusal_in served seats (k + 1) bytes ≡ o
   refusal_at k bytes o h = ap (λ b. cond b (result_err (schedule_outcome seats bytes)) (result_err (script_outcome (client_of served) bytes))) (counted k) ∙ h
 
+  -- the first command files are accepted
+  pub commands_accepted : (commands : List (List Op)) → SayFirst served seats files commands → AcceptedBefore served seats files 1 (length commands + 1)
+  commands_accepted commands say earlier from below =
+      let k : ℕ = earlier - 1 in
+      let within : k < length commands = omega (arith, below, from) in
+      let is : k + 1 ≡ earlier = omega (arith, from) in
+      subst (λ n. IsSomeAnd (files n) (λ bytes. refusal_in served seats n bytes ≡ None)) is
+      (there-weaker _ _ (λ bytes h. refusal_at k bytes None (ap result_err h)) (files (k + 1)) (say k within))
+
+  -- and the next one is refused
+  pub refused_next : (commands : List (List Op)) (refusal : Refusal) → SayFirst served seats files commands → length commands + 1 ≤ seats
+      → IsSomeAnd (files (length commands + 1)) (λ bytes. script_outcome (client_of served) bytes ≡ Err refusal) → IsFirstRefused served seats files 1 (length commands + 1) refusal
+  refused_next commands refusal say within h = record {
+    from = omega arith;
+    within = within;
+    refused = there-weaker _ _ (λ bytes e. refusal_at (length commands) bytes (Some refusal) (ap result_err e)) (files (length commands + 1)) h;
+    before = commands_accepted commands say;
+  }
+
   module _ (entries : List ScheduleEntry) (schedule : IsSomeAnd (files 0) (λ bytes. schedule_outcome seats bytes ≡ Ok entries)) where
-    -- the schedule and the first command files are accepted
-    pub accepted_before : (commands : List (List Op)) → SayFirst served seats files commands → AcceptedBefore served seats files (length commands + 1)
-    accepted_before commands say earlier below =
+    -- with the schedule in front
+    pub after_schedule : (file : ℕ) → AcceptedBefore served seats files 1 file → AcceptedBefore served seats files 0 file
+    after_schedule file each earlier from below =
         elim (cases_lt earlier 1) [
           | inl first ↦
               let none : 0 ≡ earlier = omega (arith, first) in
               subst (λ n. IsSomeAnd (files n) (λ bytes. refusal_in served seats n bytes ≡ None)) none (there-weaker _ _ (λ bytes h. ap result_err h) (files 0) schedule)
-          | inr later ↦
-              let k : ℕ = earlier - 1 in
-              let within : k < length commands = omega (arith, below, later) in
-              let is : k + 1 ≡ earlier = omega (arith, later) in
-              subst (λ n. IsSomeAnd (files n) (λ bytes. refusal_in served seats n bytes ≡ None)) is
-              (there-weaker _ _ (λ bytes h. refusal_at k bytes None (ap result_err h)) (files (k + 1)) (say k within))
+          | inr later ↦ each earlier later below
         ]
 
-    -- and the next one is refused
-    pub refused_next : (commands : List (List Op)) (refusal : Refusal) → SayFirst served seats files commands → length commands + 1 ≤ seats
-        → IsSomeAnd (files (length commands + 1)) (λ bytes. script_outcome (client_of served) bytes ≡ Err refusal) → IsFirstRefused served seats files (length commands + 1) refusal
-    refused_next commands refusal say within h = record {
-      within = within;
-      refused = there-weaker _ _ (λ bytes e. refusal_at (length commands) bytes (Some refusal) (ap result_err e)) (files (length commands + 1)) h;
-      before = accepted_before commands say;
-    }
+    pub accepted_before : (commands : List (List Op)) → SayFirst served seats files commands → AcceptedBefore served seats files 0 (length commands + 1)
+    accepted_before commands say = after_schedule (length commands + 1) (commands_accepted commands say)
 
-  pub refused_schedule : (refusal : Refusal) → IsSomeAnd (files 0) (λ bytes. schedule_outcome seats bytes ≡ Err refusal) → IsFirstRefused served seats files 0 refusal
+    pub refused_after : (file : ℕ) (refusal : Refusal) → IsFirstRefused served seats files 1 file refusal → IsFirstRefused served seats files 0 file refusal
+    refused_after file refusal h = record { from = omega arith; within = h.within; refused = h.refused; before = after_schedule file h.before }
+
+  pub refused_schedule : (refusal : Refusal) → IsSomeAnd (files 0) (λ bytes. schedule_outcome seats bytes ≡ Err refusal) → IsFirstRefused served seats files 0 0 refusal
   refused_schedule refusal h = record {
+    from = omega arith;
     within = omega arith;
     refused = there-weaker _ _ (λ bytes e. ap result_err e) (files 0) h;
-    before = λ earlier below. absurd (omega (arith, below));
+    before = λ earlier from below. absurd (omega (arith, below));
   }
 
 -- what holds of the error of a result

@@ -9,3 +9,5 @@ pub mod Writable
 pub mod RunReports
 pub mod Replays
 pub mod Endings
+pub mod ThreadReports
+pub mod ThreadRuns

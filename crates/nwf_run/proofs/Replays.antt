@@ -1,5 +1,5 @@
 -- The run that was made of what the files say is the run of the replay.
-use Rattle.std.proofs.Common.{◌≡◌, ℕ, Bool, IsTrue, List, length, map, Option, Vec, sym, ap, ◌∙◌, subst}
+use Rattle.std.proofs.Common.{◌≡◌, ℕ, Bool, IsTrue, List, length, map, Option, Some, Vec, sym, ap, ◌∙◌, subst}
 use Rattle.lin_report.specs.declared.calls.Op.{Op}
 use Rattle.script_reader.specs.declared.schedules.ScheduleEntry.{ScheduleEntry}
 use Rattle.nwf_run.specs.declared.words.Served.{Served}
@@ -17,7 +17,7 @@ record Made (structure : Served) (cap limit : ℕ) (entries : List ScheduleEntry
   of_commands : run.commands ≡ commands
   is : IsRunOf structure cap limit run
   headline : RunMeetsHeadline structure run
-  text_is : IsTextOf run text exhausted
+  text_is : IsTextOf run.report (Some 0) text exhausted
 
 made : (structure : Served) (cap limit : ℕ) (entries : List ScheduleEntry) (commands : List (List Op)) (text : List ℕ) (exhausted : Bool) → MakesReport structure cap limit entries commands text exhausted → Made structure cap limit entries commands text exhausted
 made served.Queue cap limit entries commands text exhausted m = record { run = m.run; by_entries = m.by_entries; of_commands = m.of_commands; is = m.is; headline = m.headline; text_is = m.text_is }

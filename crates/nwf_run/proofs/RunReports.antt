@@ -1,7 +1,7 @@
 -- The report of a run, written from its lines put in order.
-use Rattle.std.proofs.Common.{◌≡◌, ℕ, ◌+◌, ◌≤◌, ◌↔◌, Bool, true, List, length, map, Some, Vec, All, IsPermutation, refl, sym, ap, ◌∙◌, subst, arith, rules}
+use Rattle.std.proofs.Common.{◌≡◌, ℕ, ◌+◌, ◌≤◌, ◌↔◌, Bool, true, List, length, map, Option, Vec, All, IsPermutation, refl, sym, ap, ◌∙◌, subst, arith, rules}
 use Rattle.std.specs.List.{Any, list_any}
-use Rattle.std.specs.Prelude.{sum_by}
+use Rattle.std.specs.Prelude.{sum_by, IfSome}
 use Rattle.std.specs.Global.{Global}
 use Rattle.std.proofs.lemmas.List.{length-map}
 use Rattle.std.proofs.lemmas.List.Elements.{All-map}
@@ -40,22 +40,22 @@ exhausted_is Absent h = absurd (search rules)
 exhausted_is Exhausted h = refl
 
 module _ {S W : Type 0} (state : RunState S W) (receipts : List Receipt) (pending : List PendingCall) (lines : IsPermutation state.receipts receipts) (calls : IsPermutation (pending_of state.mechs) pending) where
-  pub can_write : (most : ℕ) → IsNonDecreasingBy (λ (r : Receipt). r.begin) receipts → IsNonDecreasingBy (λ (p : PendingCall). p.begin) pending → CanBeWritten state most → CanWrite (report_of receipts pending) (Some 0)
-  can_write most order opened can =
+  pub can_write : (count : Option ℕ) → IfSome count (λ most. most ≤ 524280) → (most : ℕ) → IsNonDecreasingBy (λ (r : Receipt). r.begin) receipts → IsNonDecreasingBy (λ (p : PendingCall). p.begin) pending → CanBeWritten state most → CanWrite (report_of receipts pending) count
+  can_write count few most order opened can =
       let moved = calls_moved (report_of_run state) (report_of receipts pending) lines calls in
       record {
         receipts_in_order = order;
         pending_in_order = opened;
         apart = apart_pairs (λ (c : Call). c.begin) (calls_of (report_of receipts pending)) (apart_moved (λ (c : Call). c.begin) (calls_of (report_of_run state)) (calls_of (report_of receipts pending)) moved can.apart);
         printable = All-permutation IsPrintable (calls_of (report_of_run state)) (calls_of (report_of receipts pending)) moved can.printable;
-        overtaken = omega arith;
+        overtaken = few;
       }
 
   pub few_lines : (most : ℕ) → CanBeWritten state most → length receipts + length pending ≤ most
   few_lines most can = omega (arith, can.few, length_permutation state.receipts receipts lines, length_permutation (pending_of state.mechs) pending calls)
 
-  pub text_is : (most : ℕ) → CanBeWritten state most → report_text (report_of receipts pending) (Some 0) ≡ report_text (report_of_run state) (Some 0)
-  text_is most can = sym (same_text (report_of_run state) (report_of receipts pending) (Some 0) lines calls can.apart)
+  pub text_is : (count : Option ℕ) (most : ℕ) → CanBeWritten state most → report_text (report_of receipts pending) count ≡ report_text (report_of_run state) count
+  text_is count most can = sym (same_text (report_of_run state) (report_of receipts pending) count lines calls can.apart)
 
   pub marked : (mark : Bool) → mark ≡ list_any (λ (r : Receipt). reply_is_exhausted r.reply) receipts → (mark ≡ true) ↔ Any (λ (r : Receipt). r.reply ≡ Exhausted) state.receipts
   marked mark is =

@@ -1,5 +1,5 @@
--- What the files of a replay are by the grammar. File 0 is the schedule, and file k the k-th command file, of
--- which there is one for each seat. The files are given by their numbers: the bytes of each that is there.
+-- What the files of a call are by the grammar. File 0 is the schedule, where there is one, and file k the k-th
+-- command file, of which there is one for each seat. The files are given by their numbers: the bytes of each that is there.
 use Rattle.std.specs.Prelude.{◌≡◌, ℕ, ◌+◌, ◌-◌, ◌<◌, ◌≤◌, ◌==◌, if◌then◌else◌, List, [], Vec, length, slice_get, slice_index_or, Option, Some, None, IsSomeAnd, Result, Ok, Err}
 use Rattle.std.specs.Result.{result_err}
 use Rattle.std.specs.declared.alloc.Global.{Global}
@@ -20,19 +20,21 @@ refusal_in served seats file bytes =
     else result_err (script_outcome (client_of served) bytes)
 
 module _ (served : Served) (seats : ℕ) (files : ℕ → Option (List ℕ)) where
-  -- each file before this one is there and accepted
-  abbrev pub AcceptedBefore : ℕ → Type 0
-  AcceptedBefore file = (earlier : ℕ) → earlier < file → IsSomeAnd (files earlier) (λ bytes. refusal_in served seats earlier bytes ≡ None)
+  -- each file from the first one on, and before this one, is there and accepted
+  abbrev pub AcceptedBefore : ℕ → ℕ → Type 0
+  AcceptedBefore first file = (earlier : ℕ) → first ≤ earlier → earlier < file → IsSomeAnd (files earlier) (λ bytes. refusal_in served seats earlier bytes ≡ None)
 
-  -- this file is there and refused, and each one before it is there and accepted
-  pub record IsFirstRefused (file : ℕ) (refusal : Refusal) : Type 0 where
+  -- this file is there and refused, and each one from the first on, and before it, is there and accepted
+  pub record IsFirstRefused (first file : ℕ) (refusal : Refusal) : Type 0 where
+    pub from : first ≤ file
     pub within : file ≤ seats
     pub refused : IsSomeAnd (files file) (λ bytes. refusal_in served seats file bytes ≡ Some refusal)
-    pub before : AcceptedBefore file
+    pub before : AcceptedBefore first file
 
-  -- why there is no report of the files: one of them is the first that is refused, or there was no memory
+  -- why there is no report of the files from the schedule on: one of them is the first that is refused, or there
+  -- was no memory
   abbrev pub IsReason : NoReport → Type 0
-  IsReason (Refused file refusal) = IsFirstRefused file refusal
+  IsReason (Refused file refusal) = IsFirstRefused 0 file refusal
   IsReason NoMemory = Unit {0}
 
   -- the first command files are there, and have these commands

@@ -9,3 +9,4 @@ pub mod Reading
 pub mod Writable
 pub mod Runs
 pub mod Replaying
+pub mod Running

@@ -23,7 +23,7 @@ pub record MakesReplay (tells : Bool) (held : List ℕ → Option (List ℕ)) (r
   pub run : ReplayRun
   pub is : IsReplayOf tells held replay run
   pub headline : RunMeetsHeadline replay.served run
-  pub text_is : IsTextOf run text exhausted
+  pub text_is : IsTextOf run.report (Some 0) text exhausted
 
 -- why a call stops: its words are none that are served, or reading stopped at a file
 abbrev pub StopsFor : Bool → (List ℕ → Option (List ℕ)) → Option Replay → Stop → Type 0

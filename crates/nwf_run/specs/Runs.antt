@@ -1,5 +1,5 @@
 -- The run that a replay makes and its report, and what every such run meets.
-use Rattle.std.specs.Prelude.{◌≡◌, ℕ, ◌↔◌, Bool, true, List, length, Some, Any}
+use Rattle.std.specs.Prelude.{◌≡◌, ℕ, ◌↔◌, Bool, true, List, length, Option, Some, Any}
 use Rattle.lin_report.specs.declared.calls.Op.{Op}
 use Rattle.lin_report.specs.declared.calls.Receipt.{Receipt}
 use Rattle.lin_report.specs.declared.calls.Reply.TheVariants.{Exhausted}
@@ -52,10 +52,10 @@ RunMeetsHeadline served.List run = MeetsHeadline (list_form the_list) run.setup 
 abbrev pub Exhausts : Report → Type 0
 Exhausts report = Any (λ (r : Receipt). r.reply ≡ Exhausted) report.receipts
 
--- the text is that of the run's report, and the mark says whether a call found no block left
-pub record IsTextOf (run : ReplayRun) (text : List ℕ) (exhausted : Bool) : Type 0 where
-  pub written : text ≡ report_text run.report (Some 0)
-  pub marked : (exhausted ≡ true) ↔ Exhausts run.report
+-- the text is that of the report with this overtaking count, and the mark says whether a call found no block left
+pub record IsTextOf (report : Report) (count : Option ℕ) (text : List ℕ) (exhausted : Bool) : Type 0 where
+  pub written : text ≡ report_text report count
+  pub marked : (exhausted ≡ true) ↔ Exhausts report
 
 -- the text is that of the report of the run of these commands by these entries, and the run meets the headline
 pub record IsDriven {S W : Type 0} (form : NormalForm S W) (cap limit : ℕ) (entries : List ScheduleEntry) (commands : List (List Op)) (text : List ℕ) (exhausted : Bool) : Type 0 where
@@ -64,7 +64,7 @@ pub record IsDriven {S W : Type 0} (form : NormalForm S W) (cap limit : ℕ) (en
   pub of_commands : run.commands ≡ commands
   pub is : IsRun form cap limit run
   pub headline : MeetsHeadline form run.setup run.commands run.order
-  pub text_is : IsTextOf run text exhausted
+  pub text_is : IsTextOf run.report (Some 0) text exhausted
 
 -- the same, of the structure with this name
 abbrev pub MakesReport : Served → ℕ → ℕ → List ScheduleEntry → List (List Op) → List ℕ → Bool → Type 0
@@ -82,4 +82,4 @@ pub record MakesReplayOfBytes (served : Served) (cap limit : ℕ) (schedule : Li
   pub run : ReplayRun
   pub is : IsReplayOfBytes served cap limit schedule files run
   pub headline : RunMeetsHeadline served run
-  pub text_is : IsTextOf run text exhausted
+  pub text_is : IsTextOf run.report (Some 0) text exhausted

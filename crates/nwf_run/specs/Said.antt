@@ -1,7 +1,11 @@
--- What the words of a replay say, as its code keeps it.
-use Rattle.std.specs.Prelude.{map, string_bytes}
+-- What the words of a replay or of a run say, as its code keeps it.
+use Rattle.std.specs.Prelude.{Some, None, map, string_bytes}
 use Rattle.nwf_run.specs.declared.words.ReplayWords.{ReplayWords}
+use Rattle.nwf_run.specs.declared.words.RunWords.{RunWords}
 use Rattle.nwf_run.specs.Words.{Replay}
 
 abbrev pub said : ReplayWords → Replay
-said words = record { served = words.served; cap = words.cap; limit = words.limit; schedule = words.schedule.now; files = map string_bytes words.files.now }
+said words = record { served = words.served; cap = words.cap; limit = words.limit; schedule = Some words.schedule.now; files = map string_bytes words.files.now }
+
+abbrev pub said_run : RunWords → Replay
+said_run words = record { served = words.served; cap = words.cap; limit = words.limit; schedule = None; files = map string_bytes words.files.now }

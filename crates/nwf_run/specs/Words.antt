@@ -1,5 +1,5 @@
 -- The words of the command line that a top call serves.
-use Rattle.std.specs.Prelude.{ℕ, nat_lt, nat_le, ◌&&◌, if◌then◌else◌, List, ◌∷◌, length, Option, Some, None, codes}
+use Rattle.std.specs.Prelude.{ℕ, Bool, false, nat_lt, nat_le, ◌&&◌, if◌then◌else◌, List, [], ◌∷◌, length, Option, Some, None, codes}
 use Rattle.std.specs.Option.{option_and_then}
 use Rattle.std.specs.Str.{bytes_eq}
 use Rattle.lin_report.specs.declared.calls.Client.{Client}
@@ -8,13 +8,13 @@ use Rattle.script_reader.specs.Words.{number_up_to}
 use Rattle.nwf_run.specs.declared.words.Served.{Served}
 use Rattle.nwf_run.specs.declared.words.Served.TheVariants as served
 
--- what the words of a replay say
+-- what the words of a replay say, or of a run with threads, which has no schedule
 pub record Replay : Type 0 where
   pub served : Served
   pub cap : ℕ
   pub limit : ℕ
-  -- the names of the files: the schedule, and a command file for each seat
-  pub schedule : List ℕ
+  -- the names of the files: the schedule, where there is one, and a command file for each seat
+  pub schedule : Option (List ℕ)
   pub files : List (List ℕ)
 
 -- the structure that a word names
@@ -31,8 +31,8 @@ abbrev pub number_in : ℕ → ℕ → List ℕ → Option ℕ
 number_in least most word =
     option_and_then (λ n. if nat_lt 0 (length word) && nat_le least n then Some n else None) (number_up_to most word)
 
--- a replay of a structure that is served, with its blocks and its contention limit in range
-abbrev pub replay_of : Option Served → Option ℕ → Option ℕ → List ℕ → List (List ℕ) → Option Replay
+-- a structure that is served, with its blocks and its contention limit in range
+abbrev pub replay_of : Option Served → Option ℕ → Option ℕ → Option (List ℕ) → List (List ℕ) → Option Replay
 replay_of (Some structure) (Some cap) (Some limit) schedule files = Some (record { served = structure; cap = cap; limit = limit; schedule = schedule; files = files })
 replay_of (Some structure) (Some cap) None schedule files = None
 replay_of (Some structure) None limit schedule files = None
@@ -43,6 +43,23 @@ replay_of None cap limit schedule files = None
 abbrev pub replay_words : List (List ℕ) → Option Replay
 replay_words (command ∷ client ∷ cap ∷ limit ∷ schedule ∷ files) =
     if bytes_eq command (codes "replay") && nat_lt 0 (length files) && nat_le (length files) 8
-    then replay_of (served_named client) (number_in 1 65536 cap) (number_in 1 255 limit) schedule files
+    then replay_of (served_named client) (number_in 1 65536 cap) (number_in 1 255 limit) (Some schedule) files
     else None
 replay_words _ = None
+
+-- `run CLIENT CAP LIMIT` and one to eight FILE words, with the same bounds; other words are no run
+abbrev pub run_words : List (List ℕ) → Option Replay
+run_words (command ∷ client ∷ cap ∷ limit ∷ files) =
+    if bytes_eq command (codes "run") && nat_lt 0 (length files) && nat_le (length files) 8
+    then replay_of (served_named client) (number_in 1 65536 cap) (number_in 1 255 limit) None files
+    else None
+run_words _ = None
+
+-- the first word is `run`
+abbrev pub starts_run : List (List ℕ) → Bool
+starts_run (command ∷ words) = bytes_eq command (codes "run")
+starts_run [] = false
+
+-- what the words of the program say: those of a run where the first is `run`, and else those of a replay
+abbrev pub nwf_words : List (List ℕ) → Option Replay
+nwf_words words = if starts_run words then run_words words else replay_words words

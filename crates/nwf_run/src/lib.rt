@@ -3,21 +3,27 @@
 #![tactic(auto)]
 
 pub use outside::{Failed, Files, FilesInMemory, HostFiles, HostOut, Sink, SinkInMemory};
+pub use program::nwf_main;
 pub use replay::replay_main;
 pub use replay_bytes::replay_of_bytes;
+pub use run::run_main;
 pub use running::Replayed;
 pub use stops::NoReport;
+pub use thread_runs::{Gate, NoGate};
 pub use words::Served;
 
 mod judging;
 pub mod outside;
+pub mod program;
 mod reading;
 pub mod replay;
 pub mod replay_bytes;
+pub mod run;
 mod running;
 mod scripts;
 mod stops;
 #[cfg(test)]
 mod tests;
+mod threads;
 mod words;
 mod writing;

@@ -77,7 +77,7 @@ fn tell<K: Sink>(out: &mut K, stop: Stop) -> u8
 }
 
 /// Ends a call that has a report to write, or a reason to stop.
-fn finish<K: Sink>(out: &mut K, answer: Result<Replayed, Stop>) -> u8
+pub(crate) fn finish<K: Sink>(out: &mut K, answer: Result<Replayed, Stop>) -> u8
     ensures { Ends (K.written out.old) (K.written out.new) (K.faults out.old) (K.faults out.new) result answer }
 {
     match answer {

@@ -35,7 +35,7 @@ pub fn replay_of_bytes(
     // Where all are accepted there is a report, and where one is refused first it is told, unless there was no
     // memory.
     ensures accepted { (entries : List ScheduleEntry) (commands : List (List Op)) → Accepts served (length files.now) (files_of_bytes schedule.now (map (λ file. file.now) files.now)) entries commands → IsOkUnless result no.NoMemory }
-    ensures first { (file : ℕ) (refusal : Refusal) → IsFirstRefused served (length files.now) (files_of_bytes schedule.now (map (λ file. file.now) files.now)) file refusal → (result ≡ Err (no.Refused file refusal)) ⊎ (result ≡ Err no.NoMemory) }
+    ensures first { (file : ℕ) (refusal : Refusal) → IsFirstRefused served (length files.now) (files_of_bytes schedule.now (map (λ file. file.now) files.now)) 0 file refusal → (result ≡ Err (no.Refused file refusal)) ⊎ (result ≡ Err no.NoMemory) }
 {
     let scripts = judge_files(alloc, served, schedule, files)?;
     let made = make_report(alloc, served, cap, limit, scripts)?;

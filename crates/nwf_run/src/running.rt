@@ -30,7 +30,7 @@ pub struct Replayed {
 }
 
 /// How many commands there are in all files.
-fn commands_of(files: &[Vec<Op>]) -> u32
+pub fn commands_of(files: &[Vec<Op>]) -> u32
     requires few { length files.now ≤ 8 }
     requires short { All (λ file. length file.items ≤ 65535) files.now }
     ensures count { result ≡ sum_by length (map (λ file. file.items) files.now) }
@@ -44,7 +44,7 @@ fn commands_of(files: &[Vec<Op>]) -> u32
 }
 
 /// Whether a call was answered that it found no block left.
-fn any_exhausted(receipts: &[Receipt]) -> bool
+pub fn any_exhausted(receipts: &[Receipt]) -> bool
     ensures { result ≡ list_any (λ r. reply_is_exhausted r.reply) receipts.now }
 {
     receipts

@@ -1,11 +1,11 @@
-//! Reads the files of a replay in order and judges each before the next one is opened.
+//! Reads the files of a replay or of a run in order and judges each before the next one is opened.
 ghost use Rattle.std.specs.Prelude.{◌≡◌, ◌<◌, ◌≤◌, ◌+◌, ◌∷◌, ◌⊎◌, ℕ, List, IsTrue, IfOk, IfErr, IsSomeAnd, All, length, map, take};
 ghost use Rattle.lin_report.specs.CommandFiles.{IsCommandFile};
 ghost use Rattle.script_reader.specs.Schedules.{schedule_outcome};
 ghost use Rattle.script_reader.specs.Scripts.{script_outcome};
 ghost use Rattle.nwf_run.specs.Words.{client_of};
-ghost use Rattle.nwf_run.specs.Said.{said};
-ghost use Rattle.nwf_run.specs.Judging.{Accepts};
+ghost use Rattle.nwf_run.specs.Said.{said, said_run};
+ghost use Rattle.nwf_run.specs.Judging.{Accepts, SayFirst};
 ghost use Rattle.nwf_run.specs.Reading.{FaultsAsTold, FileReads, OpensUntil, StopsAt, files_by_name};
 ghost use Rattle.nwf_run.specs.declared.stops.Stop.TheVariants as stop;
 
@@ -13,7 +13,7 @@ use crate::judging::{Scripts, judge_commands, judge_schedule};
 use crate::outside::Files;
 use crate::reading::{FILE_LIMIT, ReadError, read_file};
 use crate::stops::Stop;
-use crate::words::ReplayWords;
+use crate::words::{ReplayWords, RunWords};
 use lin_report::{Client, Op};
 use script_reader::ScheduleEntry;
 use std::alloc::Global;
@@ -84,6 +84,32 @@ fn read_commands<F: Files>(
     }
 }
 
+/// Reads the command files, of which the first has number 1.
+pub fn read_command_files<F: Files>(
+    alloc: Global,
+    words: &RunWords<'_>,
+    files: &mut F,
+) -> Result<Vec<Vec<Op>>, Stop>
+    requires few { length words.now.files.now ≤ 8 }
+    ensures says { IfOk result (λ read. IsTrue (F.tells files.old) → SayFirst words.now.served (length (said_run words.now).files) (files_by_name (F.held files.old) (said_run words.now)) (map (λ ops. ops.items) read.items)) }
+    ensures count { IfOk result (λ read. length read.items ≡ length words.now.files.now) }
+    ensures commands { IfOk result (λ read. All (λ ops. IsCommandFile (client_of words.now.served) ops.items) read.items) }
+    ensures stops { IfErr result (StopsAt (F.tells files.old) (F.held files.old) (said_run words.now)) }
+    ensures faults { FaultsAsTold (F.faults files.old) (F.faults files.new) result }
+    ensures opened { OpensUntil (said_run words.now) (F.faults files.old) (F.opened files.old) (F.opened files.new) result }
+    ensures held { (n : List ℕ) → F.held files.new n ≡ F.held files.old n }
+{
+    let Ok(mut commands) = Vec::with_capacity(alloc, words.files.len()) else {
+        return Err(Stop::NoMemory);
+    };
+    for name in words.files {
+        let file = commands.len() as u32 + 1;
+        let ops = read_commands(alloc, files, name.as_str(), words.served.client(), file)?;
+        commands.push_reserved(ops);
+    }
+    Ok(commands)
+}
+
 /// Reads the schedule and then the command files, of which the first has number 1.
 pub fn read_scripts<F: Files>(
     alloc: Global,
@@ -102,13 +128,12 @@ pub fn read_scripts<F: Files>(
     ensures held { (n : List ℕ) → F.held files.new n ≡ F.held files.old n }
 {
     let schedule = read_entries(alloc, files, words.schedule, words.files.len() as u32)?;
-    let Ok(mut commands) = Vec::with_capacity(alloc, words.files.len()) else {
-        return Err(Stop::NoMemory);
+    let listed = RunWords {
+        served: words.served,
+        cap: words.cap,
+        limit: words.limit,
+        files: words.files,
     };
-    for name in words.files {
-        let file = commands.len() as u32 + 1;
-        let ops = read_commands(alloc, files, name.as_str(), words.served.client(), file)?;
-        commands.push_reserved(ops);
-    }
+    let commands = read_command_files(alloc, &listed, files)?;
     Ok(Scripts { schedule, commands })
 }

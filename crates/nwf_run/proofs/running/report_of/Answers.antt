@@ -27,7 +27,7 @@ write_report-requires-clause-report g c =
     let core = c.drive.new.core in
     let can = can_be_written g.C.Normalized.form _ commands c.args.scripts.schedule.items c.deref-2.result.now c.in_ok-core.core core c.runs_can_be_written.ensures (search rules) c.requires.commands c.in_ok-core.ensures.core c.deref-2.ensures.value c.drive.ensures.follows in
     let sorted = in_order core c.sort_by_begin.new.self c.receipts.result.now c.pending-pending.result.items c.as_slice.result.now c.sort_by_begin.ensures.same c.sort_by_begin.ensures.order c.sort_by_begin.ensures.kept c.pending-pending.ensures.calls c.pending-pending.ensures.order c.receipts.ensures c.as_slice.ensures.value in
-    can_write core.state c.receipts.result.now c.as_slice.result.now sorted.lines sorted.calls _ sorted.order sorted.opened can
+    can_write core.state c.receipts.result.now c.as_slice.result.now sorted.lines sorted.calls (Some 0) (omega arith) _ sorted.order sorted.opened can
 
 pub returns : goal.returns
 returns g c =
@@ -38,7 +38,7 @@ returns g c =
     let follows = driven g.C.Normalized.form _ commands c.args.scripts.schedule.items c.deref-2.result.now c.in_ok-core.core core c.in_ok-core.ensures.core c.deref-2.ensures.value c.drive.ensures.follows in
     let ordered = c.runs_in_order.ensures _ (files_of commands) c.args.scripts.schedule.items core follows in
     let mark = c.any_exhausted-exhausted.ensures ∙ ap (list_any (λ (r : Receipt). reply_is_exhausted r.reply)) (c.receipts-2.ensures ∙ sym c.receipts.ensures) in
-    let written = text_is core.state c.receipts.result.now c.as_slice.result.now sorted.lines sorted.calls _ can in
+    let written = text_is core.state c.receipts.result.now c.as_slice.result.now sorted.lines sorted.calls (Some 0) _ can in
     record {
       run = record { setup = _; entries = c.args.scripts.schedule.items; commands = files_of commands; order = ordered.0; report = report_of_run core.state };
       by_entries = refl;

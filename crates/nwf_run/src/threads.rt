@@ -1,0 +1,82 @@
+//! Runs command files, each in a thread of its own, and makes the text of the report.
+ghost use Rattle.std.specs.Prelude.{◌≤◌, All, IfOk, length, map};
+ghost use Rattle.node_arena.specs.Opening.{IsLaidOut};
+ghost use Rattle.lin_report.specs.CommandFiles.{IsCommandFile};
+ghost use Rattle.nwf_run.specs.Words.{client_of};
+ghost use Rattle.nwf_run.specs.Running.{IsThreaded, MakesThreadReport};
+ghost use Rattle.nwf_run.specs.Writable.{OrdersCanBeWritten};
+
+use crate::running::{Replayed, any_exhausted, commands_of};
+use crate::words::Served;
+use fast_slow_engine::Setup;
+use harris_list::HarrisList;
+use lin_report::{NoMemory, Op, report_room, write_report};
+use ms_queue::MsQueue;
+use normal_traits::Normalized;
+use std::alloc::Global;
+use std::sync::Wait;
+use std::thread::Threads;
+use thread_laws::laws::threads_meet_headline;
+use thread_runs::Gate;
+use thread_runs::run::run;
+
+/// Every run over command files can be written, in any order of the seats.
+fn orders_can_be_written<C: Normalized>()
+    ensures { OrdersCanBeWritten C.form }
+{}
+
+/// The report of a structure's run with threads. All memory of the run and of the report is taken before the
+/// first thread starts.
+fn threaded<R: Threads + Wait + Sync, C: Normalized + Send + Sync, G: Gate + Sync>(
+    rt: &R,
+    alloc: Global,
+    cap: u32,
+    limit: u32,
+    commands: Vec<Vec<Op>>,
+    gate: &G,
+) -> Result<Replayed, NoMemory>
+    requires client { IsLaidOut C.form.client }
+    requires cap { (1 ≤ cap) × (cap ≤ 65536) }
+    requires limit { limit ≤ 255 }
+    requires some { 1 ≤ length commands.items }
+    requires few { length commands.items ≤ 8 }
+    requires commands { All (λ ops. IsCommandFile C.form.client ops.items) commands.items }
+    ensures { IfOk result (λ made. IsThreaded C.form cap limit (map (λ ops. ops.items) commands.items) made.text.items made.exhausted) }
+{
+    let setup = Setup {
+        seats: commands.len() as u32,
+        cap,
+        limit,
+    };
+    let mut text = report_room(alloc, commands_of(&commands))?;
+    let (mut lines, _) = run::<R, C, G>(rt, alloc, setup, commands, gate)?;
+    lines.sort_unstable_by_key(|line| line.begin);
+    threads_meet_headline::<C>();
+    orders_can_be_written::<C>();
+    write_report(&mut text, &lines, &[], None);
+    let exhausted = any_exhausted(&lines);
+    Ok(Replayed { text, exhausted })
+}
+
+/// The report of the run with threads of a structure by its name.
+pub fn make_thread_report<R: Threads + Wait + Sync, G: Gate + Sync>(
+    rt: &R,
+    alloc: Global,
+    served: Served,
+    cap: u32,
+    limit: u32,
+    commands: Vec<Vec<Op>>,
+    gate: &G,
+) -> Result<Replayed, NoMemory>
+    requires cap { (1 ≤ cap) × (cap ≤ 65536) }
+    requires limit { limit ≤ 255 }
+    requires some { 1 ≤ length commands.items }
+    requires few { length commands.items ≤ 8 }
+    requires commands { All (λ ops. IsCommandFile (client_of served) ops.items) commands.items }
+    ensures { IfOk result (λ made. MakesThreadReport served cap limit (map (λ ops. ops.items) commands.items) made.text.items made.exhausted) }
+{
+    match served {
+        Served::Queue => threaded::<R, MsQueue, G>(rt, alloc, cap, limit, commands, gate),
+        Served::List => threaded::<R, HarrisList, G>(rt, alloc, cap, limit, commands, gate),
+    }
+}
