@@ -25,7 +25,7 @@ use Rattle.fast_slow_engine.specs.Runs.{RunState, pending_of}
 use Rattle.run_laws.specs.Files.{FilesFit}
 use Rattle.fast_slow_engine.specs.Reports.{report_of_run}
 use Rattle.event_core.specs.Cores.{CoreView, core_new, with_receipts}
-use Rattle.schedule_runs.specs.Orders.{Follows}
+use Rattle.schedule_runs.specs.Orders.{Follows, core_in}
 use Rattle.nwf_run.specs.Writable.{CanBeWritten, RunsCanBeWritten}
 use Rattle.nwf_run.proofs.SameOrder.{apart_moved, apart_pairs, calls_moved, same_text}
 
@@ -105,7 +105,8 @@ module _ {S W : Type 0} where
     driven setup commands entries schedule new core is same follows =
         subst (λ s. Follows form s (core_new form setup (files_of commands)) core) same (subst (λ v. Follows form schedule v core) is follows)
 
-    pub can_be_written : (setup : Setup) (commands : List (Vec Op Global)) (entries schedule : List ScheduleEntry) (new core : CoreView S W) → RunsCanBeWritten form → length commands ≡ setup.seats → All (λ (ops : Vec Op Global). IsCommandFile form.client ops.items) commands
-        → new ≡ core_new form setup (files_of commands) → schedule ≡ entries → Follows form schedule new core → CanBeWritten core.state (sum_by length (files_of commands))
-    can_be_written setup commands entries schedule new core writable count each is same follows =
-        writable setup (files_of commands) entries core (files_fit form.client setup commands count each) (driven setup commands entries schedule new core is same follows)
+    -- a core that is the run of the commands in an order
+    pub can_be_written : (setup : Setup) (commands : List (Vec Op Global)) (order : List ℕ) (core : CoreView S W) → RunsCanBeWritten form → length commands ≡ setup.seats → All (λ (ops : Vec Op Global). IsCommandFile form.client ops.items) commands
+        → core ≡ core_in form setup (files_of commands) order → CanBeWritten core.state (sum_by length (files_of commands))
+    can_be_written setup commands order core writable count each is =
+        subst (λ (v : CoreView S W). CanBeWritten v.state (sum_by length (files_of commands))) (sym is) (writable setup (files_of commands) order (files_fit form.client setup commands count each))

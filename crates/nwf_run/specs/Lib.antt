@@ -8,4 +8,5 @@ pub mod Judging
 pub mod Reading
 pub mod Writable
 pub mod Runs
+pub mod Loads
 pub mod Replaying

@@ -1,10 +1,11 @@
 -- The words of the command line that a top call serves.
-use Rattle.std.specs.Prelude.{ℕ, nat_lt, nat_le, ◌&&◌, if◌then◌else◌, List, ◌∷◌, length, Option, Some, None, codes}
+use Rattle.std.specs.Prelude.{ℕ, nat_lt, nat_le, ◌&&◌, if◌then◌else◌, List, [], ◌∷◌, length, Option, Some, None, codes}
 use Rattle.std.specs.Option.{option_and_then}
 use Rattle.std.specs.Str.{bytes_eq}
 use Rattle.lin_report.specs.declared.calls.Client.{Client}
 use Rattle.lin_report.specs.declared.calls.Client.TheVariants as client
 use Rattle.script_reader.specs.Words.{number_up_to}
+use Rattle.nwf_run.specs.declared.load_words.LoadWords.{LoadWords}
 use Rattle.nwf_run.specs.declared.words.Served.{Served}
 use Rattle.nwf_run.specs.declared.words.Served.TheVariants as served
 
@@ -46,3 +47,38 @@ replay_words (command ∷ client ∷ cap ∷ limit ∷ schedule ∷ files) =
     then replay_of (served_named client) (number_in 1 65536 cap) (number_in 1 255 limit) schedule files
     else None
 replay_words _ = None
+
+-- a load of a structure that is served, with each of its numbers in range
+abbrev pub load_of : Option Served → Option ℕ → Option ℕ → Option ℕ → Option ℕ → Option ℕ → Option LoadWords
+load_of (Some structure) (Some cap) (Some limit) (Some threads) (Some calls) (Some seed) =
+    Some (record { served = structure; cap = cap; limit = limit; threads = threads; calls = calls; seed = seed })
+load_of _ _ _ _ _ _ = None
+
+-- `load CLIENT CAP LIMIT THREADS CALLS SEED`, with 1 to 65,536 blocks, a limit from 1 to 255, one to eight seats,
+-- 1 to 65,535 calls of each, and a seed of 32 bits; other words are no load
+abbrev pub load_words : List (List ℕ) → Option LoadWords
+load_words (command ∷ client ∷ cap ∷ limit ∷ threads ∷ calls ∷ seed ∷ []) =
+    if bytes_eq command (codes "load")
+    then load_of (served_named client) (number_in 1 65536 cap) (number_in 1 255 limit) (number_in 1 8 threads) (number_in 1 65535 calls) (number_in 0 4294967295 seed)
+    else None
+load_words _ = None
+
+-- what is asked for: the report of a replay, or the summary of a load
+pub data Asked : Type 0 where
+  a_replay : Replay → Asked
+  a_load : LoadWords → Asked
+
+-- the structure that it is of
+abbrev pub structure_of : Asked → Served
+structure_of (a_replay r) = r.served
+structure_of (a_load l) = l.served
+
+-- a replay is asked for, or a load, or nothing that is served
+abbrev pub asked_of : Option Replay → Option LoadWords → Option Asked
+asked_of (Some r) l = Some (a_replay r)
+asked_of None (Some l) = Some (a_load l)
+asked_of None None = None
+
+-- what the words of the command line ask for
+abbrev pub asked_words : List (List ℕ) → Option Asked
+asked_words words = asked_of (replay_words words) (load_words words)

@@ -10,6 +10,8 @@ pub use stops::NoReport;
 pub use words::Served;
 
 mod judging;
+mod load_words;
+mod loading;
 pub mod outside;
 mod reading;
 pub mod replay;

@@ -6,7 +6,7 @@ ghost use Rattle.nwf_run.specs.Words.{number_in, replay_words, served_named, cli
 use lin_report::Client;
 use script_reader::number_up_to;
 
-/// The structures that a replay serves, each named by its word.
+/// The structures that are served, each named by its word.
 #[derive(Clone, Copy, Debug, PartialEq, Eq)]
 pub enum Served {
     /// Michael and Scott's queue.
@@ -17,7 +17,7 @@ pub enum Served {
 
 impl Served {
     /// The structure that a word names.
-    fn named(word: &str) -> Option<Served>
+    pub fn named(word: &str) -> Option<Served>
         ensures { result ≡ served_named word.now }
     {
         match word {
@@ -50,9 +50,9 @@ pub struct ReplayWords<'a> {
 }
 
 /// The greatest number of blocks.
-const MAX_CAP: u32 = 65_536;
+pub const MAX_CAP: u32 = 65_536;
 /// The greatest contention limit.
-const MAX_LIMIT: u32 = 255;
+pub const MAX_LIMIT: u32 = 255;
 /// The most command files: one for each seat.
 const MAX_FILES: usize = 8;
 
@@ -86,7 +86,7 @@ pub fn replay_words(words: &[String]) -> Option<ReplayWords<'_>>
 }
 
 /// The number that a word writes, where it is in range.
-fn number_in(least: u32, most: u32, word: &str) -> Option<u32>
+pub fn number_in(least: u32, most: u32, word: &str) -> Option<u32>
     ensures number { result ≡ number_in least most word.now }
     ensures range { IfSome result (λ n. (least ≤ n) × (n ≤ most)) }
 {
