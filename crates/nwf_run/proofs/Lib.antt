@@ -10,4 +10,4 @@ pub mod Writable
 pub mod RunReports
 pub mod Replays
 pub mod Endings
-pub mod Loading
+pub mod LoadRuns

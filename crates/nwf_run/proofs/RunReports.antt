@@ -13,7 +13,7 @@ use Rattle.lin_report.specs.declared.calls.PendingCall.{PendingCall}
 use Rattle.lin_report.specs.declared.calls.Reply.{Reply}
 use Rattle.lin_report.specs.declared.calls.Reply.TheVariants.{Yes, No, Done, Value, Empty, Absent, Exhausted}
 use Rattle.lin_report.specs.Calls.{Call, calls_of, report_of}
-use Rattle.lin_report.specs.Text.{reply_is_exhausted, report_text}
+use Rattle.lin_report.specs.Text.{reply_is_exhausted, report_text, summary_text}
 use Rattle.lin_report.specs.Writing.{CanWrite, IsPrintable}
 use Rattle.lin_report.specs.declared.calls.Client.{Client}
 use Rattle.lin_report.specs.declared.calls.Op.{Op}
@@ -27,7 +27,7 @@ use Rattle.fast_slow_engine.specs.Reports.{report_of_run}
 use Rattle.event_core.specs.Cores.{CoreView, core_new, with_receipts}
 use Rattle.schedule_runs.specs.Orders.{Follows, core_in}
 use Rattle.nwf_run.specs.Writable.{CanBeWritten, RunsCanBeWritten}
-use Rattle.nwf_run.proofs.SameOrder.{apart_moved, apart_pairs, calls_moved, same_text}
+use Rattle.nwf_run.proofs.SameOrder.{apart_moved, apart_pairs, calls_moved, same_summary, same_text}
 
 -- a reply is exhausted where the test says so
 exhausted_is : (reply : Reply) → reply_is_exhausted reply ≡ true → reply ≡ Exhausted
@@ -56,6 +56,9 @@ module _ {S W : Type 0} (state : RunState S W) (receipts : List Receipt) (pendin
 
   pub text_is : (most : ℕ) → CanBeWritten state most → report_text (report_of receipts pending) (Some 0) ≡ report_text (report_of_run state) (Some 0)
   text_is most can = sym (same_text (report_of_run state) (report_of receipts pending) (Some 0) lines calls can.apart)
+
+  pub summary_is : summary_text (report_of receipts pending) (Some 0) ≡ summary_text (report_of_run state) (Some 0)
+  summary_is = sym (same_summary (report_of_run state) (report_of receipts pending) (Some 0) lines calls)
 
   pub marked : (mark : Bool) → mark ≡ list_any (λ (r : Receipt). reply_is_exhausted r.reply) receipts → (mark ≡ true) ↔ Any (λ (r : Receipt). r.reply ≡ Exhausted) state.receipts
   marked mark is =

@@ -14,6 +14,11 @@ use Rattle.schedule_runs.specs.Orders.{core_in}
 use Rattle.schedule_runs.specs.Rounds.{StepsRunInOrder, after_order}
 use Rattle.nwf_run.proofs.RunReports.{files_of}
 
+-- the files of a client by its constant are those of its form
+pub are_generated : (commands : List (Vec Op Global)) (client constant : Client) (seed seats calls : ℕ) → files_of commands ≡ generated_files constant seed seats calls → constant ≡ client
+    → files_of commands ≡ generated_files client seed seats calls
+are_generated commands client constant seed seats calls are same = are ∙ ap (λ c. generated_files c seed seats calls) same
+
 module _ (commands : List (Vec Op Global)) (client : Client) (seed seats calls : ℕ) (are : files_of commands ≡ generated_files client seed seats calls) where
   pub as_many : length commands ≡ seats
   as_many = sym (length-map commands (λ (ops : Vec Op Global). ops.items)) ∙ ap length are ∙ length-map-range_with_len (generated_file client seed calls) 0 seats
