@@ -10,4 +10,5 @@ pub mod Writable
 pub mod RunReports
 pub mod Replays
 pub mod Endings
+pub mod Stopped
 pub mod LoadRuns
