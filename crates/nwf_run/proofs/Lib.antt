@@ -11,3 +11,5 @@ pub mod Replays
 pub mod Endings
 pub mod ThreadReports
 pub mod ThreadRuns
+pub mod Stopped
+pub mod LoadRuns
