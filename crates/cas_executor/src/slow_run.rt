@@ -154,7 +154,8 @@ impl SlowRun {
     }
 
     /// Takes what the step saw, also where no run would show it. The run stops exactly at an entry that is
-    /// seen to have failed, and at the length behind the last one.
+    /// seen to have failed, or to be undecided still after this helper tried to decide it, which no run shows,
+    /// and at the length behind the last one.
     pub fn feed(&mut self, seen: Seen) -> Execution
         requires { IsWalking self.old }
         ensures execution { result ≡ slow_execution self.old seen }

@@ -67,7 +67,9 @@ fn states_that_no_run_shows(rt: HostRuntime) {
             before: state,
             won: true,
         };
+        assert!(rt; !run.next_is_listed());
         assert_eq!(rt; run.feed(seen), execution);
+        assert_eq!(rt; run.next_is_listed(), state == 0);
     }
 }
 

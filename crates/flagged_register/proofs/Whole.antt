@@ -38,9 +38,13 @@ use Rattle.flagged_register.proofs.Fed.{search_asks, help_asks, search_fed_well,
 
 -- ---- the opening
 
-opened_0 : (place : ℕ) → opening_word Tree place ≡ 0
-unfolding opening_word
-opened_0 place = refl
+opened_flag : opening_word Tree FLAG ≡ 0
+unfolding opening_word block_place
+opened_flag = refl
+
+opened_register : opening_word Tree REGISTER ≡ 0
+unfolding opening_word block_place
+opened_register = refl
 
 value_0 : versioned_value 0 ≡ 0
 unfolding versioned_value
@@ -57,11 +61,11 @@ opens = record {
   flaggers = λ list flagged. absurd flagged.won;
   same_identity = λ a b fa fb e. absurd fa.won;
   same_block = λ a b fa fb e. absurd fa.won;
-  flag = inl (ap versioned_value (opened_0 FLAG) ∙ value_0);
-  tells = map.get-empty nat_cmp 0 ∙ sym (none_content (opening_world flagged_form) (opening_word Tree REGISTER) (ap versioned_value (opened_0 REGISTER) ∙ value_0));
-  names = inl (ap versioned_value (opened_0 REGISTER) ∙ value_0);
-  clear = ap versioned_bit (opened_0 REGISTER) ∙ bit_0;
-  fits = omega (arith, opened_0 REGISTER);
+  flag = inl (ap versioned_value (opened_flag) ∙ value_0);
+  tells = map.get-empty nat_cmp 0 ∙ sym (none_content (opening_world flagged_form) (opening_word Tree REGISTER) (ap versioned_value (opened_register) ∙ value_0));
+  names = inl (ap versioned_value (opened_register) ∙ value_0);
+  clear = ap versioned_bit (opened_register) ∙ bit_0;
+  fits = omega (arith, opened_register);
   flagged = λ change among. absurd among;
   passed = λ change among. absurd among;
   agreed = λ change among. absurd among;

@@ -1,5 +1,5 @@
 -- The world of a client: what there is of a run for a structure that knows nothing of the engine.
-use Rattle.std.specs.Prelude.{◌≡◌, ℕ, ◌+◌, ◌-◌, ◌<◌, ◌==◌, ◌||◌, ◌&&◌, not, nat_le, Bool, true, ◌⊎◌, List, [], ◌∷◌, length, drop, slice_get, Some}
+use Rattle.std.specs.Prelude.{◌≡◌, ℕ, ◌+◌, ◌-◌, ◌<◌, ◌≤◌, ◌==◌, ◌||◌, ◌&&◌, not, nat_le, Bool, true, ◌⊎◌, List, [], ◌∷◌, length, drop, slice_get, Some}
 use Rattle.lin_report.specs.declared.calls.Op.{Op}
 use Rattle.lin_report.specs.declared.calls.Reply.{Reply}
 use Rattle.lin_report.specs.declared.calls.Reply.TheVariants.{Value}
@@ -129,7 +129,7 @@ Observes object op held = (object.apply op held).0 ≡ held
 -- the outcome is that of an observation after some of the changes, of which there were at least so many
 pub record RightSince (object : Object) (world : World) (op : Op) (since : ℕ) (outcome : Outcome) : Type 0 where
   pub count : ℕ
-  pub not_before : since < count + 1
-  pub made : count < length world.changes + 1
+  pub not_before : since ≤ count
+  pub made : count ≤ length world.changes
   pub observes : Observes object op (held_after object (first_changes count world.changes))
   pub told : StandsFor world outcome (object.apply op (held_after object (first_changes count world.changes))).1

@@ -1,5 +1,5 @@
 -- A file that is too long is refused, however much of it was read.
-use Rattle.std.proofs.Common.{◌≡◌, ℕ, ◌<◌, cond, List, length, take, sym, ap, ◌∙◌, arith, Option, Some, None, Result, Err, IfSome, ⊎_elim, length-take}
+use Rattle.std.proofs.Common.{◌≡◌, ℕ, ◌<◌, cond, List, length, take, sym, ap, ◌∙◌, arith, Option, Some, None, Result, Err, IsSomeAnd, ⊎_elim, length-take}
 use Rattle.std.proofs.lemmas.Bool.{cases_lt, lt-ltb}
 use Rattle.std.proofs.lemmas.List.{take_all}
 use Rattle.lin_report.specs.declared.calls.Client.{Client}
@@ -22,14 +22,14 @@ cut_outcome entry limit bytes =
     (cases_lt 1048576 (length bytes))
 
 -- what was read of a file is judged as the file is
-judged : {R : Type 0} (judge : List ℕ → R) (cut : (bytes : List ℕ) → judge (take 1048577 bytes) ≡ judge bytes) (held : Option (List ℕ)) (bytes : List ℕ) (o : R) → IfSome held (λ all. bytes ≡ take 1048577 all) → judge bytes ≡ o → IfSome held (λ all. judge all ≡ o)
-judged judge cut None bytes o h e = tt
+judged : {R : Type 0} (judge : List ℕ → R) (cut : (bytes : List ℕ) → judge (take 1048577 bytes) ≡ judge bytes) (held : Option (List ℕ)) (bytes : List ℕ) (o : R) → IsSomeAnd held (λ all. bytes ≡ take 1048577 all) → judge bytes ≡ o → IsSomeAnd held (λ all. judge all ≡ o)
+judged judge cut None bytes o h e = h
 judged judge cut (Some all) bytes o h e = sym (cut all) ∙ ap judge (sym h) ∙ e
 
-pub judged_schedule : (seats : ℕ) (held : Option (List ℕ)) (bytes : List ℕ) (o : Result _ _) → IfSome held (λ all. bytes ≡ take 1048577 all) → schedule_outcome seats bytes ≡ o → IfSome held (λ all. schedule_outcome seats all ≡ o)
+pub judged_schedule : (seats : ℕ) (held : Option (List ℕ)) (bytes : List ℕ) (o : Result _ _) → IsSomeAnd held (λ all. bytes ≡ take 1048577 all) → schedule_outcome seats bytes ≡ o → IsSomeAnd held (λ all. schedule_outcome seats all ≡ o)
 unfolding schedule_outcome
 judged_schedule seats = judged (schedule_outcome seats) (λ bytes. cut_outcome (entry_of seats) ENTRY_LIMIT bytes)
 
-pub judged_script : (client : Client) (held : Option (List ℕ)) (bytes : List ℕ) (o : Result _ _) → IfSome held (λ all. bytes ≡ take 1048577 all) → script_outcome client bytes ≡ o → IfSome held (λ all. script_outcome client all ≡ o)
+pub judged_script : (client : Client) (held : Option (List ℕ)) (bytes : List ℕ) (o : Result _ _) → IsSomeAnd held (λ all. bytes ≡ take 1048577 all) → script_outcome client bytes ≡ o → IsSomeAnd held (λ all. script_outcome client all ≡ o)
 unfolding script_outcome
 judged_script client = judged (script_outcome client) (λ bytes. cut_outcome (command_of client) COMMAND_LIMIT bytes)

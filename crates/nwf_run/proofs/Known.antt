@@ -1,5 +1,5 @@
 -- What one call after another does to known bytes.
-use Rattle.std.proofs.Common.{◌≡◌, ℕ, ◌≤◌, Option, Some, None, List, [], ◌++◌, length, take, refl, sym, ap, ◌∙◌, append_assoc, append-nil, subst, IfSome}
+use Rattle.std.proofs.Common.{◌≡◌, ℕ, ◌≤◌, Option, Some, None, List, [], ◌++◌, length, take, refl, sym, ap, ◌∙◌, append_assoc, append-nil, subst, IfSome, IsSomeAnd}
 use Rattle.std.proofs.Math.Seq.{take-append_seam}
 use Rattle.std.proofs.lemmas.List.{nil_from_length, take_all}
 use Rattle.std.specs.Io.KnownBytes.{Appends, Consumes, Keeps, IsAtEnd}
@@ -45,8 +45,7 @@ Consumes-to_end (Some left) (Some mid) (Some new) bytes more n p q end none le =
     let all : left ≡ bytes = p ∙ ap (λ v. bytes ++ v) (q ∙ ap (λ v. v ++ new) (nil_from_length more none) ∙ end) ∙ append-nil bytes in
     sym (ap (take n) all ∙ take_all n bytes le)
 
--- what holds of known bytes that stay held of them before
-pub IfSome-kept : (P : List ℕ → Type 0) (old new : Option (List ℕ)) → Keeps old new → IfSome new P → IfSome old P
-IfSome-kept P None new p h = tt
-IfSome-kept P (Some old) None p h = absurd p
-IfSome-kept P (Some old) (Some new) p h = subst P p h
+-- what holds of what is left of a file holds of the bytes that are held, where all of them are left
+pub held-left : (P : List ℕ → Type 0) (held left : Option (List ℕ)) → IsSomeAnd held (λ bytes. left ≡ Some bytes) → IfSome left P → IsSomeAnd held P
+held-left P None left all h = all
+held-left P (Some bytes) left all h = subst (λ o. IfSome o P) all h

@@ -2,7 +2,10 @@ pub mod FirstNamed
 pub mod Known
 pub mod CutFiles
 pub mod JudgedFiles
+pub mod JudgedBytes
+pub mod ReadFiles
 pub mod SameOrder
 pub mod Writable
 pub mod RunReports
-pub mod Headline
+pub mod Replays
+pub mod Endings

@@ -17,16 +17,15 @@ use Rattle.lin_report.specs.Text.{reply_is_exhausted, report_text}
 use Rattle.lin_report.specs.Writing.{CanWrite, IsPrintable}
 use Rattle.lin_report.specs.declared.calls.Client.{Client}
 use Rattle.lin_report.specs.declared.calls.Op.{Op}
-use Rattle.lin_report.specs.Commands.{IsCommandOf}
+use Rattle.lin_report.specs.CommandFiles.{IsCommandFile}
 use Rattle.script_reader.specs.declared.schedules.ScheduleEntry.{ScheduleEntry}
 use Rattle.normal_traits.specs.NormalForm.{NormalForm}
 use Rattle.fast_slow_engine.specs.declared.setup.Setup.{Setup}
 use Rattle.fast_slow_engine.specs.Runs.{RunState, pending_of}
 use Rattle.run_laws.specs.Files.{FilesFit}
-use Rattle.run_laws.specs.Ticks.{report_of_run}
+use Rattle.fast_slow_engine.specs.Reports.{report_of_run}
 use Rattle.event_core.specs.Cores.{CoreView, core_new, with_receipts}
 use Rattle.schedule_runs.specs.Orders.{Follows}
-use Rattle.nwf_run.specs.Judging.{IsCommandFile}
 use Rattle.nwf_run.specs.Writable.{CanBeWritten, RunsCanBeWritten}
 use Rattle.nwf_run.proofs.SameOrder.{apart_moved, apart_pairs, calls_moved, same_text}
 
@@ -75,8 +74,7 @@ files_of commands = map (λ (ops : Vec Op Global). ops.items) commands
 pub files_fit : (client : Client) (setup : Setup) (commands : List (Vec Op Global)) → length commands ≡ setup.seats → All (λ (ops : Vec Op Global). IsCommandFile client ops.items) commands → FilesFit client setup (files_of commands)
 files_fit client setup commands count each = record {
   count = omega (arith, count, length-map commands (λ (ops : Vec Op Global). ops.items));
-  few = All-map (λ (file : List Op). length file ≤ 65535) (λ (ops : Vec Op Global). ops.items) commands (λ k d within. (each k d within).few);
-  commands = All-map (λ (file : List Op). All (IsCommandOf client) file) (λ (ops : Vec Op Global). ops.items) commands (λ k d within. (each k d within).commands);
+  runnable = All-map (IsCommandFile client) (λ (ops : Vec Op Global). ops.items) commands each;
 }
 
 module _ {S W : Type 0} where

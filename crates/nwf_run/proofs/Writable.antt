@@ -26,7 +26,8 @@ use Rattle.fast_slow_engine.specs.PhaseTable.{mech_pending, ticks_left}
 use Rattle.fast_slow_engine.specs.Runs.{RunState, moves_over, pending_of, run_of}
 use Rattle.run_laws.specs.Seats.{EachMech}
 use Rattle.run_laws.specs.Files.{FilesFit}
-use Rattle.run_laws.specs.Ticks.{KeepsTicks, HasTicksOnce, report_of_run}
+use Rattle.fast_slow_engine.specs.Reports.{report_of_run}
+use Rattle.run_laws.specs.Ticks.{KeepsTicks, HasTicksOnce}
 use Rattle.run_laws.proofs.StepKinds.{pending_none, pending_open}
 use Rattle.run_laws.proofs.TickLemmas.{IsFew, ticks_had, counts_ticks}
 use Rattle.run_laws.proofs.SeatLemmas.{seats_stay}
@@ -101,8 +102,8 @@ module _ (c : Client) (setup : Setup) (files : List (List Op)) (fit : FilesFit c
   printable : (call : Call) → IsCommand files call → call.begin < TICK_LIMIT → IfSome call.answer (IsPrintableAnswer call.op) → IsPrintable call
   printable call is begin answer =
       let of = is_of call is in
-      let short : length (file_of files call.seat) ≤ 65535 = fit.few call.seat [] of.seat in
-      let command : IsCommandOf c call.op = subst (IsCommandOf c) of.command (fit.commands call.seat [] of.seat (call.number - 1) call.op of.number) in
+      let short : length (file_of files call.seat) ≤ 65535 = (fit.runnable call.seat [] of.seat).few in
+      let command : IsCommandOf c call.op = subst (IsCommandOf c) of.command ((fit.runnable call.seat [] of.seat).commands (call.number - 1) call.op of.number) in
       record {
         seat = omega (arith, of.seat, fit.count, setup.few_seats);
         counted = is.counted;
@@ -159,7 +160,7 @@ module _ {S W : Type 0} (form : NormalForm S W) (setup : Setup) (files : List (L
   ran = run_of form setup (moves_over form setup files order)
 
   most : sum_by length files ≤ 524280
-  most = omega (arith, sum_by-le length 65535 files fit.few, fit.count, setup.few_seats)
+  most = omega (arith, sum_by-le length 65535 files (λ k d within. (fit.runnable k d within).few), fit.count, setup.few_seats)
 
   module _ (keeps : KeepsTicks form setup (moves_over form setup files order)) where
     abbrev begins : List ℕ

@@ -5,6 +5,7 @@ pub mod Words
 pub mod Stops
 pub mod Said
 pub mod Judging
+pub mod Reading
 pub mod Writable
+pub mod Runs
 pub mod Replaying
-pub mod Headline

@@ -1,5 +1,6 @@
 -- What files in memory are: named bytes, the calls that fail, and what is left of the chosen file.
 use Rattle.std.specs.Prelude.{ℕ, List}
+use Rattle.nwf_run.specs.Outside.{Opening}
 
 pub record MemoryFiles : Type 0 where
   -- the names with their bytes
@@ -12,4 +13,6 @@ pub record MemoryFiles : Type 0 where
   pub calls : ℕ
   -- what is left of the chosen file
   pub rest : List ℕ
+  -- the openings so far, the newest first
+  pub opened : List Opening
   pub faults : ℕ

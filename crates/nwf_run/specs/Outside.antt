@@ -23,3 +23,7 @@ first_named name (file ∷ files) = if bytes_eq file.0 name then Some file.1 els
 -- known bytes grow by the first bytes of a text, maybe by none
 abbrev pub AppendsPrefix : Option (List ℕ) → Option (List ℕ) → List ℕ → Type 0
 AppendsPrefix old new text = (count : ℕ) × Appends old new (take count text)
+
+-- an opening of a file: its name, and the count of faults before it
+abbrev pub Opening : Type 0
+Opening = List ℕ × ℕ

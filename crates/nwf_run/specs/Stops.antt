@@ -2,8 +2,15 @@
 use Rattle.std.specs.Prelude.{ℕ, List, ◌++◌, codes, decimal}
 use Rattle.script_reader.specs.declared.causes.Refusal.{Refusal}
 use Rattle.script_reader.specs.Outcomes.{cause_number}
+use Rattle.nwf_run.specs.declared.stops.NoReport.{NoReport}
+use Rattle.nwf_run.specs.declared.stops.NoReport.TheVariants as no
 use Rattle.nwf_run.specs.declared.stops.Stop.{Stop}
 use Rattle.nwf_run.specs.declared.stops.Stop.TheVariants.{Usage, Refused, ReadFault, NoMemory}
+
+-- a top call stops where bytes have no report
+abbrev pub stop_for : NoReport → Stop
+stop_for (no.Refused file refusal) = Refused file refusal
+stop_for no.NoMemory = NoMemory
 
 -- the status of a stop
 abbrev pub status_of : Stop → ℕ

@@ -8,7 +8,7 @@ use Rattle.normal_traits.specs.NormalForm.{NormalForm}
 use Rattle.fast_slow_engine.specs.declared.setup.Setup.{Setup}
 use Rattle.fast_slow_engine.specs.Runs.{RunState, pending_of}
 use Rattle.run_laws.specs.Files.{FilesFit}
-use Rattle.run_laws.specs.Ticks.{report_of_run}
+use Rattle.fast_slow_engine.specs.Reports.{report_of_run}
 use Rattle.event_core.specs.Cores.{CoreView, core_new}
 use Rattle.schedule_runs.specs.Orders.{Follows}
 

@@ -4,12 +4,18 @@
 
 pub use outside::{Failed, Files, FilesInMemory, HostFiles, HostOut, Sink, SinkInMemory};
 pub use replay::replay_main;
+pub use replay_bytes::replay_of_bytes;
+pub use running::Replayed;
+pub use stops::NoReport;
+pub use words::Served;
 
 mod judging;
 pub mod outside;
 mod reading;
 pub mod replay;
+pub mod replay_bytes;
 mod running;
+mod scripts;
 mod stops;
 #[cfg(test)]
 mod tests;

@@ -1,8 +1,8 @@
 //! What a top call reads and writes. Each object of the outside counts its faults, and it answers
 //! `Failed` only where that count rose.
-ghost use Rattle.std.specs.Prelude.{◌≡◌, ◌≤◌, ◌<◌, ℕ, List, Option, take, length, IfOk, OnOk, OnErr};
+ghost use Rattle.std.specs.Prelude.{◌≡◌, ◌≤◌, ◌<◌, ◌∷◌, ℕ, Bool, IsTrue, List, Option, Some, take, length, IfOk, IsSomeAnd, OnOk, OnErr};
 ghost use Rattle.std.specs.Io.KnownBytes.{Keeps, Appends, Consumes, IsAtEnd};
-ghost use Rattle.nwf_run.specs.Outside.{Rose, StillTells};
+ghost use Rattle.nwf_run.specs.Outside.{Opening, Rose, StillTells};
 
 pub use host::{HostFiles, HostOut};
 pub use memory_files::FilesInMemory;
@@ -11,6 +11,7 @@ pub use memory_sink::SinkInMemory;
 mod host;
 mod memory_files;
 mod memory_sink;
+mod openings;
 #[cfg(test)]
 mod tests;
 
@@ -20,19 +21,28 @@ pub struct Failed;
 
 /// Files by their names, of which one is chosen and read from its first byte to its last.
 pub trait Files {
-    /// The bytes held under a name, where the object tells its bytes and holds that name.
+    /// Whether the object tells its bytes.
+    ghost tells: { Self → Bool };
+
+    /// The bytes under a name, or none where there is no such file. It says so only where the object tells
+    /// its bytes.
     ghost held: { Self → List ℕ → Option (List ℕ) };
 
     /// The bytes of the chosen file that were not read yet, where the object tells them.
     ghost left: { Self → Option (List ℕ) };
 
+    /// The openings so far, the newest first: each with its name, and the count of faults before it.
+    ghost opened: { Self → List Opening };
+
     /// How many faults there were. It never falls, and it may stay at its last value.
     ghost faults: { Self → ℕ };
 
-    /// Chooses a file from its first byte. A missing name is a fault.
+    /// Chooses a file from its first byte. A name that isn't there is a fault.
     fn start_file(&mut self, name: &str) -> Result<(), Failed>
-        ensures chosen { OnOk result (Keeps (held self.old name.now) (left self.new)) }
+        ensures chosen { OnOk result (IsTrue (tells self.old) → IsSomeAnd (held self.old name.now) (λ bytes. left self.new ≡ Some bytes)) }
+        ensures tells { tells self.new ≡ tells self.old }
         ensures held { (n : List ℕ) → held self.new n ≡ held self.old n }
+        ensures opened { opened self.new ≡ (name.now, faults self.old) ∷ opened self.old }
         ensures calm { OnOk result (faults self.new ≡ faults self.old) }
         ensures fault { OnErr result (Rose (faults self.old) (faults self.new)) };
 
@@ -42,8 +52,10 @@ pub trait Files {
         ensures fits { IfOk result (λ n. n ≤ length into.new) }
         ensures reads { IfOk result (λ n. Consumes (left self.old) (left self.new) (take n into.new)) }
         ensures end { IfOk result (λ n. n ≡ 0 → 0 < length into.new → IsAtEnd (left self.new)) }
-        ensures tells { StillTells (left self.old) (left self.new) }
+        ensures still { StillTells (left self.old) (left self.new) }
+        ensures tells { tells self.new ≡ tells self.old }
         ensures held { (n : List ℕ) → held self.new n ≡ held self.old n }
+        ensures opened { opened self.new ≡ opened self.old }
         ensures calm { OnOk result (faults self.new ≡ faults self.old) }
         ensures fault { OnErr result (Rose (faults self.old) (faults self.new)) };
 }

@@ -1,5 +1,5 @@
 //! Reads a file of the outside to its end, or to the byte after the greatest length.
-ghost use Rattle.std.specs.Prelude.{◌≡◌, ◌+◌, ℕ, List, take, IfOk, IfSome, OnOk, IsErrOf, vec_len};
+ghost use Rattle.std.specs.Prelude.{◌≡◌, ◌+◌, ◌∷◌, ℕ, List, IsTrue, take, IfOk, IfSome, IsSomeAnd, OnOk, IsErrOf, vec_len};
 ghost use Rattle.nwf_run.specs.Outside.{Rose};
 
 use crate::outside::Files;
@@ -23,8 +23,10 @@ pub enum ReadError {
 /// The bytes under a name. Of a longer file they are the first FILE_LIMIT + 1, which show that it is
 /// too long.
 pub fn read_file<F: Files>(alloc: Global, files: &mut F, name: &str) -> Result<Vec<u8>, ReadError>
-    ensures bytes { IfOk result (λ bytes. IfSome (F.held files.old name.now) (λ held. bytes.items ≡ take (FILE_LIMIT + 1) held)) }
+    ensures bytes { IfOk result (λ bytes. IsTrue (F.tells files.old) → IsSomeAnd (F.held files.old name.now) (λ held. bytes.items ≡ take (FILE_LIMIT + 1) held)) }
+    ensures tells { F.tells files.new ≡ F.tells files.old }
     ensures held { (n : List ℕ) → F.held files.new n ≡ F.held files.old n }
+    ensures opened { F.opened files.new ≡ (name.now, F.faults files.old) ∷ F.opened files.old }
     ensures fault { IsErrOf result ReadError.Fault → Rose (F.faults files.old) (F.faults files.new) }
     ensures no_memory { IsErrOf result ReadError.NoMemory → F.faults files.new ≡ F.faults files.old }
     ensures calm { OnOk result (F.faults files.new ≡ F.faults files.old) }
@@ -38,7 +40,9 @@ pub fn read_file<F: Files>(alloc: Global, files: &mut F, name: &str) -> Result<V
 /// What is left of the chosen file, or its first FILE_LIMIT + 1 bytes.
 fn read_left<F: Files>(alloc: Global, files: &mut F) -> Result<Vec<u8>, ReadError>
     ensures bytes { IfOk result (λ bytes. IfSome (F.left files.old) (λ left. bytes.items ≡ take (FILE_LIMIT + 1) left)) }
+    ensures tells { F.tells files.new ≡ F.tells files.old }
     ensures held { (n : List ℕ) → F.held files.new n ≡ F.held files.old n }
+    ensures opened { F.opened files.new ≡ F.opened files.old }
     ensures fault { IsErrOf result ReadError.Fault → Rose (F.faults files.old) (F.faults files.new) }
     ensures no_memory { IsErrOf result ReadError.NoMemory → F.faults files.new ≡ F.faults files.old }
     ensures calm { OnOk result (F.faults files.new ≡ F.faults files.old) }

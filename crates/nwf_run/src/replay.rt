@@ -1,20 +1,20 @@
 //! `replay`: runs command files by a schedule and writes the report.
-ghost use Rattle.std.specs.Prelude.{◌≡◌, ◌≢◌, ◌↔◌, ◌⊎◌, ◌≤◌, ℕ, List, None, Some, map, length, IfOk, IfErr, IsSomeAnd, IsErrOf, string_bytes};
+ghost use Rattle.std.specs.Prelude.{◌≡◌, ◌≢◌, ◌↔◌, ◌⊎◌, ◌≤◌, ◌+◌, ℕ, List, None, Some, map, length, IfOk, IfErr, IsSomeAnd, IsErrOf, string_bytes};
 ghost use Rattle.std.specs.Io.KnownBytes.{Appends};
-ghost use Rattle.lin_report.specs.Calls.{Report};
 ghost use Rattle.lin_report.specs.Text.{report_text};
 ghost use Rattle.script_reader.specs.declared.causes.Refusal.{Refusal};
-ghost use Rattle.nwf_run.specs.Judging.{FaultsAsTold, IsFirstRefused, IsReached, StopsAt};
 ghost use Rattle.nwf_run.specs.Outside.{Rose, AppendsPrefix};
-ghost use Rattle.nwf_run.specs.Replaying.{Ends, Exhausts, IsReplayOf, Reports, StopsFor, Tells, TextOf};
+ghost use Rattle.nwf_run.specs.Reading.{FaultsAsTold, Opens, OpensUntil, Reaches, Refuses, StopsAt};
+ghost use Rattle.nwf_run.specs.Replaying.{Ends, IsReplayOf, MakesReplay, OpensFor, Reports, StopsFor, WritesMessage};
+ghost use Rattle.nwf_run.specs.Runs.{Exhausts, ReplayRun, RunMeetsHeadline};
 ghost use Rattle.nwf_run.specs.Said.{said};
 ghost use Rattle.nwf_run.specs.Stops.{status_of, message_of, USAGE_MESSAGE, NO_MEMORY_MESSAGE, refused_message, unread_message};
 ghost use Rattle.nwf_run.specs.Words.{replay_words};
 ghost use Rattle.nwf_run.specs.declared.stops.Stop.{Stop};
 
-use crate::judging::read_scripts;
 use crate::outside::{Files, Sink};
 use crate::running::{Replayed, make_report};
+use crate::scripts::read_scripts;
 use crate::stops::Stop;
 use crate::words::{ReplayWords, replay_words};
 use crate::writing::write_all;
@@ -30,21 +30,23 @@ fn replay_files<F: Files>(
     requires limit { words.now.limit ≤ 255 }
     requires some { 1 ≤ length words.now.files.now }
     requires few { length words.now.files.now ≤ 8 }
-    ensures text { IfOk result (λ made. TextOf (IsReplayOf (F.held files.old) (said words.now)) made.text.items made.exhausted) }
-    ensures stops { IfErr result (StopsAt (F.held files.old) (said words.now)) }
+    ensures text { IfOk result (λ made. MakesReplay (F.tells files.old) (F.held files.old) (said words.now) made.text.items made.exhausted) }
+    ensures stops { IfErr result (StopsAt (F.tells files.old) (F.held files.old) (said words.now)) }
     ensures faults { FaultsAsTold (F.faults files.old) (F.faults files.new) result }
+    ensures opened { OpensUntil (said words.now) (F.faults files.old) (F.opened files.old) (F.opened files.new) result }
     ensures held { (n : List ℕ) → F.held files.new n ≡ F.held files.old n }
 {
     let scripts = read_scripts(alloc, words, files)?;
-    let made = make_report(alloc, words, scripts)?;
+    let made = make_report(alloc, words.served, words.cap, words.limit, scripts)?;
     Ok(made)
 }
 
 /// The report that the words ask for, or why there is none.
 fn answer<F: Files>(alloc: Global, words: &[String], files: &mut F) -> Result<Replayed, Stop>
-    ensures text { IfOk result (λ made. IsSomeAnd (replay_words (map string_bytes words.now)) (λ r. TextOf (IsReplayOf (F.held files.old) r) made.text.items made.exhausted)) }
-    ensures stops { IfErr result (StopsFor (F.held files.old) (replay_words (map string_bytes words.now))) }
+    ensures text { IfOk result (λ made. IsSomeAnd (replay_words (map string_bytes words.now)) (λ r. MakesReplay (F.tells files.old) (F.held files.old) r made.text.items made.exhausted)) }
+    ensures stops { IfErr result (StopsFor (F.tells files.old) (F.held files.old) (replay_words (map string_bytes words.now))) }
     ensures faults { FaultsAsTold (F.faults files.old) (F.faults files.new) result }
+    ensures opened { OpensFor (replay_words (map string_bytes words.now)) (F.faults files.old) (F.opened files.old) (F.opened files.new) result }
     ensures held { (n : List ℕ) → F.held files.new n ≡ F.held files.old n }
 {
     match replay_words(words) {
@@ -68,7 +70,7 @@ fn report<K: Sink>(out: &mut K, made: &Replayed) -> u8
 /// message can't be written.
 fn tell<K: Sink>(out: &mut K, stop: Stop) -> u8
     ensures status { result ≡ status_of stop }
-    ensures tells { Tells (K.written out.old) (K.written out.new) (K.faults out.old) (K.faults out.new) (message_of stop) }
+    ensures writes { WritesMessage (K.written out.old) (K.written out.new) (K.faults out.old) (K.faults out.new) (message_of stop) }
 {
     let _ = write_all(out, stop.message().as_str().as_bytes());
     stop.status()
@@ -101,27 +103,34 @@ pub fn replay_main<F: Files, K: Sink>(
     // The words alone decide whether they are served.
     ensures usage { (result ≡ 2) ↔ (replay_words (map string_bytes words.now) ≡ None) }
 
-    // What is written for accepted files is the report of their run, all of it or, after a fault of the sink,
-    // its first bytes; the status says whether a call of it found no block left.
-    ensures done { result ≡ 0 → IsSomeAnd (replay_words (map string_bytes words.now)) (λ r. (report : Report) × IsReplayOf (F.held files.old) r report × (¬ Exhausts report) × Appends (K.written out.old) (K.written out.new) (report_text report (Some 0))) }
-    ensures exhausted { result ≡ 7 → IsSomeAnd (replay_words (map string_bytes words.now)) (λ r. (report : Report) × IsReplayOf (F.held files.old) r report × Exhausts report × Appends (K.written out.old) (K.written out.new) (report_text report (Some 0))) }
-    ensures cut { result ≡ 5 → IsSomeAnd (replay_words (map string_bytes words.now)) (λ r. (report : Report) × IsReplayOf (F.held files.old) r report × AppendsPrefix (K.written out.old) (K.written out.new) (report_text report (Some 0))) }
+    // What is written for accepted files is the report of their run, which meets the headline: all of it or,
+    // after a fault of the sink, its first bytes; the status says whether a call of it found no block left.
+    ensures done { result ≡ 0 → IsSomeAnd (replay_words (map string_bytes words.now)) (λ r. (run : ReplayRun) × IsReplayOf (F.tells files.old) (F.held files.old) r run × RunMeetsHeadline r.served run × (¬ Exhausts run.report) × Appends (K.written out.old) (K.written out.new) (report_text run.report (Some 0))) }
+    ensures exhausted { result ≡ 7 → IsSomeAnd (replay_words (map string_bytes words.now)) (λ r. (run : ReplayRun) × IsReplayOf (F.tells files.old) (F.held files.old) r run × RunMeetsHeadline r.served run × Exhausts run.report × Appends (K.written out.old) (K.written out.new) (report_text run.report (Some 0))) }
+    ensures cut { result ≡ 5 → IsSomeAnd (replay_words (map string_bytes words.now)) (λ r. (run : ReplayRun) × IsReplayOf (F.tells files.old) (F.held files.old) r run × RunMeetsHeadline r.served run × AppendsPrefix (K.written out.old) (K.written out.new) (report_text run.report (Some 0))) }
 
-    // A file is refused only where it isn't accepted and each file before it is, and the message names it.
-    ensures refused { result ≡ 3 → IsSomeAnd (replay_words (map string_bytes words.now)) (λ r. (file : ℕ) × (refusal : Refusal) × IsFirstRefused (F.held files.old) r file refusal × Tells (K.written out.old) (K.written out.new) (K.faults out.old) (K.faults out.new) (refused_message file refusal)) }
+    // A file is refused only where it is there and not accepted and each file before it is, and the message
+    // names it. No later one was opened.
+    ensures refused { result ≡ 3 → IsSomeAnd (replay_words (map string_bytes words.now)) (λ r. (file : ℕ) × (refusal : Refusal) × Refuses (F.tells files.old) (F.held files.old) r file refusal × Opens r (file + 1) (F.faults files.old) (F.opened files.old) (F.opened files.new) × WritesMessage (K.written out.old) (K.written out.new) (K.faults out.old) (K.faults out.new) (refused_message file refusal)) }
 
-    // A fault is told only where the count of faults rose and each file before the one that is named is
-    // accepted, and no other answer comes after one.
+    // A fault is told only where the count of faults rose, of the file that was opened or read then: it stood
+    // still before the last opening. Each file before that one is there and accepted. No other answer comes
+    // after a fault.
     ensures read_fault { result ≡ 4 → Rose (F.faults files.old) (F.faults files.new) }
-    ensures unread { result ≡ 4 → IsSomeAnd (replay_words (map string_bytes words.now)) (λ r. (file : ℕ) × IsReached (F.held files.old) r file × Tells (K.written out.old) (K.written out.new) (K.faults out.old) (K.faults out.new) (unread_message file)) }
+    ensures unread { result ≡ 4 → IsSomeAnd (replay_words (map string_bytes words.now)) (λ r. (file : ℕ) × Reaches (F.tells files.old) (F.held files.old) r file × Opens r (file + 1) (F.faults files.old) (F.opened files.old) (F.opened files.new) × WritesMessage (K.written out.old) (K.written out.new) (K.faults out.old) (K.faults out.new) (unread_message file)) }
     ensures read_calm { result ≢ 4 → F.faults files.new ≡ F.faults files.old }
     ensures write_fault { result ≡ 5 → Rose (K.faults out.old) (K.faults out.new) }
     ensures write_calm { (result ≡ 0) ⊎ (result ≡ 7) → K.faults out.new ≡ K.faults out.old }
 
+    // Every file was opened, in order and once, where there is a report; none where the words are not served.
+    ensures all_opened { (result ≡ 0) ⊎ (result ≡ 5) ⊎ (result ≡ 7) → IsSomeAnd (replay_words (map string_bytes words.now)) (λ r. Opens r (length r.files + 1) (F.faults files.old) (F.opened files.old) (F.opened files.new)) }
+    ensures none_opened { result ≡ 2 → F.opened files.new ≡ F.opened files.old }
+
     // The other statuses have their message, of which the sink has all or, after a fault, the first bytes.
     ensures statuses { (result ≡ 0) ⊎ (result ≡ 5) ⊎ (result ≡ 7) ⊎ ((stop : Stop) × (result ≡ status_of stop)) }
-    ensures unserved { result ≡ 2 → Tells (K.written out.old) (K.written out.new) (K.faults out.old) (K.faults out.new) USAGE_MESSAGE }
-    ensures no_memory { result ≡ 6 → Tells (K.written out.old) (K.written out.new) (K.faults out.old) (K.faults out.new) NO_MEMORY_MESSAGE }
+    ensures unserved { result ≡ 2 → WritesMessage (K.written out.old) (K.written out.new) (K.faults out.old) (K.faults out.new) USAGE_MESSAGE }
+    ensures no_memory { result ≡ 6 → WritesMessage (K.written out.old) (K.written out.new) (K.faults out.old) (K.faults out.new) NO_MEMORY_MESSAGE }
+    ensures some_opened { result ≡ 6 → IsSomeAnd (replay_words (map string_bytes words.now)) (λ r. (count : ℕ) × (count ≤ length r.files + 1) × Opens r count (F.faults files.old) (F.opened files.old) (F.opened files.new)) }
     ensures held { (n : List ℕ) → F.held files.new n ≡ F.held files.old n }
 {
     let answer = answer(alloc, words, files);

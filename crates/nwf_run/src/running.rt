@@ -4,22 +4,22 @@ ghost use Rattle.std.specs.List.{list_any};
 ghost use Rattle.node_arena.specs.Opening.{IsLaidOut};
 ghost use Rattle.lin_report.specs.declared.calls.Op.{Op};
 ghost use Rattle.lin_report.specs.Text.{reply_is_exhausted};
-ghost use Rattle.nwf_run.specs.Judging.{IsCommandFile};
-ghost use Rattle.nwf_run.specs.Said.{said};
+ghost use Rattle.lin_report.specs.CommandFiles.{IsCommandFile};
 ghost use Rattle.nwf_run.specs.Words.{client_of};
-ghost use Rattle.nwf_run.specs.Headline.{RunsMeetHeadline};
 ghost use Rattle.nwf_run.specs.Writable.{RunsCanBeWritten};
-ghost use Rattle.nwf_run.specs.Replaying.{IsReportFor, IsReportOf, TextOf};
+ghost use Rattle.nwf_run.specs.Runs.{IsDriven, MakesReport};
 
 use crate::judging::Scripts;
-use crate::words::{ReplayWords, Served};
+use crate::words::Served;
 use event_core::Core;
 use fast_slow_engine::Setup;
 use harris_list::HarrisList;
 use lin_report::{NoMemory, Op, Receipt, Reply, report_room, write_report};
 use ms_queue::MsQueue;
 use normal_traits::Normalized;
+use run_history::headline::files_meet_headline;
 use schedule_runs::drive;
+use schedule_runs::laws::runs_in_order;
 use std::alloc::Global;
 
 /// The text of a report, and whether a call of it found no block left.
@@ -57,61 +57,58 @@ fn runs_can_be_written<C: Normalized>()
     ensures { RunsCanBeWritten C.form }
 {}
 
-/// Every run over command files that a schedule drives has a linearizable report.
-fn runs_meet_headline<C: Normalized>()
-    ensures { RunsMeetHeadline C.form }
-{}
-
 /// The report of a structure's run. All memory of the run and of the report is taken before the run is made.
 fn report_of<C: Normalized>(
     alloc: Global,
-    words: &ReplayWords<'_>,
+    cap: u32,
+    limit: u32,
     scripts: Scripts,
 ) -> Result<Replayed, NoMemory>
     requires client { IsLaidOut C.form.client }
-    requires cap { (1 ≤ words.now.cap) × (words.now.cap ≤ 65536) }
-    requires limit { words.now.limit ≤ 255 }
-    requires some { 1 ≤ length words.now.files.now }
-    requires few { length words.now.files.now ≤ 8 }
-    requires count { length scripts.commands.items ≡ length words.now.files.now }
-    requires seats { All (λ entry. entry.seat < length words.now.files.now) scripts.schedule.items }
+    requires cap { (1 ≤ cap) × (cap ≤ 65536) }
+    requires limit { limit ≤ 255 }
+    requires some { 1 ≤ length scripts.commands.items }
+    requires few { length scripts.commands.items ≤ 8 }
+    requires seats { All (λ entry. entry.seat < length scripts.commands.items) scripts.schedule.items }
     requires commands { All (λ ops. IsCommandFile C.form.client ops.items) scripts.commands.items }
-    ensures { IfOk result (λ made. TextOf (IsReportOf C.form (said words.now) scripts.schedule.items (map (λ ops. ops.items) scripts.commands.items)) made.text.items made.exhausted) }
+    ensures { IfOk result (λ made. IsDriven C.form cap limit scripts.schedule.items (map (λ ops. ops.items) scripts.commands.items) made.text.items made.exhausted) }
 {
     let setup = Setup {
         seats: scripts.commands.len() as u32,
-        cap: words.cap,
-        limit: words.limit,
+        cap,
+        limit,
     };
     let mut text = report_room(alloc, commands_of(&scripts.commands))?;
     let mut core = Core::<C>::new(alloc, setup, scripts.commands)?;
     drive(&mut core, &scripts.schedule);
     core.sort_by_begin();
     let pending = core.pending();
+    runs_in_order::<C>();
     runs_can_be_written::<C>();
-    runs_meet_headline::<C>();
+    files_meet_headline::<C>();
     write_report(&mut text, core.receipts(), pending.as_slice(), Some(0));
     let exhausted = any_exhausted(core.receipts());
     Ok(Replayed { text, exhausted })
 }
 
-/// The report of the run that the words name.
+/// The report of the run of a structure by its name.
 pub fn make_report(
     alloc: Global,
-    words: &ReplayWords<'_>,
+    served: Served,
+    cap: u32,
+    limit: u32,
     scripts: Scripts,
 ) -> Result<Replayed, NoMemory>
-    requires cap { (1 ≤ words.now.cap) × (words.now.cap ≤ 65536) }
-    requires limit { words.now.limit ≤ 255 }
-    requires some { 1 ≤ length words.now.files.now }
-    requires few { length words.now.files.now ≤ 8 }
-    requires count { length scripts.commands.items ≡ length words.now.files.now }
-    requires seats { All (λ entry. entry.seat < length words.now.files.now) scripts.schedule.items }
-    requires commands { All (λ ops. IsCommandFile (client_of words.now.served) ops.items) scripts.commands.items }
-    ensures { IfOk result (λ made. TextOf (IsReportFor words.now.served (said words.now) scripts.schedule.items (map (λ ops. ops.items) scripts.commands.items)) made.text.items made.exhausted) }
+    requires cap { (1 ≤ cap) × (cap ≤ 65536) }
+    requires limit { limit ≤ 255 }
+    requires some { 1 ≤ length scripts.commands.items }
+    requires few { length scripts.commands.items ≤ 8 }
+    requires seats { All (λ entry. entry.seat < length scripts.commands.items) scripts.schedule.items }
+    requires commands { All (λ ops. IsCommandFile (client_of served) ops.items) scripts.commands.items }
+    ensures { IfOk result (λ made. MakesReport served cap limit scripts.schedule.items (map (λ ops. ops.items) scripts.commands.items) made.text.items made.exhausted) }
 {
-    match words.served {
-        Served::Queue => report_of::<MsQueue>(alloc, words, scripts),
-        Served::List => report_of::<HarrisList>(alloc, words, scripts),
+    match served {
+        Served::Queue => report_of::<MsQueue>(alloc, cap, limit, scripts),
+        Served::List => report_of::<HarrisList>(alloc, cap, limit, scripts),
     }
 }

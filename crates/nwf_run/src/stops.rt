@@ -1,13 +1,31 @@
-//! Why a top call ends without a report.
-ghost use Rattle.nwf_run.specs.Stops.{status_of, message_of};
+//! Why there is no report of bytes, and why a top call ends without one.
+ghost use Rattle.nwf_run.specs.Stops.{stop_for, status_of, message_of};
 ghost use Rattle.std.specs.Prelude.{◌≡◌, ◌≤◌, ◌+◌, ◌++◌, codes, decimal, length};
 ghost use Rattle.arrayvec.specs.ArrayString.{array_string_len};
+ghost use Rattle.nwf_run.specs.declared.stops.NoReport.TheVariants as no;
 ghost use Rattle.nwf_run.specs.declared.stops.Stop.TheVariants as variant;
 
 use arrayvec::ArrayString;
 use itoa::Buffer;
 use lin_report::NoMemory;
 use script_reader::{Refusal, cause_number};
+
+/// Why bytes have no report. File 0 is the schedule, and file k the k-th command file.
+#[derive(Clone, Copy, Debug, PartialEq, Eq)]
+pub enum NoReport {
+    /// The grammar refuses a file.
+    Refused { file: u32, refusal: Refusal },
+    /// There was no memory.
+    NoMemory,
+}
+
+impl From<NoMemory> for NoReport {
+    ghost from_gives = { λ _ why. why ≡ no.NoMemory };
+
+    fn from(_error: NoMemory) -> NoReport {
+        NoReport::NoMemory
+    }
+}
 
 /// Why a top call ends without a report. File 0 is the schedule, and file k the k-th command file.
 #[derive(Clone, Copy, Debug, PartialEq, Eq)]
@@ -69,6 +87,17 @@ fn push_named(text: &mut Message, name: &str, number: u32)
 {
     text.push_str(name);
     text.push_str(Buffer::new().format(number));
+}
+
+impl From<NoReport> for Stop {
+    ghost from_gives = { λ why stop. stop ≡ stop_for why };
+
+    fn from(why: NoReport) -> Stop {
+        match why {
+            NoReport::Refused { file, refusal } => Stop::Refused { file, refusal },
+            NoReport::NoMemory => Stop::NoMemory,
+        }
+    }
 }
 
 impl From<NoMemory> for Stop {

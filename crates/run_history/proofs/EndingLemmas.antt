@@ -133,6 +133,7 @@ module _ {S W : Type 0} (form : NormalForm S W) (setup : Setup) (older : List Mo
       move = was.move;
       older = was.older;
       drawn = drawn_stays r.end was.move was.older was.drawn;
+      own = was.own;
       none_left = was.none_left;
       unchanged = quiet was.unchanged;
       in_vain = vain was.in_vain;

@@ -1,15 +1,15 @@
 -- The journal of a run tells the exchanges that were won.
-use Rattle.std.proofs.Common.{rules, ◌≡◌, ◌≢◌, ◌∙◌, refl, sym, subst, ap, ℕ, ◌+◌, ◌*◌, ◌≤◌, ◌==◌, if◌then◌else◌, Bool, true, false, List, [], ◌∷◌, ◌++◌, map, length, slice_get, Option, Some, None, All, AllPairs, inl, inr, arith}
+use Rattle.std.proofs.Common.{inl, inr, ◌≡◌, ◌≢◌, ◌∙◌, refl, sym, subst, ap, ℕ, ◌+◌, ◌*◌, ◌≤◌, ◌==◌, if◌then◌else◌, Bool, true, false, List, [], ◌∷◌, ◌++◌, map, slice_get, Option, Some, None, All}
 use Rattle.std.proofs.lemmas.List.{length-map}
-use Rattle.std.proofs.lemmas.List.Elements.{All-cons, All-nil, All-weaker}
+use Rattle.std.proofs.lemmas.List.Elements.{All-cons, All-nil}
 use Rattle.arrayvec.specs.ArrayVec.{ArrayVec}
 use Rattle.lin_report.specs.declared.calls.Op.{Op}
 use Rattle.step_memory.specs.declared.steps.Request.{Request}
 use Rattle.step_memory.specs.declared.steps.Request.TheVariants.{Load, Store, Exchange, Add}
-use Rattle.step_memory.specs.Step.{seen_of, words_after}
+use Rattle.step_memory.specs.Step.{seen_of}
 use Rattle.word_fields.specs.Versioned.{versioned_version}
 use Rattle.normal_traits.specs.declared.lists.Entry.{Entry}
-use Rattle.normal_traits.specs.World.{Listed, Won, World}
+use Rattle.normal_traits.specs.World.{Called, Listed, Won, World, Among}
 use Rattle.normal_traits.specs.World.Maker.{By}
 use Rattle.normal_traits.specs.NormalForm.{NormalForm}
 use Rattle.normal_traits.specs.Steps.{exchanged, listed_if}
@@ -22,15 +22,16 @@ use Rattle.fast_slow_engine.specs.declared.phases.Generating.TheVariants.{Search
 use Rattle.fast_slow_engine.specs.declared.phases.Applying.TheVariants.{Fill, Execute}
 use Rattle.fast_slow_engine.specs.declared.setup.Setup.{Setup}
 use Rattle.fast_slow_engine.specs.Mechs.{Mech, block_of}
-use Rattle.fast_slow_engine.specs.PhaseTable.{fill_request, mech_request, request_in, store_of}
+use Rattle.fast_slow_engine.specs.PhaseTable.{fill_request, request_in, store_of}
 use Rattle.fast_slow_engine.specs.Runs.{Move, AreMoves, begun, run_of}
 use Rattle.run_laws.proofs.Pairs.{all_map, pairs_map}
-use Rattle.run_history.specs.Ghosts.{Held, asked_beside, asked_listed, uses_block, won_beside, won_entry, world_stepped, ghost_of, world_of}
+use Rattle.run_history.specs.Ghosts.{Held, asked_listed, uses_block, won_beside, won_entry, world_stepped, ghost_of, world_of}
 use Rattle.run_history.specs.Lists.{HoldsIn, OffersList}
 use Rattle.run_history.specs.Known.{OfHeld, KnowsIn, KnowsRun, KnowsWrap}
-use Rattle.run_history.specs.Journals.{AreApart}
-use Rattle.run_history.specs.Exchanges.{WonExchange, AreAtMostOnce, AreOfTwoEntries, ExchangesOnce, IsOfItsEntry, JournalsTell, TellsExchanges, exchanged_by, moved_exchanges, told_exchange, won_exchanges}
+use Rattle.run_history.specs.Exchanges.{WonExchange, AreAtMostOnce, ExchangesOnce, IsOfItsEntry, IsWonBy, JournalsTell, exchanged_by, moved_exchanges, told_exchange, won_exchanges}
 use Rattle.run_history.proofs.Before.{Before, mover}
+use Rattle.run_history.proofs.ChangeLemmas.{held_called}
+use Rattle.run_history.proofs.HeldLemmas.{begun_holds, lists_held}
 use Rattle.run_history.proofs.JournalLemmas.{same_maker}
 use Rattle.run_history.proofs.JournalOwners.{beside_by}
 use Rattle.run_history.proofs.KeptLemmas.{before_move, is_kept}
@@ -39,7 +40,7 @@ use Rattle.run_history.proofs.MoverLemmas.{mover_command, mover_knows, mover_hol
 use Rattle.run_history.proofs.ObeyLemmas.{obeys}
 use Rattle.run_history.proofs.OnceLemmas.{wins_once}
 use Rattle.run_history.proofs.OwnLemmas.{made_moved}
-use Rattle.run_history.proofs.WinLemmas.{Wins, nothing, beside, takes, won_by, move_wins}
+use Rattle.run_history.proofs.WinLemmas.{nothing, beside, takes, won_by, move_wins}
 
 -- ---- what a request has exchanged
 
@@ -204,10 +205,57 @@ module _ {S W : Type 0} (form : NormalForm S W) where
             (λ list j by. (let same = same_maker own.list list run.next j by in subst (λ (l : Listed). slice_get l.entries j ≡ Some entry) same.0 (subst (λ k. slice_get own.list.entries k ≡ Some entry) same.1 listed))) old)
       ]
 
+  -- the move that won an item for a list is one of the list's call
+  won_later : (setup : Setup) (older : List Move) (move : Move) (call : Called) (won : Won) → IsWonBy form setup older call won → IsWonBy form setup (move ∷ older) call won
+  won_later setup older move call won by = record {
+    newer = move ∷ by.newer;
+    move = by.move;
+    older = by.older;
+    mech = by.mech;
+    made = ap (λ (l : List Move). move ∷ l) by.made;
+    seated = by.seated;
+    calls = by.calls;
+    asks = by.asks;
+    wins = by.wins;
+  }
+
+  won_for : (setup : Setup) (moves : List Move) → AreMoves form setup moves → (won : Won) (list : Listed) (j : ℕ) → Among won (world_of form setup moves).journal → won.maker ≡ By list j → IsWonBy form setup moves list.call won
+  won_for setup [] are won list j among maker = absurd among
+  won_for setup (move ∷ older) are won list j among maker =
+      let is = are.1 in
+      let held = ((ghost_of form setup older).seats move.seat).held in
+      let one = begun move.begins is.mech in
+      let old = λ (there : Among won (world_of form setup older).journal). won_later setup older move list.call won (won_for setup older are.0 won list j there maker) in
+      elim (move_wins form setup older move is.mech is.seated) [
+        | nothing missed journal used ↦ old (subst (Among won) journal among)
+        | beside new other made journal used ↦ elim (subst (Among won) journal among) [
+          | inl here ↦ beside_by new.maker list j made (ap (λ (w : Won). w.maker) (sym here) ∙ maker)
+          | inr there ↦ old there
+        ]
+        | takes run stores own entry cause at holds next wins journal used ↦ elim (subst (Among won) journal among) [
+          | inl here ↦
+              let same = same_maker own.list list run.next j (ap (λ (w : Won). w.maker) (sym here) ∙ maker) in
+              let holding : HoldsIn form one.phase one held = begun_holds form move.begins is.mech held is.can (lists_held form setup older are.0 move.seat is.mech is.seated) in
+              record {
+                newer = [];
+                move = move;
+                older = older;
+                mech = is.mech;
+                made = refl;
+                seated = is.seated;
+                calls = sym (held_called form one.phase one held own holding holds) ∙ ap (λ (l : Listed). l.call) same.0;
+                asks = ap (λ (p : Phase S W). request_in form p one) at ∙ ap exchange_of next ∙ ap (λ (w : Won). Exchange w.place w.before w.after) (sym here);
+                wins = wins;
+              }
+          | inr there ↦ old there
+        ]
+      ]
+
   pub journals_tell : Laws form → JournalsTell form
   journals_tell laws setup moves are = record {
     same = journal_same laws setup moves are;
     listed = each_entrys setup moves are;
+    called_for = won_for setup moves are;
     once = λ i j d before inside list k one other. wins_once form setup moves are i j d before inside list list k one other refl;
   }
 

@@ -156,13 +156,15 @@ module _ {S W : Type 0} where
 
       refused_by_line : JournalOwned form setup older → reply ≡ Exhausted → WasLeftNone form (world_of form setup older) one (slice_index (run_of form setup older).words 2) → WasRefused form setup (move ∷ older) (line_of reply)
       refused_by_line owned exhausted left =
-          let cap = ap (λ (s : Setup). s.cap) (begun_own form setup move.seat move.begins m.before.is.mech ((seats_stay form setup older m.before.are).own move.seat m.before.is.mech m.before.is.seated)).setup in
+          let seated = begun_own form setup move.seat move.begins m.before.is.mech ((seats_stay form setup older m.before.are).own move.seat m.before.is.mech m.before.is.seated) in
+          let cap = ap (λ (s : Setup). s.cap) seated.setup in
           record {
             exhausted = exhausted;
             may = left.may;
             move = move;
             older = older;
             drawn = drawn_here;
+            own = sym seated.seat;
             none_left = omega (arith, left.none_left, cap);
             unchanged = quiet_line left.unchanged;
             in_vain = vain_now form m owned reply is left.unchanged (line_of reply) refl;

@@ -1,5 +1,5 @@
 -- How the calls of a run stand to its changes, and its ticks to its moments.
-use Rattle.std.proofs.Common.{◌≡◌, ◌∙◌, refl, sym, subst, ap, ℕ, ◌+◌, ◌<◌, ◌≤◌, List, [], ◌∷◌, ◌++◌, length, inl, inr, arith}
+use Rattle.std.proofs.Common.{◌≡◌, ◌≢◌, ◌∙◌, AllPairs, refl, sym, subst, ap, ℕ, ◌+◌, ◌<◌, ◌≤◌, List, [], ◌∷◌, ◌++◌, length, inl, inr, arith}
 use Rattle.std.proofs.lemmas.Bool.{cases_lt}
 use Rattle.std.proofs.lemmas.List.{append_assoc}
 use Rattle.normal_traits.specs.World.{Called, Change, World, Among}
@@ -9,8 +9,9 @@ use Rattle.fast_slow_engine.specs.declared.setup.Setup.{Setup}
 use Rattle.fast_slow_engine.specs.Runs.{Move, AreMoves, run_of}
 use Rattle.run_laws.specs.Drawn.{IsDrawnAt}
 use Rattle.run_laws.specs.Ticks.{KeepsTicks}
+use Rattle.run_laws.proofs.Pairs.{pairs_cons, pairs_nil}
 use Rattle.run_laws.proofs.StepKinds.{begins, returns, goes}
-use Rattle.run_laws.proofs.Summaries.{Summary, summary, tick_of}
+use Rattle.run_laws.proofs.Summaries.{summary, tick_of}
 use Rattle.run_laws.proofs.TickLemmas.{opening_word_at}
 use Rattle.run_history.specs.Ghosts.{ghost_of, world_of}
 use Rattle.run_history.specs.Moves.{Grows}
@@ -21,6 +22,7 @@ use Rattle.run_history.proofs.Accounted.{calls_accounted}
 use Rattle.run_history.proofs.CountSteps.{at_early, at_now, at_stays, tick_rises}
 use Rattle.run_history.proofs.EndingLemmas.{among_stands, drawn_stays}
 use Rattle.run_history.proofs.GrowLemmas.{same_grows, world_grows}
+use Rattle.run_history.proofs.OnceLemmas.{all_among}
 use Rattle.run_history.proofs.PlaceableLemmas.{each_placeable}
 use Rattle.run_history.proofs.PlacedLemmas.{is_placed}
 use Rattle.run_history.proofs.RunLemmas.{counters_kept}
@@ -33,18 +35,17 @@ OnceOver changes =
     → change.list.call.seat ≡ mate.list.call.seat → ¬ (change.list.call.number ≡ mate.list.call.number)
 
 -- a change in front of others is of no call of theirs
-front_apart : {A : Type 0} (x mate : Change) (xs : List Change) → OnceOver (x ∷ xs) → Among mate xs → x.list.call ≡ mate.list.call → A
+front_apart : (x mate : Change) (xs : List Change) → OnceOver (x ∷ xs) → Among mate xs → x.list.call ≢ mate.list.call
 front_apart x mate xs once among same =
     let stands = among_stands xs mate among in
-    absurd (once x mate xs stands.0 ([], refl) stands.1 (ap (λ (c : Called). c.seat) same) (ap (λ (c : Called). c.number) same))
+    once x mate xs stands.0 ([], refl) stands.1 (ap (λ (c : Called). c.seat) same) (ap (λ (c : Called). c.number) same)
 
-only_one : (changes : List Change) → OnceOver changes → (change mate : Change) → Among change changes → Among mate changes → change.list.call ≡ mate.list.call → change ≡ mate
-only_one [] once change mate among other same = absurd among
-only_one (x ∷ xs) once change mate (inl here) (inl there) same = here ∙ sym there
-only_one (x ∷ xs) once change mate (inl here) (inr other) same = front_apart x mate xs once other (ap (λ (c : Change). c.list.call) (sym here) ∙ same)
-only_one (x ∷ xs) once change mate (inr among) (inl there) same = front_apart x change xs once among (ap (λ (c : Change). c.list.call) (sym there) ∙ sym same)
-only_one (x ∷ xs) once change mate (inr among) (inr other) same =
-    only_one xs (λ one two older rest stands below. once one two older rest (x ∷ stands.0, ap (λ (l : List Change). x ∷ l) stands.1) below) change mate among other same
+all_apart : (changes : List Change) → OnceOver changes → AllPairs (λ (change mate : Change). change.list.call ≢ mate.list.call) changes
+all_apart [] once = pairs_nil (λ (change mate : Change). change.list.call ≢ mate.list.call)
+all_apart (x ∷ xs) once =
+    pairs_cons (λ (change mate : Change). change.list.call ≢ mate.list.call) x xs
+    (all_among (λ (mate : Change). x.list.call ≢ mate.list.call) xs (λ mate among. front_apart x mate xs once among))
+    (all_apart xs (λ one two older rest stands below. once one two older rest (x ∷ stands.0, ap (λ (l : List Change). x ∷ l) stands.1) below))
 
 -- ---- what is known only grows
 
@@ -109,7 +110,7 @@ module _ {S W : Type 0} (form : NormalForm S W) where
     calls_ended setup moves are = (calls_accounted form laws setup moves are).ended
 
     pub changed_once : NoneChangedTwice form
-    changed_once setup moves are = only_one (ghost_of form setup moves).changes (calls_accounted form laws setup moves are).once
+    changed_once setup moves are = all_apart (ghost_of form setup moves).changes (calls_accounted form laws setup moves are).once
 
     pub calls_placed : EachCallPlaced form
     calls_placed setup moves are = is_placed form setup moves (each_placeable form laws setup moves are)

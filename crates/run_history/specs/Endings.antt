@@ -60,13 +60,14 @@ module _ {S W : Type 0} (form : NormalForm S W) where
     pub told : r.reply ≡ ((object_of form.client).apply r.op (held_after (object_of form.client) (first_changes count (ghost_of form setup moves).changes))).1
     pub unchanged : ChangedNone setup moves r
 
-  -- no block was left for it before it drew its end tick, and it changed nothing
+  -- no block was left for it before its seat drew its end tick, and it changed nothing
   pub record WasRefused (setup : Setup) (moves : List Move) (r : Receipt) : Type 0 where
     pub exhausted : r.reply ≡ Exhausted
     pub may : IsTrue (may_exhaust r.op)
     pub move : Move
     pub older : List Move
     pub drawn : IsDrawnAt form setup moves r.end move older
+    pub own : move.seat ≡ r.seat
     pub none_left : setup.cap ≤ slice_index (run_of form setup older).words CLAIMS
     pub unchanged : ChangedNone setup moves r
     pub in_vain : WonInVain setup moves r

@@ -5,7 +5,7 @@ use Rattle.step_memory.specs.declared.steps.Request.{Request}
 use Rattle.step_memory.specs.declared.steps.Request.TheVariants.{Exchange}
 use Rattle.step_memory.specs.Step.{seen_of}
 use Rattle.word_fields.specs.Versioned.{versioned_version}
-use Rattle.normal_traits.specs.World.{Listed, Won}
+use Rattle.normal_traits.specs.World.{Called, Listed, Won, Among}
 use Rattle.normal_traits.specs.World.Maker.{By}
 use Rattle.normal_traits.specs.NormalForm.{NormalForm}
 use Rattle.fast_slow_engine.specs.declared.setup.Setup.{Setup}
@@ -13,6 +13,7 @@ use Rattle.fast_slow_engine.specs.Mechs.{Mech}
 use Rattle.fast_slow_engine.specs.PhaseTable.{mech_request}
 use Rattle.fast_slow_engine.specs.Runs.{Move, RunState, AreMoves, begun, run_of}
 use Rattle.run_history.specs.Ghosts.{world_of}
+use Rattle.run_history.specs.Lists.{called}
 
 -- an exchange that was won: its place, and the words before and after it; what a run is said to have done at most
 -- once is one of these
@@ -59,11 +60,24 @@ abbrev pub AreOfTwoEntries : Won → Won → Type 0
 AreOfTwoEntries won mate = (list : Listed) (j : ℕ) → won.maker ≡ By list j → mate.maker ≢ By list j
 
 module _ {S W : Type 0} (form : NormalForm S W) where
-  -- the journal of a run tells exactly the exchanges that were won, in order, each that a list made as its entry's,
-  -- and none of two as one entry's; so what the journal says of makers and causes is said of what happened
+  -- the run came to a move of this call whose request was the exchange of the item, and won
+  pub record IsWonBy (setup : Setup) (moves : List Move) (call : Called) (won : Won) : Type 0 where
+    pub newer : List Move
+    pub move : Move
+    pub older : List Move
+    pub mech : Mech S W
+    pub made : moves ≡ newer ++ move ∷ older
+    pub seated : slice_get (run_of form setup older).mechs move.seat ≡ Some mech
+    pub calls : called (begun move.begins mech) ≡ call
+    pub asks : mech_request form (begun move.begins mech) ≡ Exchange won.place won.before won.after
+    pub wins : (seen_of (mech_request form (begun move.begins mech)) (run_of form setup older).words).won ≡ true
+
+  -- the journal of a run tells exactly the exchanges that were won, in order, each that a list made as its entry's
+  -- and as won by a move of the list's call, and no two as one entry's; so what the journal says of makers and causes is said of what happened
   pub record TellsExchanges (setup : Setup) (moves : List Move) : Type 0 where
     pub same : map told_exchange (world_of form setup moves).journal ≡ won_exchanges form setup moves
     pub listed : All IsOfItsEntry (world_of form setup moves).journal
+    pub called_for : (won : Won) (list : Listed) (j : ℕ) → Among won (world_of form setup moves).journal → won.maker ≡ By list j → IsWonBy setup moves list.call won
     pub once : AllPairs AreOfTwoEntries (world_of form setup moves).journal
 
   -- so it is of every run

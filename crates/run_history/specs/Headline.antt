@@ -1,7 +1,7 @@
 -- What every run of command files comes to, in any order of the seats: what a report tells of it, and what is
 -- known of the exchanges behind it. No schedule is named, so that a replay, a load that is generated and a run
 -- of threads are each told by it once their order is known.
-use Rattle.std.specs.Prelude.{◌≡◌, ℕ, List, All, AllPairs}
+use Rattle.std.specs.Prelude.{◌≡◌, ℕ, List, All}
 use Rattle.lin_report.specs.declared.calls.Op.{Op}
 use Rattle.lin_report.specs.declared.calls.Receipt.{Receipt}
 use Rattle.lin_report.specs.declared.calls.Reply.TheVariants.{Exhausted}

@@ -1,8 +1,8 @@
 -- How the calls of a run stand to its changes, and its ticks to its moments.
-use Rattle.std.specs.Prelude.{◌≡◌, ℕ, ◌<◌, List, ◌++◌, length, slice_index, All}
+use Rattle.std.specs.Prelude.{◌≡◌, ◌≢◌, ℕ, ◌<◌, List, ◌++◌, length, slice_index, All, AllPairs}
 use Rattle.lin_report.specs.Object.{object_of}
 use Rattle.node_arena.specs.declared.places.TheConstants.{TICKS}
-use Rattle.normal_traits.specs.World.{Change, Among}
+use Rattle.normal_traits.specs.World.{Change}
 use Rattle.normal_traits.specs.NormalForm.{NormalForm}
 use Rattle.fast_slow_engine.specs.declared.setup.Setup.{Setup}
 use Rattle.fast_slow_engine.specs.Runs.{Move, AreMoves, run_of}
@@ -23,9 +23,7 @@ module _ {S W : Type 0} (form : NormalForm S W) where
 
   -- no call made two changes
   abbrev pub ChangedOnce : Setup → List Move → Type 0
-  ChangedOnce setup moves =
-      (change mate : Change) → Among change (ghost_of form setup moves).changes → Among mate (ghost_of form setup moves).changes
-      → change.list.call ≡ mate.list.call → change ≡ mate
+  ChangedOnce setup moves = AllPairs (λ (change mate : Change). change.list.call ≢ mate.list.call) (ghost_of form setup moves).changes
 
   -- the changes are a history in which the calls of the report are placed: each was made by one of them while it ran
   abbrev pub CallsPlaced : Setup → List Move → Type 0

@@ -4,7 +4,8 @@ ghost use Rattle.run_history.specs.Exchanges.{JournalsTell, ExchangesOnce};
 use normal_traits::Normalized;
 
 /// The journal of a run tells exactly the exchanges that were won at versioned places, in order, by the run's
-/// moves and words. One that a list made is the exchange of its entry, and no entry of a list made two.
+/// moves and words. One that a list made is the exchange of its entry, won by a move of the list's call, and no
+/// entry of a list made two.
 pub fn journals_tell<C: Normalized>()
     ensures { JournalsTell C.form }
 {}

@@ -87,7 +87,9 @@ fn worked_versioned_words_are_packed_and_read(rt: HostRuntime) {
     ] {
         assert_eq!(rt; fields.pack(), word);
         assert_eq!(rt; VersionedWord::unpack(word), fields);
+        assert_eq!(rt; fields.marked().cleared(), fields.cleared());
     }
+    assert_eq!(rt; VersionedWord::unpack(16_777_217).cleared(), dummy);
 }
 
 #[test]

@@ -1,6 +1,7 @@
 //! The host's files and standard output: the trusted edge, which tells no bytes.
-ghost use Rattle.std.specs.Prelude.{◌≡◌, ◌≤◌, ◌<◌, ℕ, None, take, length, IfOk, OnOk, OnErr};
+ghost use Rattle.std.specs.Prelude.{◌≡◌, ◌≤◌, ◌<◌, ℕ, false, None, take, length, IfOk, OnOk, OnErr};
 
+use super::openings::Openings;
 use super::{Failed, Files, Sink};
 use std::io::Read;
 use std::{fs, rt};
@@ -10,6 +11,7 @@ use std::{fs, rt};
 pub struct HostFiles<'a, R: rt::Files> {
     rt: &'a R,
     chosen: Option<R::File>,
+    opened: Openings,
     faults: u64,
 }
 
@@ -19,19 +21,25 @@ impl<'a, R: rt::Files> HostFiles<'a, R> {
         HostFiles {
             rt,
             chosen: None,
+            opened: Openings::new(),
             faults: 0,
         }
     }
 }
 
 impl<R: rt::Files> Files for HostFiles<'_, R> {
+    ghost tells = { λ _. false };
+
     ghost held = { λ _ _. None };
 
     ghost left = { λ _. None };
 
+    ghost opened = { λ f. f.opened.list };
+
     ghost faults = { λ f. f.faults };
 
     fn start_file(&mut self, name: &str) -> Result<(), Failed> {
+        self.opened.note(name.as_bytes(), &self.faults);
         match fs::open(self.rt, name) {
             Ok(file) => {
                 self.chosen = Some(file);

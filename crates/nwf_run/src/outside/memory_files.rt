@@ -1,10 +1,11 @@
 //! Files in memory, for tests and for whoever has the bytes already.
-ghost use Rattle.std.specs.Prelude.{◌≡◌, ◌≢◌, ◌+◌, ◌≤◌, ◌<◌, ◌^◌, ◌↔◌, ◌-◌, if◌then◌else◌, IsTrue, ℕ, List, Option, Some, take, drop, length, min, map, IfOk, OnOk, OnErr, IsErr, IsNone, Some, ◌⊎◌, ◌++◌, IsSome, IfSome, slice_get, option_map, Contains, unwrap_or, [], string_bytes};
+ghost use Rattle.std.specs.Prelude.{◌≡◌, ◌≢◌, ◌+◌, ◌≤◌, ◌<◌, ◌^◌, ◌↔◌, ◌-◌, if◌then◌else◌, IsTrue, ℕ, List, Option, Some, take, drop, length, min, map, IfOk, OnOk, OnErr, IsErr, IsNone, Some, ◌⊎◌, ◌++◌, IsSome, IfSome, slice_get, option_map, Contains, unwrap_or, [], ◌∷◌, string_bytes};
 ghost use Rattle.std.specs.List.{position_from};
 ghost use Rattle.std.specs.Str.{bytes_eq};
 ghost use Rattle.std.specs.Io.KnownBytes.{Keeps, Consumes, IsAtEnd};
 ghost use Rattle.nwf_run.specs.Outside.{LAST_COUNT, Rose, StillTells, first_named};
 
+use super::openings::Openings;
 use super::{Failed, Files};
 use std::marker::Model;
 
@@ -20,6 +21,7 @@ pub struct FilesInMemory {
     calls: u64,
     chosen: usize,
     at: usize,
+    opened: Openings,
     faults: u64,
 }
 
@@ -30,7 +32,7 @@ impl Model for FilesInMemory {
 
     ghost Value = { MemoryFiles };
 
-    ghost view = { λ f. record { files = map (λ file. (string_bytes file.0, file.1.items)) f.files.items; fails = f.fails.items; most = f.most; calls = f.calls; rest = option_map_or (λ file. drop f.at file.1.items) (slice_get f.files.items f.chosen) []; faults = f.faults } };
+    ghost view = { λ f. record { files = map (λ file. (string_bytes file.0, file.1.items)) f.files.items; fails = f.fails.items; most = f.most; calls = f.calls; rest = option_map_or (λ file. drop f.at file.1.items) (slice_get f.files.items f.chosen) []; opened = f.opened.list; faults = f.faults } };
 
     ghost invariant = { λ f. 0 < f.most };
 }
@@ -64,6 +66,7 @@ impl FilesInMemory {
             calls: 0,
             chosen,
             at: 0,
+            opened: Openings::new(),
             faults: 0,
         }
     }
@@ -145,18 +148,23 @@ impl FilesInMemory {
 }
 
 impl Files for FilesInMemory {
-    ghost use Rattle.std.specs.Prelude.{Some};
+    ghost use Rattle.std.specs.Prelude.{true, Some};
     ghost use Rattle.nwf_run.specs.Outside.{first_named};
+
+    ghost tells = { λ _. true };
 
     ghost held = { λ f name. first_named name f.files };
 
     ghost left = { λ f. Some f.rest };
 
+    ghost opened = { λ f. f.opened };
+
     ghost faults = { λ f. f.faults };
 
     fn start_file(&mut self, name: &str) -> Result<(), Failed>
-        ensures chosen { OnOk result (Keeps (first_named name.now self.old.files) (Some self.new.rest)) }
+        ensures chosen { OnOk result (first_named name.now self.old.files ≡ Some self.new.rest) }
         ensures held { (n : List ℕ) → first_named n self.new.files ≡ first_named n self.old.files }
+        ensures opened { self.new.opened ≡ (name.now, self.old.faults) ∷ self.old.opened }
         ensures calm { OnOk result (self.new.faults ≡ self.old.faults) }
         ensures fault { OnErr result (Rose self.old.faults self.new.faults) }
 
@@ -166,6 +174,7 @@ impl Files for FilesInMemory {
         ensures counted { self.new.calls ≡ min (self.old.calls + 1) LAST_COUNT }
         ensures same { (self.new.files ≡ self.old.files) × (self.new.fails ≡ self.old.fails) × (self.new.most ≡ self.old.most) }
     {
+        self.opened.note(name.as_bytes(), &self.faults);
         let fails = self.count_call();
         if !self.choose(name) {
             self.faults = self.faults.saturating_add(1);
@@ -182,8 +191,9 @@ impl Files for FilesInMemory {
         ensures fits { IfOk result (λ n. n ≤ length into.new) }
         ensures reads { IfOk result (λ n. self.old.rest ≡ take n into.new ++ self.new.rest) }
         ensures end { IfOk result (λ n. n ≡ 0 → 0 < length into.new → self.new.rest ≡ []) }
-        ensures tells { StillTells (Some self.old.rest) (Some self.new.rest) }
+        ensures still { StillTells (Some self.old.rest) (Some self.new.rest) }
         ensures held { (n : List ℕ) → first_named n self.new.files ≡ first_named n self.old.files }
+        ensures opened { self.new.opened ≡ self.old.opened }
         ensures calm { OnOk result (self.new.faults ≡ self.old.faults) }
         ensures fault { OnErr result (Rose self.old.faults self.new.faults) }
 

@@ -9,7 +9,9 @@ invariant-loop-piece g l = record {
   within : vec_len l.bytes ≤ FILE_LIMIT + 1;
   room : length l.piece ≡ PIECE;
   read : Consumes (g.F.Files.left l.fn.files) (g.F.Files.left l.files) l.bytes.items;
+  tells : g.F.Files.tells l.files ≡ g.F.Files.tells l.fn.files;
   held : (n : List ℕ) → g.F.Files.held l.files n ≡ g.F.Files.held l.fn.files n;
+  opened : g.F.Files.opened l.files ≡ g.F.Files.opened l.fn.files;
   calm : g.F.Files.faults l.files ≡ g.F.Files.faults l.fn.files;
 }
 

@@ -7,7 +7,8 @@ use Rattle.lin_report.specs.declared.calls.Op.{Op}
 use Rattle.lin_report.specs.declared.calls.Receipt.{Receipt}
 use Rattle.lin_report.specs.Calls.{report_of}
 use Rattle.lin_report.specs.Text.{reply_is_exhausted, report_text}
-use Rattle.run_laws.specs.Ticks.{report_of_run}
+use Rattle.fast_slow_engine.specs.Reports.{report_of_run}
+use Rattle.event_core.specs.Cores.{CoreView}
 use Rattle.nwf_run.proofs.RunReports.{files_of, files_fit, in_order, driven, can_be_written, can_write, few_lines, text_is, marked}
 use Rattle.nwf_run.proofs.running.report_of.Goals as goal
 
@@ -34,21 +35,24 @@ returns g c =
     let core = c.drive.new.core in
     let can = can_be_written g.C.Normalized.form _ commands c.args.scripts.schedule.items c.deref-2.result.now c.in_ok-core.core core c.runs_can_be_written.ensures (search rules) c.requires.commands c.in_ok-core.ensures.core c.deref-2.ensures.value c.drive.ensures.follows in
     let sorted = in_order core c.sort_by_begin.new.self c.receipts.result.now c.pending-pending.result.items c.as_slice.result.now c.sort_by_begin.ensures.same c.sort_by_begin.ensures.order c.sort_by_begin.ensures.kept c.pending-pending.ensures.calls c.pending-pending.ensures.order c.receipts.ensures c.as_slice.ensures.value in
-    let seats : c.len.result ≡ length (map string_bytes c.args.words.now.files.now) = omega (arith, c.len.ensures, c.args.scripts.commands.ok.0, c.requires.count, length-map c.args.words.now.files.now string_bytes) in
+    let follows = driven g.C.Normalized.form _ commands c.args.scripts.schedule.items c.deref-2.result.now c.in_ok-core.core core c.in_ok-core.ensures.core c.deref-2.ensures.value c.drive.ensures.follows in
+    let ordered = c.runs_in_order.ensures _ (files_of commands) c.args.scripts.schedule.items core follows in
     let mark = c.any_exhausted-exhausted.ensures ∙ ap (list_any (λ (r : Receipt). reply_is_exhausted r.reply)) (c.receipts-2.ensures ∙ sym c.receipts.ensures) in
     let written = text_is core.state c.receipts.result.now c.as_slice.result.now sorted.lines sorted.calls _ can in
     record {
-      report = report_of_run core.state;
+      run = record { setup = _; entries = c.args.scripts.schedule.items; commands = files_of commands; order = ordered.0; report = report_of_run core.state };
+      by_entries = refl;
+      of_commands = refl;
       is = record {
-        setup = _;
-        seats = seats;
-        cap = refl;
-        limit = refl;
-        core = core;
-        follows = driven g.C.Normalized.form _ commands c.args.scripts.schedule.items c.deref-2.result.now c.in_ok-core.core core c.in_ok-core.ensures.core c.deref-2.ensures.value c.drive.ensures.follows;
-        made = refl;
-        headline = c.runs_meet_headline.ensures _ (files_of commands) c.args.scripts.schedule.items core (files_fit g.C.Normalized.form.client _ commands (search rules) c.requires.commands) (driven g.C.Normalized.form _ commands c.args.scripts.schedule.items c.deref-2.result.now c.in_ok-core.core core c.in_ok-core.ensures.core c.deref-2.ensures.value c.drive.ensures.follows);
+        has_seats = omega (arith, c.len.ensures, c.args.scripts.commands.ok.0, length-map commands (λ (ops : Vec Op Global). ops.items));
+        has_cap = refl;
+        has_limit = refl;
+        named = ordered.1;
+        made = ap (λ (v : CoreView _ _). report_of_run v.state) ordered.2;
       };
-      written = c.write_report.ensures.text ∙ ap (λ l. l ++ report_text (report_of c.receipts.result.now c.as_slice.result.now) (Some 0)) c.in_ok-text.ensures.empty ∙ written;
-      marked = marked core.state c.receipts.result.now c.as_slice.result.now sorted.lines sorted.calls c.any_exhausted-exhausted.result mark;
+      headline = c.files_meet_headline.ensures _ (files_of commands) ordered.0 (files_fit g.C.Normalized.form.client _ commands (search rules) c.requires.commands);
+      text_is = record {
+        written = c.write_report.ensures.text ∙ ap (λ l. l ++ report_text (report_of c.receipts.result.now c.as_slice.result.now) (Some 0)) c.in_ok-text.ensures.empty ∙ written;
+        marked = marked core.state c.receipts.result.now c.as_slice.result.now sorted.lines sorted.calls c.any_exhausted-exhausted.result mark;
+      };
     }

@@ -15,7 +15,7 @@ pub returns-in-Some-clause-chosen : goal.returns-in-Some-clause-chosen
 returns-in-Some-clause-chosen c =
     let e = rw c.deref.ensures.value at c.place_of.ensures in
     let rest = rest_at (λ file. string_bytes file.0) (λ file. file.1.items) c.args.name.now c.self.inside.files.items c.in-Some.place (sym e ∙ c.in-Some.is) in
-    let with_rest : List ℕ → MemoryFiles = λ r. record { files = map (λ file. (string_bytes file.0, file.1.items)) c.self.inside.files.items; fails = c.self.inside.fails.items; most = c.self.inside.most; calls = c.self.inside.calls; rest = r; faults = c.self.inside.faults } in
+    let with_rest : List ℕ → MemoryFiles = λ r. record { files = map (λ file. (string_bytes file.0, file.1.items)) c.self.inside.files.items; fails = c.self.inside.fails.items; most = c.self.inside.most; calls = c.self.inside.calls; rest = r; opened = c.self.inside.opened.list; faults = c.self.inside.faults } in
     rw (← c.self.view_is) (ap with_rest rest)
 
 pub returns-in-None-clause-found : goal.returns-in-None-clause-found
@@ -29,5 +29,5 @@ returns-in-None-clause-chosen c =
     let e = rw c.deref.ensures.value at c.place_of.ensures in
     let past : length c.self.inside.files.items ≤ c.len-self-inside.result = omega (arith, c.len-self-inside.ensures, c.self.inside.files.ok.0) in
     let rest = rest_nowhere (λ file. string_bytes file.0) (λ file. file.1.items) c.args.name.now c.self.inside.files.items c.len-self-inside.result past (sym e ∙ c.in-None.is) in
-    let with_rest : List ℕ → MemoryFiles = λ r. record { files = map (λ file. (string_bytes file.0, file.1.items)) c.self.inside.files.items; fails = c.self.inside.fails.items; most = c.self.inside.most; calls = c.self.inside.calls; rest = r; faults = c.self.inside.faults } in
+    let with_rest : List ℕ → MemoryFiles = λ r. record { files = map (λ file. (string_bytes file.0, file.1.items)) c.self.inside.files.items; fails = c.self.inside.fails.items; most = c.self.inside.most; calls = c.self.inside.calls; rest = r; opened = c.self.inside.opened.list; faults = c.self.inside.faults } in
     rw (← c.self.view_is) (ap with_rest rest)

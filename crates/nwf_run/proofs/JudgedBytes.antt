@@ -1,0 +1,35 @@
+-- Bytes judged one file after the other.
+use Rattle.std.proofs.Common.{◌≡◌, ℕ, ◌+◌, ◌<◌, ◌≤◌, ◌==◌, cond, Bor, List, [], length, map, get_or, ◌-◌, Option, Some, Result, Ok, Err, IsSomeAnd, sym, ap, ◌∙◌, subst, arith}
+use Rattle.std.specs.List.{slice_get}
+use Rattle.std.proofs.lemmas.List.{get_or-map, length-map}
+use Rattle.std.proofs.lemmas.Option.{slice_get-get_or}
+use Rattle.lin_report.specs.declared.calls.Op.{Op}
+use Rattle.script_reader.specs.declared.schedules.ScheduleEntry.{ScheduleEntry}
+use Rattle.script_reader.specs.Schedules.{schedule_outcome}
+use Rattle.script_reader.specs.Scripts.{script_outcome}
+use Rattle.nwf_run.specs.declared.stops.NoReport.{NoReport}
+use Rattle.nwf_run.specs.declared.stops.NoReport.TheVariants.{Refused, NoMemory}
+use Rattle.nwf_run.specs.declared.words.Served.{Served}
+use Rattle.nwf_run.specs.Words.{client_of}
+use Rattle.nwf_run.specs.Judging.{IsFirstRefused, IsJudged, IsReason, SayFirst, files_of_bytes}
+use Rattle.nwf_run.proofs.JudgedFiles.{back, counted, refused_next}
+
+-- the bytes of a command file, by its place
+pub file_at : (schedule : List ℕ) (files : List (Bor (List ℕ))) (k : ℕ) (d : Bor (List ℕ)) → k < length files → files_of_bytes schedule (map (λ (file : Bor (List ℕ)). file.now) files) (k + 1) ≡ Some (get_or files k d).now
+file_at schedule files k d within =
+    let bytes_of : Bor (List ℕ) → List ℕ = λ file. file.now in
+    let all = map bytes_of files in
+    let below : k < length all = omega (arith, within, length-map files bytes_of) in
+    ap (λ b. cond b (Some schedule) (slice_get all (k + 1 - 1))) (counted k)
+    ∙ ap (λ n. slice_get all n) (back k)
+    ∙ slice_get-get_or all k [] below
+    ∙ ap (λ (bytes : List ℕ). Some bytes) (get_or-map bytes_of files k d [] within)
+
+-- the schedule and the first command files are accepted, and the next one has no commands
+pub reason_next : (served : Served) (seats : ℕ) (files : ℕ → Option (List ℕ)) (entries : List ScheduleEntry) → IsSomeAnd (files 0) (λ bytes. schedule_outcome seats bytes ≡ Ok entries)
+    → (commands : List (List Op)) → SayFirst served seats files commands → length commands + 1 ≤ seats → (bytes : List ℕ) → files (length commands + 1) ≡ Some bytes
+    → (why : NoReport) → IsJudged {X = Op} (script_outcome (client_of served) bytes) (length commands + 1) (Err why) → IsReason served seats files why
+reason_next served seats files entries schedule commands say few bytes at (Refused file refusal) judged =
+    subst (λ n. IsFirstRefused served seats files n refusal) (sym judged.0)
+    (refused_next served seats files entries schedule commands refusal say few (subst (λ o. IsSomeAnd o (λ b. script_outcome (client_of served) b ≡ Err refusal)) (sym at) judged.1))
+reason_next served seats files entries schedule commands say few bytes at NoMemory judged = tt

@@ -1,0 +1,69 @@
+-- What was read of the files of a replay, each by its name, and why reading stopped.
+use Rattle.std.specs.Prelude.{◌≡◌, ℕ, zero, suc, ◌+◌, ◌-◌, ◌≤◌, ◌==◌, if◌then◌else◌, Bool, IsTrue, List, [], ◌∷◌, ◌++◌, Vec, length, slice_index_or, Option, Some, None, IsSomeAnd, Result, Ok, Err}
+use Rattle.std.specs.declared.alloc.Global.{Global}
+use Rattle.script_reader.specs.declared.causes.Refusal.{Refusal}
+use Rattle.nwf_run.specs.declared.stops.Stop.{Stop}
+use Rattle.nwf_run.specs.declared.stops.Stop.TheVariants.{Usage, Refused, ReadFault, NoMemory}
+use Rattle.nwf_run.specs.Judging.{AcceptedBefore, IsFirstRefused}
+use Rattle.nwf_run.specs.Outside.{Opening, Rose}
+use Rattle.nwf_run.specs.Words.{Replay}
+
+-- the name of a file
+abbrev pub name_of : Replay → ℕ → List ℕ
+name_of replay file = if file == 0 then replay.schedule else slice_index_or replay.files (file - 1) []
+
+-- the files of a replay by their numbers, where these bytes are held under names
+abbrev pub files_by_name : (List ℕ → Option (List ℕ)) → Replay → ℕ → Option (List ℕ)
+files_by_name held replay file = held (name_of replay file)
+
+-- a file of the replay is refused; where bytes are told, it is the first that is not accepted, and it is there
+pub record Refuses (tells : Bool) (held : List ℕ → Option (List ℕ)) (replay : Replay) (file : ℕ) (refusal : Refusal) : Type 0 where
+  pub within : file ≤ length replay.files
+  pub first : IsTrue tells → IsFirstRefused replay.served (length replay.files) (files_by_name held replay) file refusal
+
+-- a file of the replay is reached; where bytes are told, each one before it is there and accepted
+pub record Reaches (tells : Bool) (held : List ℕ → Option (List ℕ)) (replay : Replay) (file : ℕ) : Type 0 where
+  pub within : file ≤ length replay.files
+  pub before : IsTrue tells → AcceptedBefore replay.served (length replay.files) (files_by_name held replay) file
+
+-- why reading stopped
+abbrev pub StopsAt : Bool → (List ℕ → Option (List ℕ)) → Replay → Stop → Type 0
+StopsAt tells held replay (Refused file refusal) = Refuses tells held replay file refusal
+StopsAt tells held replay (ReadFault file) = Reaches tells held replay file
+StopsAt tells held replay NoMemory = Unit {0}
+StopsAt tells held replay Usage = ⊥
+
+-- what was read of the file with this number is what its bytes are, and it is there, where bytes are told
+abbrev pub FileReads : {X : Type 0} → Bool → (List ℕ → Result (List X) Refusal) → ℕ → Option (List ℕ) → Result (Vec X Global) Stop → Type 0
+FileReads tells outcome file held (Ok read) = IsTrue tells → IsSomeAnd held (λ bytes. outcome bytes ≡ Ok read.items)
+FileReads tells outcome file held (Err (Refused at refusal)) = (at ≡ file) × (IsTrue tells → IsSomeAnd held (λ bytes. outcome bytes ≡ Err refusal))
+FileReads tells outcome file held (Err (ReadFault at)) = at ≡ file
+FileReads tells outcome file held (Err NoMemory) = Unit {0}
+FileReads tells outcome file held (Err Usage) = ⊥
+
+-- the openings of so many files, from the schedule on, all while the count of faults stood at this; the newest
+-- first
+abbrev pub openings : Replay → ℕ → ℕ → List Opening
+openings replay faults zero = []
+openings replay faults (suc n) = (name_of replay n, faults) ∷ openings replay faults n
+
+-- so many files of the replay were opened in order, each once, and there was no fault before the last of them
+-- was
+abbrev pub Opens : Replay → ℕ → ℕ → List Opening → List Opening → Type 0
+Opens replay count faults before now = now ≡ openings replay faults count ++ before
+
+-- which files were opened when reading ended: the one at which it stopped is the last of them
+abbrev pub OpensUntil : {X : Type 0} → Replay → ℕ → List Opening → List Opening → Result X Stop → Type 0
+OpensUntil replay faults before now (Ok x) = Opens replay (length replay.files + 1) faults before now
+OpensUntil replay faults before now (Err (Refused file refusal)) = Opens replay (file + 1) faults before now
+OpensUntil replay faults before now (Err (ReadFault file)) = Opens replay (file + 1) faults before now
+OpensUntil replay faults before now (Err NoMemory) = (count : ℕ) × (count ≤ length replay.files + 1) × Opens replay count faults before now
+OpensUntil replay faults before now (Err Usage) = ⊥
+
+-- the count of faults rose where reading stopped at a fault, and is as it was where it did not
+abbrev pub FaultsAsTold : {X : Type 0} → ℕ → ℕ → Result X Stop → Type 0
+FaultsAsTold before now (Ok x) = now ≡ before
+FaultsAsTold before now (Err (ReadFault file)) = Rose before now
+FaultsAsTold before now (Err Usage) = now ≡ before
+FaultsAsTold before now (Err (Refused file refusal)) = now ≡ before
+FaultsAsTold before now (Err NoMemory) = now ≡ before

@@ -1,0 +1,114 @@
+//! Reads the files of a replay in order and judges each before the next one is opened.
+ghost use Rattle.std.specs.Prelude.{◌≡◌, ◌<◌, ◌≤◌, ◌+◌, ◌∷◌, ◌⊎◌, ℕ, List, IsTrue, IfOk, IfErr, IsSomeAnd, All, length, map, take};
+ghost use Rattle.lin_report.specs.CommandFiles.{IsCommandFile};
+ghost use Rattle.script_reader.specs.Schedules.{schedule_outcome};
+ghost use Rattle.script_reader.specs.Scripts.{script_outcome};
+ghost use Rattle.nwf_run.specs.Words.{client_of};
+ghost use Rattle.nwf_run.specs.Said.{said};
+ghost use Rattle.nwf_run.specs.Judging.{Accepts};
+ghost use Rattle.nwf_run.specs.Reading.{FaultsAsTold, FileReads, OpensUntil, StopsAt, files_by_name};
+ghost use Rattle.nwf_run.specs.declared.stops.Stop.TheVariants as stop;
+
+use crate::judging::{Scripts, judge_commands, judge_schedule};
+use crate::outside::Files;
+use crate::reading::{FILE_LIMIT, ReadError, read_file};
+use crate::stops::Stop;
+use crate::words::ReplayWords;
+use lin_report::{Client, Op};
+use script_reader::ScheduleEntry;
+use std::alloc::Global;
+
+/// The bytes of the file with this number.
+fn read_bytes<F: Files>(
+    alloc: Global,
+    files: &mut F,
+    name: &str,
+    file: u32,
+) -> Result<Vec<u8>, Stop>
+    ensures bytes { IfOk result (λ bytes. IsTrue (F.tells files.old) → IsSomeAnd (F.held files.old name.now) (λ held. bytes.items ≡ take (FILE_LIMIT + 1) held)) }
+    ensures stop { IfErr result (λ why. (why ≡ stop.ReadFault file) ⊎ (why ≡ stop.NoMemory)) }
+    ensures faults { FaultsAsTold (F.faults files.old) (F.faults files.new) result }
+    ensures tells { F.tells files.new ≡ F.tells files.old }
+    ensures held { (n : List ℕ) → F.held files.new n ≡ F.held files.old n }
+    ensures opened { F.opened files.new ≡ (name.now, F.faults files.old) ∷ F.opened files.old }
+{
+    match read_file(alloc, files, name) {
+        Ok(bytes) => Ok(bytes),
+        Err(ReadError::Fault) => Err(Stop::ReadFault { file }),
+        Err(ReadError::NoMemory) => Err(Stop::NoMemory),
+    }
+}
+
+/// The entries of the schedule for so many seats.
+fn read_entries<F: Files>(
+    alloc: Global,
+    files: &mut F,
+    name: &str,
+    seats: u32,
+) -> Result<Vec<ScheduleEntry>, Stop>
+    requires some { 1 ≤ seats }
+    requires few { seats ≤ 8 }
+    ensures reads { FileReads (F.tells files.old) (schedule_outcome seats) 0 (F.held files.old name.now) result }
+    ensures seats { IfOk result (λ entries. All (λ entry. entry.seat < seats) entries.items) }
+    ensures faults { FaultsAsTold (F.faults files.old) (F.faults files.new) result }
+    ensures tells { F.tells files.new ≡ F.tells files.old }
+    ensures held { (n : List ℕ) → F.held files.new n ≡ F.held files.old n }
+    ensures opened { F.opened files.new ≡ (name.now, F.faults files.old) ∷ F.opened files.old }
+{
+    let bytes = read_bytes(alloc, files, name, 0)?;
+    match judge_schedule(alloc, &bytes, seats) {
+        Ok(entries) => Ok(entries),
+        Err(why) => Err(Stop::from(why)),
+    }
+}
+
+/// The commands of the command file with this number.
+fn read_commands<F: Files>(
+    alloc: Global,
+    files: &mut F,
+    name: &str,
+    client: Client,
+    file: u32,
+) -> Result<Vec<Op>, Stop>
+    ensures reads { FileReads (F.tells files.old) (script_outcome client) file (F.held files.old name.now) result }
+    ensures commands { IfOk result (λ ops. IsCommandFile client ops.items) }
+    ensures faults { FaultsAsTold (F.faults files.old) (F.faults files.new) result }
+    ensures tells { F.tells files.new ≡ F.tells files.old }
+    ensures held { (n : List ℕ) → F.held files.new n ≡ F.held files.old n }
+    ensures opened { F.opened files.new ≡ (name.now, F.faults files.old) ∷ F.opened files.old }
+{
+    let bytes = read_bytes(alloc, files, name, file)?;
+    match judge_commands(alloc, &bytes, client, file) {
+        Ok(ops) => Ok(ops),
+        Err(why) => Err(Stop::from(why)),
+    }
+}
+
+/// Reads the schedule and then the command files, of which the first has number 1.
+pub fn read_scripts<F: Files>(
+    alloc: Global,
+    words: &ReplayWords<'_>,
+    files: &mut F,
+) -> Result<Scripts, Stop>
+    requires some { 1 ≤ length words.now.files.now }
+    requires few { length words.now.files.now ≤ 8 }
+    ensures accepts { IfOk result (λ s. IsTrue (F.tells files.old) → Accepts words.now.served (length (said words.now).files) (files_by_name (F.held files.old) (said words.now)) s.schedule.items (map (λ ops. ops.items) s.commands.items)) }
+    ensures count { IfOk result (λ s. length s.commands.items ≡ length words.now.files.now) }
+    ensures seats { IfOk result (λ s. All (λ entry. entry.seat < length words.now.files.now) s.schedule.items) }
+    ensures commands { IfOk result (λ s. All (λ ops. IsCommandFile (client_of words.now.served) ops.items) s.commands.items) }
+    ensures stops { IfErr result (StopsAt (F.tells files.old) (F.held files.old) (said words.now)) }
+    ensures faults { FaultsAsTold (F.faults files.old) (F.faults files.new) result }
+    ensures opened { OpensUntil (said words.now) (F.faults files.old) (F.opened files.old) (F.opened files.new) result }
+    ensures held { (n : List ℕ) → F.held files.new n ≡ F.held files.old n }
+{
+    let schedule = read_entries(alloc, files, words.schedule, words.files.len() as u32)?;
+    let Ok(mut commands) = Vec::with_capacity(alloc, words.files.len()) else {
+        return Err(Stop::NoMemory);
+    };
+    for name in words.files {
+        let file = commands.len() as u32 + 1;
+        let ops = read_commands(alloc, files, name.as_str(), words.served.client(), file)?;
+        commands.push_reserved(ops);
+    }
+    Ok(Scripts { schedule, commands })
+}

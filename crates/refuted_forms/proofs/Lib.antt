@@ -1,0 +1,4 @@
+pub mod QueueWorlds
+pub mod QueueLemmas
+pub mod ListWorlds
+pub mod ListLemmas

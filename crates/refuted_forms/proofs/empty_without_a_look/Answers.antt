@@ -1,0 +1,5 @@
+use Rattle.refuted_forms.proofs.QueueLemmas.{no_laws_without_a_look}
+use Rattle.refuted_forms.proofs.empty_without_a_look.Goals as goal
+
+pub returns : goal.returns
+returns c = no_laws_without_a_look

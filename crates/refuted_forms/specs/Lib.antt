@@ -1,0 +1,2 @@
+pub mod QueueForms
+pub mod ListForms
