@@ -19,46 +19,23 @@ fn command(client: Client, kind: u64, second: u64, third: u64) -> Op
     ensures { result ≡ command_of client kind second third }
 {
     let key = (second % KEYS) as u32;
-    match client {
+    let (code, key, value) = match client {
         Client::Queue => match kind % 2 {
-            0 => Op {
-                code: PUT,
-                key: 0,
-                value: (second % VALUES) as u32,
-            },
-            _ => Op {
-                code: TAKE,
-                key: 0,
-                value: 0,
-            },
+            0 => (PUT, 0, (second % VALUES) as u32),
+            _ => (TAKE, 0, 0),
         },
-        Client::List | Client::Buckets => Op {
-            code: match kind % 3 {
-                0 => ADD,
-                1 => DEL,
-                _ => HAS,
-            },
-            key,
-            value: 0,
+        Client::List | Client::Buckets => match kind % 3 {
+            0 => (ADD, key, 0),
+            1 => (DEL, key, 0),
+            _ => (HAS, key, 0),
         },
         Client::Tree => match kind % 3 {
-            0 => Op {
-                code: SET,
-                key,
-                value: (third % VALUES) as u32,
-            },
-            1 => Op {
-                code: REM,
-                key,
-                value: 0,
-            },
-            _ => Op {
-                code: GET,
-                key,
-                value: 0,
-            },
+            0 => (SET, key, (third % VALUES) as u32),
+            1 => (REM, key, 0),
+            _ => (GET, key, 0),
         },
-    }
+    };
+    Op { code, key, value }
 }
 
 /// The next command. It takes three draws, also those that it doesn't need.
