@@ -1,3 +1,4 @@
 pub mod Gathers
 pub mod Enters
 pub mod Removes
+pub mod Heads

@@ -6,4 +6,5 @@ pub use remove::{Remove, Removing};
 
 pub mod enter;
 pub mod gather;
+pub mod heads;
 pub mod remove;

@@ -1,8 +1,7 @@
 -- The steps of a call that look at the queue word, announce the call, and collect its answer.
-use Rattle.std.proofs.Common.{◌≡◌, ℕ, ◌+◌, ◌<◌, ◌≤◌, true, false, List, [], ◌∷◌, length, refl, ap, sym, ◌∙◌, subst, arith, inl, inr, None}
+use Rattle.std.proofs.Common.{◌≡◌, ℕ, ◌+◌, ◌<◌, ◌≤◌, ◌^◌, true, false, List, [], ◌∷◌, length, refl, ap, sym, ◌∙◌, subst, arith, inl, inr, None}
 use Rattle.std.specs.Prelude.{nat_lt}
 use Rattle.std.proofs.lemmas.Bool.{cases_Bool, cond_both, eqb-true, ltb-true, ltb-false}
-use Rattle.lin_report.specs.declared.calls.TheConstants.{PUT}
 use Rattle.step_memory.specs.declared.steps.Request.TheVariants.{Load, Store}
 use Rattle.word_fields.specs.declared.records.Phase.TheVariants.{Generate}
 use Rattle.word_fields.specs.Announced.{op_number, op_word, value_number, value_word}
@@ -15,7 +14,8 @@ use Rattle.help_queue.specs.Gathers.{among_seats, holds, is_first, is_open}
 use Rattle.help_queue_laws.specs.declared.phases.Helping.TheVariants.{Record}
 use Rattle.help_queue_laws.specs.declared.phases.Phase.{Phase}
 use Rattle.help_queue_laws.specs.declared.phases.Phase.TheVariants.{Look, StoreValue, StoreOp, StoreRecord, Drive, Collect, Helps}
-use Rattle.help_queue_laws.specs.Callers.{Caller, after_help, first_of, head_helped, fed_in}
+use Rattle.help_queue_laws.specs.Callers.{Caller, after_help, head_helped, fed_in}
+use Rattle.help_queue.specs.Heads.{first_of}
 use Rattle.help_queue_laws.specs.Ghosts.{Ghosts}
 use Rattle.help_queue_laws.proofs.Scenes.{Scene, scene_of, IsDone, IsOut, IsInOrDone, IsSound}
 use Rattle.help_queue_laws.proofs.Knowledge.{IsMine, IsFree, PhaseFacts}
@@ -26,7 +26,7 @@ use Rattle.help_queue_laws.proofs.QueueWords.{not_both}
 use Rattle.help_queue_laws.proofs.LaterLemmas.{done_closed}
 use Rattle.help_queue_laws.proofs.Results.{Moved, scene_after, load_moves, stored_word, queue_stays, record_stays, op_stays, value_stays, besides, seat_word, announced_stays, announced_now, announced_others, late_now, lost_now}
 
-module _ (seats i made : ℕ) (inside : i < seats) (few : seats ≤ 8) (fewer : made < 65535) (words : List ℕ) (ghosts : Ghosts) (long : length words ≡ 32) (sound : IsSound (scene_of words ghosts)) where
+module _ (seats i made : ℕ) (inside : i < seats) (few : seats ≤ 8) (fewer : made < 65535) (words : List ℕ) (ghosts : Ghosts) (long : 32 ≤ length words) (sound : IsSound (scene_of words ghosts)) where
   abbrev was : Scene
   was = scene_of words ghosts
 
@@ -106,9 +106,9 @@ module _ (seats i made : ℕ) (inside : i < seats) (few : seats ≤ 8) (fewer : 
 
   -- ---- the call is announced
 
-  pub value_moves : IsFree was i (made + 1) → IsOut was i → Moved seats i words ghosts StoreValue (Store (value_place i) (value_word (made + 1) 0)) (λ seen. fed_in StoreValue seen (caller_in StoreValue))
-  value_moves free out =
-      let request = Store (value_place i) (value_word (made + 1) 0) in
+  pub value_moves : (value : ℕ) → IsFree was i (made + 1) → IsOut was i → Moved seats i words ghosts StoreValue (Store (value_place i) (value_word (made + 1) value)) (λ seen. fed_in StoreValue seen (caller_in StoreValue))
+  value_moves value free out =
+      let request = Store (value_place i) (value_word (made + 1) value) in
       let b = scene_after i words ghosts StoreValue request in
       let records : (t : ℕ) → b.records t ≡ was.records t = λ t. record_stays seats i words ghosts StoreValue long request t (λ f. λ e. omega (arith, f, e)) in
       let queue : b.queue ≡ was.queue = queue_stays seats i words ghosts StoreValue long request (λ e. omega (arith, e)) in
@@ -130,14 +130,14 @@ module _ (seats i made : ℕ) (inside : i < seats) (few : seats ≤ 8) (fewer : 
           knows = (
             record { closed = ap (λ w. is_open (record_phase w)) (records i) ∙ free.closed; number = subst (λ w. record_number w < made + 1) (sym (records i)) free.number },
             ap (λ q. holds q i) queue ∙ out,
-            ap value_number (seat_word i _ eight ∙ stored_word seats i words ghosts StoreValue long (value_place i) (value_word (made + 1) 0) (omega (arith, eight))) ∙ number-value_word (made + 1) 0 (omega (arith, fewer)),
+            ap value_number (seat_word i _ eight ∙ stored_word seats i words ghosts StoreValue long (value_place i) (value_word (made + 1) value) (omega (arith, eight))) ∙ number-value_word (made + 1) value (omega (arith, fewer)),
           );
         };
       }
 
-  pub op_moves : IsFree was i (made + 1) → IsOut was i → value_number (was.values i) ≡ made + 1 → Moved seats i words ghosts StoreOp (Store (op_place i) (op_word PUT (made + 1) 0)) (λ seen. fed_in StoreOp seen (caller_in StoreOp))
-  op_moves free out value =
-      let request = Store (op_place i) (op_word PUT (made + 1) 0) in
+  pub op_moves : (code key : ℕ) → code < 2 ^ 4 → IsFree was i (made + 1) → IsOut was i → value_number (was.values i) ≡ made + 1 → Moved seats i words ghosts StoreOp (Store (op_place i) (op_word code (made + 1) key)) (λ seen. fed_in StoreOp seen (caller_in StoreOp))
+  op_moves code key low free out value =
+      let request = Store (op_place i) (op_word code (made + 1) key) in
       let b = scene_after i words ghosts StoreOp request in
       let records : (t : ℕ) → b.records t ≡ was.records t = λ t. record_stays seats i words ghosts StoreOp long request t (λ f. λ e. omega (arith, eight, e)) in
       let values : (t : ℕ) → b.values t ≡ was.values t = λ t. value_stays seats i words ghosts StoreOp long request t (λ f. λ e. omega (arith, eight, e)) in
@@ -160,7 +160,7 @@ module _ (seats i made : ℕ) (inside : i < seats) (few : seats ≤ 8) (fewer : 
             record { closed = ap (λ w. is_open (record_phase w)) (records i) ∙ free.closed; number = subst (λ w. record_number w < made + 1) (sym (records i)) free.number },
             ap (λ q. holds q i) queue ∙ out,
             ap value_number (values i) ∙ value,
-            ap op_number (seat_word i _ eight ∙ stored_word seats i words ghosts StoreOp long (op_place i) (op_word PUT (made + 1) 0) (omega (arith, eight))) ∙ number-op_word PUT (made + 1) 0 (omega arith) (omega (arith, fewer)),
+            ap op_number (seat_word i _ eight ∙ stored_word seats i words ghosts StoreOp long (op_place i) (op_word code (made + 1) key) (omega (arith, eight))) ∙ number-op_word code (made + 1) key low (omega (arith, fewer)),
           );
         };
       }

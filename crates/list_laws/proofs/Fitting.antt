@@ -1,5 +1,5 @@
 -- A list answers Yes or No alone: it fits the record of a call.
-use Rattle.std.proofs.Common.{◌≡◌, ℕ, ◌==◌, ◌||◌, Bool, true, false, if◌then◌else◌, List, arith}
+use Rattle.std.proofs.Common.{ℕ, ◌==◌, ◌||◌, Bool, true, false, if◌then◌else◌, List, arith}
 use Rattle.std.specs.Prelude.{nat_le}
 use Rattle.lin_report.specs.declared.calls.Op.{Op}
 use Rattle.lin_report.specs.declared.calls.Outcome.TheVariants.{Plain}
@@ -21,7 +21,7 @@ use Rattle.list_laws.specs.declared.states.ListSearch.TheVariants.{Start, Next, 
 use Rattle.list_laws.specs.declared.states.ListWrap.{ListWrap}
 use Rattle.list_laws.specs.declared.states.ListWrap.TheVariants.{Over}
 use Rattle.list_laws.specs.Search.{is_marked, leading, led, next_place}
-use Rattle.list_laws.specs.Search.{decided, decided_absent, decided_found, fed, finished, met_key, met_next, moved_on}
+use Rattle.list_laws.specs.Search.{decided, decided_absent, decided_found, fed, finished, moved_on}
 use Rattle.list_laws.specs.Wrap.{wrap_begun, wrap_fed}
 
 -- a choice fits where both ways do

@@ -1,6 +1,6 @@
 -- What an allowed step does to one word: it stays, its bit is cleared, or its version rises; a set bit is only
 -- ever cleared.
-use Rattle.std.proofs.Common.{◌≡◌, ◌≢◌, ◌∙◌, refl, sym, subst, ap, ℕ, ◌<◌, Bool, true, false, inl, inr, slice_get, Some, arith}
+use Rattle.std.proofs.Common.{◌≡◌, ◌∙◌, refl, sym, ap, ℕ, ◌<◌, Bool, true, inl, inr, slice_get, Some, arith}
 use Rattle.std.proofs.lemmas.Bool.{cases_eq}
 use Rattle.step_memory.specs.declared.steps.Request.{Request}
 use Rattle.step_memory.specs.declared.steps.Request.TheVariants.{Load, Store, Exchange, Add}
@@ -17,6 +17,7 @@ use Rattle.normal_traits.specs.Laws.{Laws, AsksWell}
 use Rattle.normal_traits.proofs.Stays.{entry_good, word_put, word_beside}
 use Rattle.cas_executor_laws.specs.Entries.{Moves}
 use Rattle.cas_executor_laws.specs.Entries.Moves.{kept, cleared, raised}
+use Rattle.offered_blocks.proofs.Blocks.Places.{words_apart}
 
 -- a word after a step: kept, cleared of its bit, or exchanged for one of a higher version where it stood with
 -- its bit clear if it is one of a list's
@@ -29,10 +30,6 @@ pub moves_of : (guarded : Bool) (old new : ℕ) → Goes guarded old new → Mov
 moves_of guarded old new (stays same) = kept same
 moves_of guarded old new (clears_bit is) = cleared is
 moves_of guarded old new (rises more clear) = raised more
-
--- a place that is a word isn't one that is none
-words_apart : (world : World) (place at : ℕ) → is_word world place ≡ true → is_word world at ≡ false → place ≢ at
-words_apart world place at here is e = let is' : is_word world place ≡ false = subst (λ p. is_word world p ≡ false) (sym e) is in absurd cc
 
 module _ {S W : Type 0} (form : NormalForm S W) (laws : Laws form) (world : World) (place : ℕ) (here : is_word world place ≡ true) where
   -- a word is put where another stood

@@ -1,6 +1,6 @@
 -- What holds of all blocks holds after a step that leaves the stored fields of the offered blocks that are not used,
 -- and the states of the blocks that no record has named.
-use Rattle.std.proofs.Common.{◌≡◌, ◌∙◌, sym, ap, subst, ℕ, ◌<◌, inl, inr, Bool, true, false, List, [], ◌∷◌, Option, Some, All, arith}
+use Rattle.std.proofs.Common.{◌≡◌, ◌∙◌, sym, ap, subst, ℕ, ◌<◌, inl, inr, true, false, List, [], ◌∷◌, Option, Some, All, arith}
 use Rattle.std.proofs.lemmas.Bool.{cases_Bool}
 use Rattle.std.proofs.lemmas.List.Elements.{All-cons, All-head, All-nil, All-tail}
 use Rattle.node_arena.specs.MemoryMap.{block_place}
@@ -12,9 +12,7 @@ use Rattle.cas_executor.specs.SlowRuns.{state_place}
 use Rattle.offered_blocks.specs.Blocks.{Offer, HasBlocks, has_taken}
 use Rattle.offered_blocks.specs.Holds.{HasOffers, IsUnnamed, JournalWords, Waits}
 use Rattle.offered_blocks.specs.OtherSteps.{IsStored}
-
-both : {A : Type 0} (b : Bool) → b ≡ true → b ≡ false → A
-both b t f = absurd cc
+use Rattle.offered_blocks.proofs.Blocks.Items.{both}
 
 -- what was filled is filled where the stored fields stay
 module _ {S W : Type 0} (form : NormalForm S W) (block : ℕ) (world after : World) (stay : (field : ℕ) → field < 32 → IsStored field → after.words (block_place block field) ≡ world.words (block_place block field)) where

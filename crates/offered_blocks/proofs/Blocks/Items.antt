@@ -1,5 +1,5 @@
 -- Two entries that took effect at one place with the same `to` are one entry.
-use Rattle.std.proofs.Common.{◌≡◌, ◌∙◌, sym, ap, ℕ, Some, arith}
+use Rattle.std.proofs.Common.{◌≡◌, ◌∙◌, sym, ap, ℕ, Bool, true, false, Some, arith}
 use Rattle.word_fields.specs.Versioned.{versioned_bit, versioned_version, marked_word, cleared_word}
 use Rattle.word_fields.proofs.VersionedLemmas.{cleared-clear, cleared-marked}
 use Rattle.normal_traits.specs.declared.lists.Entry.{Entry}
@@ -8,6 +8,10 @@ use Rattle.normal_traits.specs.World.Maker.{By}
 use Rattle.cas_executor_laws.specs.ExecRuns.{IsEntry}
 use Rattle.cas_executor_laws.specs.Entries.{IsRaised}
 use Rattle.offered_blocks.specs.Blocks.{JournalRises}
+
+-- nothing is both true and false
+pub both : {A : Type 0} (b : Bool) → b ≡ true → b ≡ false → A
+both b t f = absurd cc
 
 -- words with clear bits are told apart by the words with the bit set
 pub marked_same : (a b : ℕ) → versioned_bit a ≡ 0 → versioned_bit b ≡ 0 → marked_word a ≡ marked_word b → a ≡ b

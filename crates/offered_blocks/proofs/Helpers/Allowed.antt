@@ -1,6 +1,6 @@
 -- A listed exchange that a helper wins is an allowed step of the client's world, whoever the helper is and however
 -- late it comes; so are a decision and the clearing of a bit.
-use Rattle.std.proofs.Common.{◌≡◌, ◌∙◌, refl, sym, subst, ap, ℕ, ◌<◌, ◌==◌, Bool, true, false, inl, inr, List, [], ◌∷◌, Option, Some, arith}
+use Rattle.std.proofs.Common.{◌≡◌, ◌∙◌, refl, sym, subst, ap, ℕ, ◌<◌, ◌==◌, true, false, inl, inr, List, [], ◌∷◌, Option, Some, arith}
 use Rattle.std.proofs.lemmas.Bool.{cases_Bool, cases_eq, eq-eqb, and_from, or_left, or_right}
 use Rattle.std.proofs.lemmas.Option.{slice_get_within}
 use Rattle.word_fields.specs.Versioned.{versioned_version, marked_word, cleared_word}
@@ -17,10 +17,8 @@ use Rattle.cas_executor_laws.proofs.SiteLemmas.{entry_at}
 use Rattle.offered_blocks.specs.Blocks.{Offer, is_of, has_taken, IsOffer, HasBlocks}
 use Rattle.offered_blocks.specs.Holds.{Waits}
 use Rattle.offered_blocks.specs.HelperSteps.{AreBehind, entered, first_entered}
+use Rattle.offered_blocks.proofs.Blocks.Items.{both}
 use Rattle.offered_blocks.proofs.Helpers.Deeds.{word_no_state}
-
-both : {A : Type 0} (b : Bool) → b ≡ true → b ≡ false → A
-both b t f = absurd cc
 
 -- an exchange of a list of this identity is found in the journal
 pub taken_any : (journal : List Won) (list other : Listed) (j : ℕ) (won : Won) → Among won journal → won.maker ≡ By other j → other.identity ≡ list.identity → has_taken journal list j ≡ true

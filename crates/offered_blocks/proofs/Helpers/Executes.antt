@@ -10,6 +10,7 @@ use Rattle.normal_traits.specs.Steps.{IsStep, listed_if, object, with_change}
 use Rattle.cas_executor.specs.SlowRuns.{SlowWalk, installs, slow_request}
 use Rattle.cas_executor_laws.specs.Parts.{IsMade, Knows, TookBy}
 use Rattle.offered_blocks.specs.Blocks.{Offer, site_of, has_taken}
+use Rattle.offered_blocks.proofs.Blocks.Items.{both}
 
 -- a list has taken what it had, and its new item
 pub same_item : (list : Listed) (j : ℕ) (before : Bool) → ((list.identity == list.identity) && (j == j) || before) ≡ true
@@ -24,9 +25,6 @@ other_entry list i j before apart = ap (λ b. b || before) (and_second (list.ide
 
 other_list : (list other : Listed) (i j : ℕ) (before : Bool) → list.identity ≢ other.identity → ((list.identity == other.identity) && (i == j) || before) ≡ before
 other_list list other i j before apart = ap (λ b. b && (i == j) || before) (ne_eqb list.identity other.identity apart)
-
-both : {A : Type 0} (b : Bool) → b ≡ true → b ≡ false → A
-both b t f = absurd cc
 
 module _ {S W : Type 0} (form : NormalForm S W) (world after : World) where
   -- nothing, or what the entry that is installed adds

@@ -1,5 +1,5 @@
 -- What holds of all blocks holds after a step of a helper's run on the list of one of them.
-use Rattle.std.proofs.Common.{◌≡◌, ◌≢◌, ◌∙◌, sym, subst, ap, ℕ, ◌+◌, ◌<◌, ◌≤◌, true, false, Bool, inl, inr, List, slice_get, Option, Some, arith}
+use Rattle.std.proofs.Common.{◌≡◌, ◌≢◌, ◌∙◌, sym, subst, ap, ℕ, ◌+◌, ◌<◌, ◌≤◌, true, false, inl, inr, List, slice_get, Option, Some, arith}
 use Rattle.std.proofs.lemmas.Bool.{cases_Bool, cases_eq, or_right}
 use Rattle.step_memory.specs.declared.steps.Seen.{Seen}
 use Rattle.word_fields.specs.Versioned.{versioned_version}
@@ -21,6 +21,7 @@ use Rattle.cas_executor_laws.proofs.SiteLemmas.{entry_at}
 use Rattle.offered_blocks.specs.Blocks.{Offer, HasBlocks, IsOffer, JournalRises, has_taken, is_of, site_of}
 use Rattle.offered_blocks.specs.Holds.{HasOffers, IsUnnamed, JournalWords}
 use Rattle.offered_blocks.specs.OtherSteps.{IsStored}
+use Rattle.offered_blocks.proofs.Blocks.Items.{both}
 use Rattle.offered_blocks.proofs.Blocks.HoldsKept.{holds_kept}
 use Rattle.offered_blocks.proofs.Blocks.Named.{some_offer}
 use Rattle.offered_blocks.proofs.Blocks.Places.{record_apart, spare_apart, word_grows}
@@ -31,9 +32,6 @@ use Rattle.offered_blocks.proofs.Helpers.Executes.Tells.{no_win, wins}
 use Rattle.offered_blocks.proofs.Helpers.OwnDeeds.{own_parts}
 use Rattle.offered_blocks.proofs.Helpers.RunKept.{run_kept}
 use Rattle.offered_blocks.proofs.Others.Stores.{stored_no_state}
-
-both : {A : Type 0} (b : Bool) → b ≡ true → b ≡ false → A
-both b t f = absurd cc
 
 -- a step of a run is on a state of its block or on the target of its entry
 step_beside : (block j : ℕ) (entry : Entry) (step : SlowStep) (words after : ℕ → ℕ) (seen : Seen) → IsMade (step_request block j entry step) words after seen

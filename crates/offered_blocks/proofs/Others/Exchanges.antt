@@ -1,5 +1,5 @@
 -- A won exchange of a word of the client beside the offered lists: what holds of all blocks holds after it.
-use Rattle.std.proofs.Common.{◌≡◌, ◌≢◌, ◌∙◌, refl, sym, subst, ap, ℕ, ◌<◌, ◌||◌, Bool, true, false, inl, inr, List, Option, Some, arith}
+use Rattle.std.proofs.Common.{◌≡◌, ◌≢◌, ◌∙◌, refl, sym, subst, ap, ℕ, ◌<◌, ◌||◌, true, false, inl, inr, List, Option, Some, arith}
 use Rattle.std.proofs.lemmas.Bool.{cases_Bool, cases_eq, or_right}
 use Rattle.word_fields.specs.Versioned.{versioned_bit, versioned_version}
 use Rattle.word_fields.proofs.VersionedLemmas.{bit-cleared, version-cleared}
@@ -15,6 +15,7 @@ use Rattle.cas_executor_laws.specs.Parts.{Deed}
 use Rattle.offered_blocks.specs.Blocks.{Offer, HasBlocks, MayBeMarked, site_of, has_taken, is_of}
 use Rattle.offered_blocks.specs.Holds.{HasOffers, JournalWords}
 use Rattle.offered_blocks.specs.OtherSteps.{IsExchange}
+use Rattle.offered_blocks.proofs.Blocks.Items.{both}
 use Rattle.offered_blocks.proofs.Blocks.HoldsKept.{holds_kept}
 use Rattle.offered_blocks.proofs.Blocks.Places.{record_apart, spare_apart, word_grows}
 use Rattle.offered_blocks.proofs.Blocks.Rises.{rises_won}
@@ -22,9 +23,6 @@ use Rattle.offered_blocks.proofs.Helpers.BitsKept.{executing_same}
 use Rattle.offered_blocks.proofs.Helpers.Deeds.{word_no_state}
 use Rattle.offered_blocks.proofs.Others.Foreign.{KeepsBits, foreign_deed}
 use Rattle.offered_blocks.proofs.Others.OthersKept.{others_kept}
-
-both : {A : Type 0} (b : Bool) → b ≡ true → b ≡ false → A
-both b t f = absurd cc
 
 module _ {S W : Type 0} (form : NormalForm S W) (laws : Laws form) (world after : World) (offers : ℕ → Option (Offer S)) (holds : HasOffers form world offers)
     (maker : Maker) (list : Option Listed) (entry : Entry) (is : IsExchange form world after offers maker list entry) where

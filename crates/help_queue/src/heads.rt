@@ -1,0 +1,39 @@
+//! The head of a queue word, and what a helper makes of its record.
+ghost use Rattle.std.specs.Prelude.{◌≡◌, ◌<◌, ◌≤◌, Some, None};
+ghost use Rattle.help_queue.specs.Heads.{head_of, is_other, record_met};
+
+use crate::Remove;
+use word_fields::{Phase, QueueWord, RecordWord};
+
+/// The head of a queue word.
+pub fn head_of(word: u64) -> Option<u32>
+    ensures { result ≡ head_of word }
+{
+    match QueueWord::unpack(word).seats.first() {
+        Some(head) => Some(u32::from(*head)),
+        None => None,
+    }
+}
+
+/// Whether a record is of another call than the known one.
+pub fn is_other(known: Option<u16>, number: u16) -> bool
+    ensures { result ≡ is_other known number }
+{
+    match known {
+        Some(known) => known != number,
+        None => false,
+    }
+}
+
+/// The removal of the call of a record that was loaded; none of one that is open.
+pub fn removal_of(word: u64, seat: u32, seats: u32) -> Option<Remove>
+    requires seat { seat < seats }
+    requires few { seats ≤ 8 }
+    ensures { result ≡ record_met (λ opened. None) (λ removal. Some removal) word seat seats }
+{
+    let record = RecordWord::unpack(word);
+    match record.phase {
+        Phase::Idle | Phase::Completed => Some(Remove::new(seat, record.number, seats)),
+        Phase::Generate | Phase::Executing | Phase::Wrapping => None,
+    }
+}
