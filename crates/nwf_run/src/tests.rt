@@ -1,7 +1,9 @@
-//! The top call on files and sinks in memory, by subject, and the call on bytes.
+//! The top calls on files and sinks in memory, by subject, and the call on bytes.
 mod bytes;
 mod faults;
 mod lists;
+mod meeting;
 mod queues;
 mod refusals;
 mod rows;
+mod runs;
