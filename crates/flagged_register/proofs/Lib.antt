@@ -6,4 +6,5 @@ pub mod Steps
 pub mod Kept
 pub mod Observed
 pub mod Fed
+pub mod Fitting
 pub mod Whole

@@ -25,6 +25,7 @@ use Rattle.flagged_register.specs.Register.{FLAG, REGISTER, note_place, flag_val
 use Rattle.flagged_register.specs.Register.Help.{Deciding}
 use Rattle.flagged_register.specs.Register.Search.{AtFlag, AtRegister, Named, Helping}
 use Rattle.flagged_register.specs.Meanings.{Flagged, Shape, IsOver, IsSpent, EachChanges, flagged_block, flagger, adds_beside, WasRead, Knows, Dead, is_ready, flagged_form, IsGone}
+use Rattle.flagged_register.proofs.Fitting.{begun_fits, found_fits, wrapped_fits}
 use Rattle.flagged_register.proofs.Basics.{all_among, word_of, flag_value_below, note_register, note_flag, note_decision, value_decision, decided_once}
 use Rattle.flagged_register.proofs.Effects.{Effect, made_won, cleared_won, decided_won}
 use Rattle.flagged_register.proofs.Effects.Effect.{quiet, sets, makes, decides, clears}
@@ -38,9 +39,13 @@ use Rattle.flagged_register.proofs.Fed.{search_asks, help_asks, search_fed_well,
 
 -- ---- the opening
 
-opened_0 : (place : ℕ) → opening_word Tree place ≡ 0
-unfolding opening_word
-opened_0 place = refl
+opened_flag : opening_word Tree FLAG ≡ 0
+unfolding opening_word block_place
+opened_flag = refl
+
+opened_register : opening_word Tree REGISTER ≡ 0
+unfolding opening_word block_place
+opened_register = refl
 
 value_0 : versioned_value 0 ≡ 0
 unfolding versioned_value
@@ -57,11 +62,11 @@ opens = record {
   flaggers = λ list flagged. absurd flagged.won;
   same_identity = λ a b fa fb e. absurd fa.won;
   same_block = λ a b fa fb e. absurd fa.won;
-  flag = inl (ap versioned_value (opened_0 FLAG) ∙ value_0);
-  tells = map.get-empty nat_cmp 0 ∙ sym (none_content (opening_world flagged_form) (opening_word Tree REGISTER) (ap versioned_value (opened_0 REGISTER) ∙ value_0));
-  names = inl (ap versioned_value (opened_0 REGISTER) ∙ value_0);
-  clear = ap versioned_bit (opened_0 REGISTER) ∙ bit_0;
-  fits = omega (arith, opened_0 REGISTER);
+  flag = inl (ap versioned_value (opened_flag) ∙ value_0);
+  tells = map.get-empty nat_cmp 0 ∙ sym (none_content (opening_world flagged_form) (opening_word Tree REGISTER) (ap versioned_value (opened_register) ∙ value_0));
+  names = inl (ap versioned_value (opened_register) ∙ value_0);
+  clear = ap versioned_bit (opened_register) ∙ bit_0;
+  fits = omega (arith, opened_register);
   flagged = λ change among. absurd among;
   passed = λ change among. absurd among;
   agreed = λ change among. absurd among;
@@ -326,4 +331,7 @@ flagged_laws = record {
   dead_unchanged = λ world list change shape dead among. dead_unchanged world list change shape dead among;
   dead_first = λ world list search since entry shape dead offered fresh listed'. dead_first world list search since entry dead offered fresh listed';
   beside = λ world list entry shape e. beside world list entry shape e;
+  answers_fit = λ world after seen search op since command shape asking knows r. found_fits search seen;
+  begun_fits = λ world list search since stop shape offered stopped. begun_fits list.call.op list.entries stop;
+  wraps_fit = λ world after seen help list stop command shape asking follows r. wrapped_fits help seen;
 }

@@ -12,6 +12,7 @@ use Rattle.list_laws.specs.Search.{asked}
 use Rattle.list_laws.specs.Shape.{AreSorted}
 use Rattle.list_laws.specs.Knowledge.{IsDead}
 use Rattle.list_laws.specs.Form.{list_form}
+use Rattle.list_laws.proofs.Fitting.{begun_fits, found_fits, wrapped_fits}
 use Rattle.list_laws.proofs.Places.{note_plain, second_block}
 use Rattle.list_laws.proofs.Entries.{same_entry}
 use Rattle.list_laws.proofs.Commands.{key_limit}
@@ -73,6 +74,9 @@ module _ (lists : Lists) (are : AreLists lists) where
         dead_unchanged = dead_unchanged;
         dead_first = λ world list searched since entry sorted dead offer fresh listed. dead_first world list entry dead listed;
         beside = λ world list entry sorted e. absurd (none_beside list e);
+        answers_fit = λ world after seen searched op since command sorted asks knows requested. found_fits searched seen;
+        begun_fits = λ world list searched since stop sorted offer stopped. begun_fits list.call.op list.entries stop;
+        wraps_fit = λ world after seen wrap list stop command sorted going follows requested. wrapped_fits wrap seen;
       }
 
 -- ---- the client `list`

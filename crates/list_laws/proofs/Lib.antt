@@ -18,5 +18,6 @@ pub mod Opening
 pub mod Searching
 pub mod Offers
 pub mod Wrapping
+pub mod Fitting
 pub mod Laws
 pub mod AtOnce

@@ -167,3 +167,8 @@ module _ (object : Object) (is : IsSet object) where
 
     pub add_right : op.code ≡ ADD → WasHeld world.changes since op.key true → RightSince object world op since (Plain No)
     add_right code was = told_right No true was (λ held. (is.add_stays op _ code held, sym (is.add_told op _ code ∙ ap (λ b. yes_if (not b)) held)))
+
+-- the set holds the keys that the newest changes tell
+pub set_held : (changes : List Change) → AreEffective changes → (key : ℕ) → set.contains (held_after set_object changes) key ≡ holds changes key
+unfolding set_is
+set_held changes effective key = held_is set_object set_is changes effective key

@@ -14,9 +14,17 @@ queue_each : (n place : ℕ) → 32 ≤ n → place < n → get_or (set (set (re
 unfolding opening_word
 queue_each n place many within = grind (arith, common_steps, nat_tests)
 
+tree_each : (n place : ℕ) → 64 ≤ n → place < n → get_or (set (set (set (set (set (replicate n 0) 44 1048576) 49 1048577) 51 1) 52 3) 54 1048577) place 0 ≡ opening_word client.Tree place
+unfolding opening_word
+tree_each n place many within = grind (arith, common_steps, nat_tests)
+
 list_each : (n place : ℕ) → place < n → get_or (replicate n 0) place 0 ≡ opening_word client.List place
 unfolding opening_word
 list_each n place within = get_or-replicate n place 0 0 within
+
+buckets_each : (n place : ℕ) → place < n → get_or (replicate n 0) place 0 ≡ opening_word client.Buckets place
+unfolding opening_word
+buckets_each n place within = get_or-replicate n place 0 0 within
 
 -- the opening words of the queue
 pub queue_opening : (cap : ℕ) → set (set (replicate (words_of cap) 0) 20 dummy_word) 21 dummy_word ≡ opening_words client.Queue cap
@@ -30,6 +38,23 @@ queue_opening cap =
 pub list_opening : (cap : ℕ) → replicate (words_of cap) 0 ≡ opening_words client.List cap
 list_opening cap = fill_by_all (opening_word client.List) _ (words_of cap) 0 (length-replicate (words_of cap) 0) (λ place within. list_each (words_of cap) place within)
 
+-- those of the buckets
+pub buckets_opening : (cap : ℕ) → replicate (words_of cap) 0 ≡ opening_words client.Buckets cap
+buckets_opening cap = fill_by_all (opening_word client.Buckets) _ (words_of cap) 0 (length-replicate (words_of cap) 0) (λ place within. buckets_each (words_of cap) place within)
+
+-- those of the tree
+pub tree_opening : (cap : ℕ) → set (set (set (set (set (replicate (words_of cap) 0) 44 1048576) 49 1048577) 51 1) 52 3) 54 1048577 ≡ opening_words client.Tree cap
+tree_opening cap =
+    let n = words_of cap in
+    let many : 64 ≤ n = omega arith in
+    let whole : length (set (set (set (set (set (replicate n 0) 44 1048576) 49 1048577) 51 1) 52 3) 54 1048577) ≡ n =
+    length-set (set (set (set (set (replicate n 0) 44 1048576) 49 1048577) 51 1) 52 3) 54 1048577
+    ∙ length-set (set (set (set (replicate n 0) 44 1048576) 49 1048577) 51 1) 52 3
+    ∙ length-set (set (set (replicate n 0) 44 1048576) 49 1048577) 51 1
+    ∙ length-set (set (replicate n 0) 44 1048576) 49 1048577
+    ∙ length-set (replicate n 0) 44 1048576 ∙ length-replicate n 0 in
+    fill_by_all (opening_word client.Tree) _ n 0 whole (λ place within. tree_each n place many within)
+
 -- each of the opening words is in its place
 pub opening_each : (c : Client) (cap place : ℕ) → place < words_of cap → slice_index (opening_words c cap) place ≡ opening_word c place
 opening_each c cap place within = get_or-map-range_with_len (opening_word c) 0 (words_of cap) place place 0 within (zero-add place)
@@ -37,4 +62,4 @@ opening_each c cap place within = get_or-map-range_with_len (opening_word c) 0 (
 pub length-opening_words : (c : Client) (cap : ℕ) → length (opening_words c cap) ≡ words_of cap
 length-opening_words c cap = length-map-range_with_len (opening_word c) 0 (words_of cap)
 
-pub ruleset opening = (queue_opening, list_opening, opening_each, length-opening_words)
+pub ruleset opening = (queue_opening, list_opening, tree_opening, buckets_opening, opening_each, length-opening_words)

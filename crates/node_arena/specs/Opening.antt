@@ -9,15 +9,26 @@ use Rattle.node_arena.specs.MemoryMap.{words_of, reference_to}
 
 -- the clients whose memory is laid out
 abbrev pub IsLaidOut : Client → Type 0
-IsLaidOut c = (c ≡ client.Queue) ⊎ (c ≡ client.List)
+IsLaidOut c = (c ≡ client.Queue) ⊎ (c ≡ client.List) ⊎ (c ≡ client.Tree) ⊎ (c ≡ client.Buckets)
 
 -- the versioned word that names node 1 of block 0, the queue's dummy node
 abbrev pub dummy_word : ℕ
 dummy_word = versioned_word (reference_to 0 1) 0 0
 
--- the word at a place: in the queue, head and tail name the dummy node, and all else is 0
+-- in the tree, block 0 has the root, which is node 2, and its leaves, the nodes 1 and 3, with the first two keys
+-- that are no command's: the left leaf has the first, the root and the right leaf have the second
+abbrev pub tree_word : ℕ → ℕ
+tree_word place =
+    if place == 44 then 1048576
+    else (if place == 49 || place == 54 then 1048577
+    else (if place == 51 then reference_to 0 1
+    else (if place == 52 then reference_to 0 3 else 0)))
+
+-- the word at a place: in the queue, head and tail name the dummy node, and in the tree block 0 has the root and
+-- its leaves; all else is 0
 unfoldable pub opening_word : Client → ℕ → ℕ
 opening_word client.Queue place = if place == HEAD || place == TAIL then dummy_word else 0
+opening_word client.Tree place = tree_word place
 opening_word _ place = 0
 
 -- all words, with blocks 0 to cap

@@ -11,6 +11,29 @@ use word_fields::VersionedWord;
 /// The reference to node 1 of block 0, the queue's dummy node.
 const DUMMY: u32 = 1;
 
+/// The key of the tree's left leaf at the beginning, the first that is no command's.
+const LEFT_KEY: u64 = 1_048_576;
+
+/// The key of the tree's root, and of its right leaf: behind all others.
+const ROOT_KEY: u64 = 1_048_577;
+
+/// The references to nodes 1 and 3 of block 0, the tree's leaves at the beginning.
+const LEFT_LEAF: u64 = 1;
+
+const RIGHT_LEAF: u64 = 3;
+
+/// In the tree, block 0 has the root, which is node 2, and its leaves, nodes 1 and 3: the places of their keys
+/// and of the root's children.
+const LEFT_KEY_PLACE: usize = 44;
+
+const ROOT_KEY_PLACE: usize = 49;
+
+const ROOT_LEFT_PLACE: usize = 51;
+
+const ROOT_RIGHT_PLACE: usize = 52;
+
+const RIGHT_KEY_PLACE: usize = 54;
+
 /// Words that are all 0: the first words and blocks 0 to CAP.
 fn zeros(alloc: Global, cap: u32) -> Result<Vec<u64>, NoMemory>
     requires { cap ≤ 65536 }
@@ -32,15 +55,24 @@ pub fn opening_words(alloc: Global, cap: u32, client: Client) -> Result<Vec<u64>
         slice_index words.items place ≡ opening_word client place) }
 {
     let mut words = zeros(alloc, cap)?;
-    if client != Client::Queue {
-        return Ok(words);
+    match client {
+        Client::Queue => {
+            let dummy = VersionedWord {
+                value: DUMMY,
+                modified: false,
+                version: 0,
+            };
+            words[HEAD as usize] = dummy.pack();
+            words[TAIL as usize] = dummy.pack();
+        }
+        Client::Tree => {
+            words[LEFT_KEY_PLACE] = LEFT_KEY;
+            words[ROOT_KEY_PLACE] = ROOT_KEY;
+            words[ROOT_LEFT_PLACE] = LEFT_LEAF;
+            words[ROOT_RIGHT_PLACE] = RIGHT_LEAF;
+            words[RIGHT_KEY_PLACE] = ROOT_KEY;
+        }
+        Client::List | Client::Buckets => {}
     }
-    let dummy = VersionedWord {
-        value: DUMMY,
-        modified: false,
-        version: 0,
-    };
-    words[HEAD as usize] = dummy.pack();
-    words[TAIL as usize] = dummy.pack();
     Ok(words)
 }

@@ -27,6 +27,27 @@ fn a_list_opens_with_zeros(rt: HostRuntime) -> Result<(), Fail> {
 }
 
 #[test]
+fn a_tree_opens_with_its_root_and_two_leaves(rt: HostRuntime) -> Result<(), Fail> {
+    let words = opening_words(rt.alloc(), 1, Client::Tree)?;
+    assert_eq!(rt; words.len(), 96);
+    let opened = [
+        (node_place(reference_to(0, 1), 0), 1_048_576),
+        (node_place(reference_to(0, 2), 0), 1_048_577),
+        (node_place(reference_to(0, 3), 0), 1_048_577),
+        (node_place(reference_to(0, 2), 2), 1),
+        (node_place(reference_to(0, 2), 3), 3),
+    ];
+    for (place, word) in words.iter().enumerate() {
+        let expected = match opened.iter().find(|known| known.0 as usize == place) {
+            Some(known) => known.1,
+            None => 0,
+        };
+        assert_eq!(rt; *word, expected, "at {place}");
+    }
+    Ok(())
+}
+
+#[test]
 fn worked_places(rt: HostRuntime) {
     for (place, worked) in [
         (op_place(0), 4),

@@ -4,7 +4,7 @@ use Rattle.lin_report.specs.declared.calls.Op.{Op}
 use Rattle.lin_report.specs.declared.calls.Outcome.{Outcome}
 use Rattle.lin_report.specs.declared.calls.Outcome.TheVariants.{Plain, ValueOf}
 use Rattle.lin_report.specs.Object.{object_of}
-use Rattle.lin_report.specs.Commands.{IsCommandOf, may_exhaust}
+use Rattle.lin_report.specs.Commands.{IsCommandOf, may_exhaust, told_value}
 use Rattle.step_memory.specs.declared.steps.Request.{Request}
 use Rattle.step_memory.specs.declared.steps.Request.TheVariants.{Load, Store, Exchange, Add}
 use Rattle.step_memory.specs.declared.steps.Seen.{Seen}
@@ -69,6 +69,21 @@ abbrev pub IsFixed : {S W : Type 0} → NormalForm S W → Outcome → Type 0
 IsFixed form (Plain reply) = Unit {0}
 IsFixed form (ValueOf reference) = form.is_versioned (node_place reference NODE_VALUE) ≡ false
 
+-- an outcome fits the record of a call: a plain reply has a value below 2^20, or none. One that names a node has but
+-- its reference, which is that of a used block
+abbrev pub FitsRecord : Outcome → Type 0
+FitsRecord (Plain reply) = told_value reply < 2 ^ 20
+FitsRecord (ValueOf reference) = Unit {0}
+
+-- what a search found, or a wrap-up says, fits
+abbrev pub FoundFits : Found → Type 0
+FoundFits (found.Answer outcome) = FitsRecord outcome
+FoundFits _ = Unit {0}
+
+abbrev pub WrappedFits : Wrapped → Type 0
+WrappedFits (wrapped.Done outcome) = FitsRecord outcome
+WrappedFits _ = Unit {0}
+
 -- what a fed search has learnt, by what it found
 abbrev pub FoundWell : {S W : Type 0} → NormalForm S W → World → Op → ℕ → S → Found → Type 0
 FoundWell form world op since search found.Going = form.asks search
@@ -130,3 +145,9 @@ pub record Laws {S W : Type 0} (form : NormalForm S W) : Type 0 where
   pub dead_first : (world : World) (list : Listed) (search : S) (since : ℕ) (entry : Entry) → form.shape world → form.dead list world → IsOffered form world list search since → IsFresh world list → slice_get list.entries 0 ≡ Some entry → world.words entry.target ≢ entry.from
   -- a change beside the lists is that of a list with a block, whose first entry took effect
   pub beside : (world : World) (list : Listed) (entry : Entry) → form.shape world → form.adds_beside world entry ≡ Some list → (0 < list.block) × Took world list 0
+  -- a plain outcome fits the record of its call, through which a helper tells it
+  pub answers_fit : (world after : World) (seen : Seen) (search : S) (op : Op) (since : ℕ) → IsCommandOf form.client op → form.shape world → form.asks search → form.knows search op world since → Requested form (form.request_of search) world after seen
+      → FoundFits (form.found_of search seen)
+  pub begun_fits : (world : World) (list : Listed) (search : S) (since stop : ℕ) → form.shape world → IsOffered form world list search since → Stopped world list stop → WrappedFits (form.wrap_begun_of list.call.op list.entries stop)
+  pub wraps_fit : (world after : World) (seen : Seen) (wrap : W) (list : Listed) (stop : ℕ) → IsCommandOf form.client list.call.op → form.shape world → form.wraps wrap → form.follows wrap list stop world → Requested form (form.wrap_request_of wrap) world after seen
+      → WrappedFits (form.wrap_found_of wrap seen)

@@ -1,17 +1,16 @@
 -- What a call has written and opened, by its status.
 use Rattle.std.proofs.Common.{◌≡◌, ℕ, ◌+◌, ◌⊎◌, cond, Bool, true, false, List, length, Option, Some, None, Result, Ok, Err, IfOk, IsSomeAnd, inl, inr, refl, rules, sym, ap, ◌∙◌, subst, arith}
 use Rattle.std.specs.Io.KnownBytes.{Appends}
-use Rattle.lin_report.specs.Text.{report_text}
 use Rattle.nwf_run.specs.declared.running.Replayed.{Replayed}
 use Rattle.nwf_run.specs.declared.stops.Stop.{Stop}
 use Rattle.nwf_run.specs.declared.stops.Stop.TheVariants.{Usage, Refused, ReadFault, NoMemory}
 use Rattle.nwf_run.specs.Outside.{Opening, AppendsPrefix}
-use Rattle.nwf_run.specs.Reading.{Opens}
-use Rattle.nwf_run.specs.Replaying.{Ends, IsReplayOf, MakesReplay, OpensFor, Reports}
+use Rattle.nwf_run.specs.Replaying.{Ends, IsRunFor, Makes, OpensAll, OpensFor, Reports, text_for}
 use Rattle.nwf_run.specs.Replaying.Reports.{wrote, failed}
-use Rattle.nwf_run.specs.Runs.{Exhausts, ReplayRun, RunMeetsHeadline}
+use Rattle.nwf_run.specs.Runs.{Exhausts, FilesRun, RunMeetsHeadline}
 use Rattle.nwf_run.specs.Stops.{status_of}
-use Rattle.nwf_run.specs.Words.{Replay}
+use Rattle.nwf_run.specs.Words.{Asked, structure_of}
+use Rattle.nwf_run.specs.Words.Asked.{a_replay, a_load, a_run}
 use Rattle.nwf_run.proofs.JudgedFiles.{there-weaker}
 
 -- a stop has none of the statuses of a report
@@ -29,48 +28,50 @@ pub unmarked_status : (status : ℕ) (mark : Bool) → status ≡ cond mark 7 0 
 unmarked_status status true is zero_is marked = omega (arith, is, zero_is)
 unmarked_status status false is zero_is marked = absurd (search rules)
 
-pub not_five : (status : ℕ) (mark : Bool) → status ≡ cond mark 7 0 → status ≡ 5 → ⊥
-not_five status true seven five = omega (arith, five, seven)
-not_five status false none five = omega (arith, five, none)
-
-module _ (tells : Bool) (held : List ℕ → Option (List ℕ)) (words : Option Replay) (written written' : Option (List ℕ)) (faults faults' status : ℕ) where
+module _ (tells : Bool) (held : List ℕ → Option (List ℕ)) (words : Option Asked) (written written' : Option (List ℕ)) (faults faults' status : ℕ) where
   abbrev Made : Result Replayed Stop → Type 0
-  Made answer = IfOk answer (λ made. IsSomeAnd words (λ r. MakesReplay tells held r made.text.items made.exhausted))
+  Made answer = IfOk answer (λ made. IsSomeAnd words (λ a. Makes tells held a made.text.items made.exhausted))
 
-  -- a report was written whole, and no call of it found no block left
+  -- a text was written whole, and no call of the run found no block left
   abbrev Done : Type 0
-  Done = IsSomeAnd words (λ r. (run : ReplayRun) × IsReplayOf tells held r run × RunMeetsHeadline r.served run × (¬ Exhausts run.report) × Appends written written' (report_text run.report (Some 0)))
+  Done = IsSomeAnd words (λ a. (run : FilesRun) × IsRunFor tells held a run × RunMeetsHeadline (structure_of a) run × (¬ Exhausts run.report) × Appends written written' (text_for a run.report))
 
   pub done : (answer : Result Replayed Stop) → Made answer → Ends written written' faults faults' status answer → status ≡ 0 → Done
   done (Err stop) made ends none = absurd (not_report stop status ends.0 (inl none))
   done (Ok made) text (failed five prefix rose) none = absurd (omega (arith, five, none))
   done (Ok made) text (wrote is appends calm) none =
-      there-weaker _ _ (λ (r : Replay) (m : MakesReplay tells held r made.text.items made.exhausted). (m.run, m.is, m.headline, λ (e : Exhausts m.run.report). unmarked_status status made.exhausted is none (m.text_is.marked.1 e), subst (Appends written written') m.text_is.written appends)) words text
+      there-weaker _ _ (λ (a : Asked) (m : Makes tells held a made.text.items made.exhausted). (m.run, m.is, m.headline, λ (e : Exhausts m.run.report). unmarked_status status made.exhausted is none (m.text_is.marked.1 e), subst (Appends written written') m.text_is.written appends)) words text
 
-  -- a report was written whole, and a call of it found no block left
+  -- a text was written whole, and a call of the run found no block left
   abbrev Exhausted : Type 0
-  Exhausted = IsSomeAnd words (λ r. (run : ReplayRun) × IsReplayOf tells held r run × RunMeetsHeadline r.served run × Exhausts run.report × Appends written written' (report_text run.report (Some 0)))
+  Exhausted = IsSomeAnd words (λ a. (run : FilesRun) × IsRunFor tells held a run × RunMeetsHeadline (structure_of a) run × Exhausts run.report × Appends written written' (text_for a run.report))
 
   pub exhausted : (answer : Result Replayed Stop) → Made answer → Ends written written' faults faults' status answer → status ≡ 7 → Exhausted
   exhausted (Err stop) made ends seven = absurd (not_report stop status ends.0 (inr (inr seven)))
   exhausted (Ok made) text (failed five prefix rose) seven = absurd (omega (arith, five, seven))
   exhausted (Ok made) text (wrote is appends calm) seven =
-      there-weaker _ _ (λ (r : Replay) (m : MakesReplay tells held r made.text.items made.exhausted). (m.run, m.is, m.headline, m.text_is.marked.0 (marked_status status made.exhausted is seven), subst (Appends written written') m.text_is.written appends)) words text
+      there-weaker _ _ (λ (a : Asked) (m : Makes tells held a made.text.items made.exhausted). (m.run, m.is, m.headline, m.text_is.marked.0 (marked_status status made.exhausted is seven), subst (Appends written written') m.text_is.written appends)) words text
 
-  -- the first bytes of a report were written
+  -- the first bytes of a text were written
   abbrev Cut : Type 0
-  Cut = IsSomeAnd words (λ r. (run : ReplayRun) × IsReplayOf tells held r run × RunMeetsHeadline r.served run × AppendsPrefix written written' (report_text run.report (Some 0)))
+  Cut = IsSomeAnd words (λ a. (run : FilesRun) × IsRunFor tells held a run × RunMeetsHeadline (structure_of a) run × AppendsPrefix written written' (text_for a run.report))
 
   pub cut : (answer : Result Replayed Stop) → Made answer → Ends written written' faults faults' status answer → status ≡ 5 → Cut
   cut (Err stop) made ends five = absurd (not_report stop status ends.0 (inr (inl five)))
   cut (Ok made) text (failed is prefix rose) five =
-      there-weaker _ _ (λ (r : Replay) (m : MakesReplay tells held r made.text.items made.exhausted). (m.run, m.is, m.headline, subst (AppendsPrefix written written') m.text_is.written prefix)) words text
-  cut (Ok made) text (wrote is appends calm) five = absurd (not_five status made.exhausted is five)
+      there-weaker _ _ (λ (a : Asked) (m : Makes tells held a made.text.items made.exhausted). (m.run, m.is, m.headline, subst (AppendsPrefix written written') m.text_is.written prefix)) words text
+  cut (Ok made) text (wrote is appends calm) five = absurd (not_five made.exhausted is)
+    where
+      not_five : (mark : Bool) → status ≡ cond mark 7 0 → ⊥
+      not_five true seven = omega (arith, five, seven)
+      not_five false none = omega (arith, five, none)
 
 module _ (tells : Bool) (held : List ℕ → Option (List ℕ)) (written written' : Option (List ℕ)) (faults faults' status read : ℕ) (before now : List Opening) where
-  -- every file was opened where there is a report
-  pub all_opened : (words : Option Replay) (answer : Result Replayed Stop) → IfOk answer (λ made. IsSomeAnd words (λ r. MakesReplay tells held r made.text.items made.exhausted))
-      → OpensFor words read before now answer → Ends written written' faults faults' status answer → (status ≡ 0) ⊎ (status ≡ 5) ⊎ (status ≡ 7) → IsSomeAnd words (λ r. Opens r (length r.files + 1) read before now)
+  -- every file was opened where there is a text
+  pub all_opened : (words : Option Asked) (answer : Result Replayed Stop) → IfOk answer (λ made. IsSomeAnd words (λ a. Makes tells held a made.text.items made.exhausted))
+      → OpensFor words read before now answer → Ends written written' faults faults' status answer → (status ≡ 0) ⊎ (status ≡ 5) ⊎ (status ≡ 7) → IsSomeAnd words (λ a. OpensAll a read before now)
   all_opened words (Err stop) made opens ends h = absurd (not_report stop status ends.0 h)
   all_opened None (Ok made) text opens ends h = text
-  all_opened (Some r) (Ok made) text opens ends h = opens
+  all_opened (Some (a_replay r)) (Ok made) text opens ends h = opens
+  all_opened (Some (a_load l)) (Ok made) text opens ends h = opens
+  all_opened (Some (a_run r)) (Ok made) text opens ends h = opens

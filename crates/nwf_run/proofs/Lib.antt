@@ -3,7 +3,6 @@ pub mod Known
 pub mod CutFiles
 pub mod JudgedFiles
 pub mod JudgedBytes
-pub mod FirstRefused
 pub mod ReadFiles
 pub mod SameOrder
 pub mod Writable
@@ -12,3 +11,5 @@ pub mod Replays
 pub mod Endings
 pub mod ThreadReports
 pub mod ThreadRuns
+pub mod Stopped
+pub mod LoadRuns

@@ -13,7 +13,7 @@ use Rattle.lin_report.specs.declared.calls.PendingCall.{PendingCall}
 use Rattle.lin_report.specs.declared.calls.Reply.{Reply}
 use Rattle.lin_report.specs.declared.calls.Reply.TheVariants.{Yes, No, Done, Value, Empty, Absent, Exhausted}
 use Rattle.lin_report.specs.Calls.{Call, calls_of, report_of}
-use Rattle.lin_report.specs.Text.{reply_is_exhausted, report_text}
+use Rattle.lin_report.specs.Text.{reply_is_exhausted, report_text, summary_text}
 use Rattle.lin_report.specs.Writing.{CanWrite, IsPrintable}
 use Rattle.lin_report.specs.declared.calls.Client.{Client}
 use Rattle.lin_report.specs.declared.calls.Op.{Op}
@@ -25,9 +25,9 @@ use Rattle.fast_slow_engine.specs.Runs.{RunState, pending_of}
 use Rattle.run_laws.specs.Files.{FilesFit}
 use Rattle.fast_slow_engine.specs.Reports.{report_of_run}
 use Rattle.event_core.specs.Cores.{CoreView, core_new, with_receipts}
-use Rattle.schedule_runs.specs.Orders.{Follows}
+use Rattle.schedule_runs.specs.Orders.{Follows, core_in}
 use Rattle.nwf_run.specs.Writable.{CanBeWritten, RunsCanBeWritten}
-use Rattle.nwf_run.proofs.SameOrder.{apart_moved, apart_pairs, calls_moved, same_text}
+use Rattle.nwf_run.proofs.SameOrder.{apart_moved, apart_pairs, calls_moved, same_summary, same_text}
 
 -- a reply is exhausted where the test says so
 exhausted_is : (reply : Reply) → reply_is_exhausted reply ≡ true → reply ≡ Exhausted
@@ -56,6 +56,9 @@ module _ {S W : Type 0} (state : RunState S W) (receipts : List Receipt) (pendin
 
   pub text_is : (count : Option ℕ) (most : ℕ) → CanBeWritten state most → report_text (report_of receipts pending) count ≡ report_text (report_of_run state) count
   text_is count most can = sym (same_text (report_of_run state) (report_of receipts pending) count lines calls can.apart)
+
+  pub summary_is : summary_text (report_of receipts pending) (Some 0) ≡ summary_text (report_of_run state) (Some 0)
+  summary_is = sym (same_summary (report_of_run state) (report_of receipts pending) (Some 0) lines calls)
 
   pub marked : (mark : Bool) → mark ≡ list_any (λ (r : Receipt). reply_is_exhausted r.reply) receipts → (mark ≡ true) ↔ Any (λ (r : Receipt). r.reply ≡ Exhausted) state.receipts
   marked mark is =
@@ -105,7 +108,8 @@ module _ {S W : Type 0} where
     driven setup commands entries schedule new core is same follows =
         subst (λ s. Follows form s (core_new form setup (files_of commands)) core) same (subst (λ v. Follows form schedule v core) is follows)
 
-    pub can_be_written : (setup : Setup) (commands : List (Vec Op Global)) (entries schedule : List ScheduleEntry) (new core : CoreView S W) → RunsCanBeWritten form → length commands ≡ setup.seats → All (λ (ops : Vec Op Global). IsCommandFile form.client ops.items) commands
-        → new ≡ core_new form setup (files_of commands) → schedule ≡ entries → Follows form schedule new core → CanBeWritten core.state (sum_by length (files_of commands))
-    can_be_written setup commands entries schedule new core writable count each is same follows =
-        writable setup (files_of commands) entries core (files_fit form.client setup commands count each) (driven setup commands entries schedule new core is same follows)
+    -- a core that is the run of the commands in an order
+    pub can_be_written : (setup : Setup) (commands : List (Vec Op Global)) (order : List ℕ) (core : CoreView S W) → RunsCanBeWritten form → length commands ≡ setup.seats → All (λ (ops : Vec Op Global). IsCommandFile form.client ops.items) commands
+        → core ≡ core_in form setup (files_of commands) order → CanBeWritten core.state (sum_by length (files_of commands))
+    can_be_written setup commands order core writable count each is =
+        subst (λ (v : CoreView S W). CanBeWritten v.state (sum_by length (files_of commands))) (sym is) (writable setup (files_of commands) order (files_fit form.client setup commands count each))

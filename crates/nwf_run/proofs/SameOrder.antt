@@ -105,19 +105,25 @@ same_lines calls moved perm apart =
     let apart_a = apart_moved key calls (by_begin calls) a.0 apart in
     same_list key (by_begin calls) (by_begin moved) (rises key (by_begin calls) a.1 apart_a) (rises key (by_begin moved) b.1 (apart_moved key (by_begin calls) (by_begin moved) both apart_a)) both
 
--- the text is the same whatever the order
-pub same_text : (report moved : Report) (count : Option ℕ) → IsPermutation report.receipts moved.receipts → IsPermutation report.pending moved.pending → Apart (λ (c : Call). c.begin) (calls_of report)
-    → report_text report count ≡ report_text moved count
-unfolding report_text summary_text
-same_text report moved count receipts pending apart =
+-- the summary is the same whatever the order
+pub same_summary : (report moved : Report) (count : Option ℕ) → IsPermutation report.receipts moved.receipts → IsPermutation report.pending moved.pending → summary_text report count ≡ summary_text moved count
+unfolding summary_text
+same_summary report moved count receipts pending =
     let perm = calls_moved report moved receipts pending in
     let calls = calls_of report in
     let others = calls_of moved in
     let counted : (p : Call → Bool) → count_by p calls ≡ count_by p others = λ p. sym (sum_by-IsPermutation (λ c. cond (p c) 1 0) calls others perm) in
     let summary : (n f s x q : ℕ) → List ℕ = λ n f s x q. line (codes "calls" ∷ count_words n f s x q ++ overtaken_words count) in
-    ap (λ l. lines l ++ summary (length calls) (count_by is_fast calls) (count_by is_slow calls) (count_by is_exhausted calls) (length report.pending)) (same_lines calls others perm apart)
-    ∙ ap (λ n. lines (by_begin others) ++ summary n (count_by is_fast calls) (count_by is_slow calls) (count_by is_exhausted calls) (length report.pending)) (sym (length_permutation calls others perm))
-    ∙ ap (λ n. lines (by_begin others) ++ summary (length others) n (count_by is_slow calls) (count_by is_exhausted calls) (length report.pending)) (counted is_fast)
-    ∙ ap (λ n. lines (by_begin others) ++ summary (length others) (count_by is_fast others) n (count_by is_exhausted calls) (length report.pending)) (counted is_slow)
-    ∙ ap (λ n. lines (by_begin others) ++ summary (length others) (count_by is_fast others) (count_by is_slow others) n (length report.pending)) (counted is_exhausted)
-    ∙ ap (λ n. lines (by_begin others) ++ summary (length others) (count_by is_fast others) (count_by is_slow others) (count_by is_exhausted others) n) (sym (length_permutation report.pending moved.pending pending))
+    ap (λ n. summary n (count_by is_fast calls) (count_by is_slow calls) (count_by is_exhausted calls) (length report.pending)) (sym (length_permutation calls others perm))
+    ∙ ap (λ n. summary (length others) n (count_by is_slow calls) (count_by is_exhausted calls) (length report.pending)) (counted is_fast)
+    ∙ ap (λ n. summary (length others) (count_by is_fast others) n (count_by is_exhausted calls) (length report.pending)) (counted is_slow)
+    ∙ ap (λ n. summary (length others) (count_by is_fast others) (count_by is_slow others) n (length report.pending)) (counted is_exhausted)
+    ∙ ap (λ n. summary (length others) (count_by is_fast others) (count_by is_slow others) (count_by is_exhausted others) n) (sym (length_permutation report.pending moved.pending pending))
+
+-- so is the text
+pub same_text : (report moved : Report) (count : Option ℕ) → IsPermutation report.receipts moved.receipts → IsPermutation report.pending moved.pending → Apart (λ (c : Call). c.begin) (calls_of report)
+    → report_text report count ≡ report_text moved count
+unfolding report_text
+same_text report moved count receipts pending apart =
+    ap (λ l. lines l ++ summary_text report count) (same_lines (calls_of report) (calls_of moved) (calls_moved report moved receipts pending) apart)
+    ∙ ap (λ s. lines (by_begin (calls_of moved)) ++ s) (same_summary report moved count receipts pending)

@@ -33,8 +33,6 @@ use Rattle.run_laws.proofs.TickLemmas.{IsFew, ticks_had, counts_ticks}
 use Rattle.run_laws.proofs.SeatLemmas.{seats_stay}
 use Rattle.run_laws.proofs.FileLemmas.{files_run}
 use Rattle.run_laws.proofs.ReportLemmas.{runs_report, ticks_once}
-use Rattle.event_core.specs.Cores.{CoreView}
-use Rattle.schedule_runs.proofs.OrderLemmas.{runs_in_order}
 use Rattle.nwf_run.specs.Writable.{CanBeWritten, RunsCanBeWritten}
 use Rattle.nwf_run.proofs.SameOrder.{counted_at}
 
@@ -246,7 +244,7 @@ module _ {S W : Type 0} (form : NormalForm S W) (setup : Setup) (files : List (L
             few = few;
           }
 
--- ---- every run that a schedule drives
+-- ---- every run
 
 module _ {S W : Type 0} (form : NormalForm S W) where
   -- no move but those that draw ticks writes the tick counter, in any order of the seats
@@ -260,6 +258,4 @@ module _ {S W : Type 0} (form : NormalForm S W) where
       → All (λ (r : Receipt). IsReplyTo r.op r.reply) (run_of form setup (moves_over form setup files order)).receipts
 
   pub runs_can_be_written : OrdersKeepTicks → RepliesFit → RunsCanBeWritten form
-  runs_can_be_written keeps replies setup files entries core fit follows =
-      let (order, is, same) = runs_in_order form setup files entries core follows in
-      subst (λ (v : CoreView S W). CanBeWritten v.state (sum_by length files)) (sym same) (can_be_written form setup files order fit (keeps setup files order fit) (replies setup files order fit))
+  runs_can_be_written keeps replies setup files order fit = can_be_written form setup files order fit (keeps setup files order fit) (replies setup files order fit)

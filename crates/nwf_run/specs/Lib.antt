@@ -8,5 +8,6 @@ pub mod Judging
 pub mod Reading
 pub mod Writable
 pub mod Runs
+pub mod Loads
 pub mod Replaying
 pub mod Running

@@ -1,39 +1,76 @@
--- What a replay of named files is, and how the call ends.
+-- What is made of what the words ask for, and how the call ends.
 use Rattle.std.specs.Prelude.{◌≡◌, ℕ, ◌+◌, ◌≤◌, Bool, IsTrue, if◌then◌else◌, List, length, Option, Some, None, Result, Ok, Err}
 use Rattle.std.specs.Io.KnownBytes.{Appends}
+use Rattle.lin_report.specs.Calls.{Report}
+use Rattle.lin_report.specs.Text.{report_text, summary_text}
+use Rattle.script_reader.specs.declared.schedules.ScheduleEntry.{ScheduleEntry}
 use Rattle.nwf_run.specs.declared.running.Replayed.{Replayed}
 use Rattle.nwf_run.specs.declared.stops.Stop.{Stop}
-use Rattle.nwf_run.specs.declared.stops.Stop.TheVariants.{Usage}
+use Rattle.nwf_run.specs.declared.stops.Stop.TheVariants.{Usage, NoMemory}
 use Rattle.nwf_run.specs.Judging.{Accepts}
+use Rattle.nwf_run.specs.Loads.{IsLoadOf}
 use Rattle.nwf_run.specs.Outside.{Opening, Rose, AppendsPrefix}
-use Rattle.nwf_run.specs.Reading.{files_by_name, OpensUntil, StopsAt}
-use Rattle.nwf_run.specs.Runs.{ReplayRun, IsRunOf, IsTextOf, RunMeetsHeadline}
+use Rattle.nwf_run.specs.Reading.{files_by_name, Opens, OpensUntil, StopsAt}
+use Rattle.nwf_run.specs.Running.{IsRunOfFiles}
+use Rattle.nwf_run.specs.Runs.{FilesRun, IsNamedBy, IsRunOf, IsTextOf, RunMeetsHeadline}
 use Rattle.nwf_run.specs.Stops.{status_of, message_of}
-use Rattle.nwf_run.specs.Words.{Replay}
+use Rattle.nwf_run.specs.Words.{Asked, Replay, structure_of}
+use Rattle.nwf_run.specs.Words.Asked.{a_replay, a_load, a_run}
 
--- the run is that of the replay: of the commands and the schedule of its files, which are all there and accepted
--- where bytes are told
-pub record IsReplayOf (tells : Bool) (held : List ℕ → Option (List ℕ)) (replay : Replay) (run : ReplayRun) : Type 0 where
-  pub accepted : IsTrue tells → Accepts replay.served (length replay.files) (files_by_name held replay) run.entries run.commands
+-- the run is that of the replay: of the commands of its files, in the order that its schedule names; where bytes are
+-- told, the files are all there and accepted
+pub record IsReplayOf (tells : Bool) (held : List ℕ → Option (List ℕ)) (replay : Replay) (run : FilesRun) : Type 0 where
+  pub entries : List ScheduleEntry
+  pub accepted : IsTrue tells → Accepts replay.served (length replay.files) (files_by_name held replay) entries run.commands
   pub seats : length run.commands ≡ length replay.files
+  pub named : IsNamedBy replay.served entries run
   pub runs : IsRunOf replay.served replay.cap replay.limit run
 
--- the text is that of the report of the replay's run, which meets the headline
-pub record MakesReplay (tells : Bool) (held : List ℕ → Option (List ℕ)) (replay : Replay) (text : List ℕ) (exhausted : Bool) : Type 0 where
-  pub run : ReplayRun
-  pub is : IsReplayOf tells held replay run
-  pub headline : RunMeetsHeadline replay.served run
-  pub text_is : IsTextOf run.report (Some 0) text exhausted
+-- the run is the one that is asked for
+abbrev pub IsRunFor : Bool → (List ℕ → Option (List ℕ)) → Asked → FilesRun → Type 0
+IsRunFor tells held (a_replay r) run = IsReplayOf tells held r run
+IsRunFor tells held (a_load l) run = IsLoadOf l run
+IsRunFor tells held (a_run r) run = IsRunOfFiles tells held r run
 
--- why a call stops: its words are none that are served, or reading stopped at a file
-abbrev pub StopsFor : Bool → (List ℕ → Option (List ℕ)) → Option Replay → Stop → Type 0
+-- what is written of its report: all of it for a replay, for a load the summary alone, and for a run with threads
+-- all of it without a count of overtaking
+abbrev pub text_for : Asked → Report → List ℕ
+text_for (a_replay r) report = report_text report (Some 0)
+text_for (a_load l) report = summary_text report (Some 0)
+text_for (a_run r) report = report_text report None
+
+-- the text is that of the run that is asked for, which meets the headline
+pub record Makes (tells : Bool) (held : List ℕ → Option (List ℕ)) (asked : Asked) (text : List ℕ) (exhausted : Bool) : Type 0 where
+  pub run : FilesRun
+  pub is : IsRunFor tells held asked run
+  pub headline : RunMeetsHeadline (structure_of asked) run
+  pub text_is : IsTextOf run.report (text_for asked run.report) text exhausted
+
+-- why a call stops: its words ask for nothing that is served, or reading stopped at a file, or a load had no memory
+abbrev pub StopsFor : Bool → (List ℕ → Option (List ℕ)) → Option Asked → Stop → Type 0
 StopsFor tells held None stop = stop ≡ Usage
-StopsFor tells held (Some replay) stop = StopsAt tells held replay stop
+StopsFor tells held (Some (a_replay r)) stop = StopsAt tells held r stop
+StopsFor tells held (Some (a_load l)) stop = stop ≡ NoMemory
+StopsFor tells held (Some (a_run r)) stop = StopsAt tells held r stop
 
--- which files were opened for the words
-abbrev pub OpensFor : {X : Type 0} → Option Replay → ℕ → List Opening → List Opening → Result X Stop → Type 0
+-- which files were opened for what is asked: for a load none
+abbrev pub OpensFor : {X : Type 0} → Option Asked → ℕ → List Opening → List Opening → Result X Stop → Type 0
 OpensFor None faults before now result = now ≡ before
-OpensFor (Some replay) faults before now result = OpensUntil replay faults before now result
+OpensFor (Some (a_replay r)) faults before now result = OpensUntil r faults before now result
+OpensFor (Some (a_load l)) faults before now result = now ≡ before
+OpensFor (Some (a_run r)) faults before now result = OpensUntil r faults before now result
+
+-- all of its files were opened
+abbrev pub OpensAll : Asked → ℕ → List Opening → List Opening → Type 0
+OpensAll (a_replay r) faults before now = Opens r (length r.files + 1) faults before now
+OpensAll (a_load l) faults before now = now ≡ before
+OpensAll (a_run r) faults before now = Opens r (length r.files + 1) faults before now
+
+-- the first of its files were opened, some or none
+abbrev pub OpensSome : Asked → ℕ → List Opening → List Opening → Type 0
+OpensSome (a_replay r) faults before now = (count : ℕ) × (count ≤ length r.files + 1) × Opens r count faults before now
+OpensSome (a_load l) faults before now = now ≡ before
+OpensSome (a_run r) faults before now = (count : ℕ) × (count ≤ length r.files + 1) × Opens r count faults before now
 
 -- a message was written whole, or the first bytes of it where the sink had a fault
 pub record WritesMessage (written written' : Option (List ℕ)) (faults faults' : ℕ) (message : List ℕ) : Type 0 where

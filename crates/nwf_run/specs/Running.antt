@@ -1,58 +1,38 @@
 -- What a run with threads is, and its report.
 use Rattle.std.specs.Prelude.{◌≡◌, ℕ, Bool, IsTrue, List, [], length, sum_by, None, Option}
 use Rattle.lin_report.specs.declared.calls.Op.{Op}
-use Rattle.lin_report.specs.Calls.{Report}
+use Rattle.lin_report.specs.Text.{report_text}
 use Rattle.normal_traits.specs.NormalForm.{NormalForm}
 use Rattle.queue_laws.specs.Form.{queue_form}
 use Rattle.list_laws.specs.Lists.{the_list}
 use Rattle.list_laws.specs.Form.{list_form}
-use Rattle.fast_slow_engine.specs.declared.setup.Setup.{Setup}
-use Rattle.fast_slow_engine.specs.Runs.{moves_over, run_of}
-use Rattle.fast_slow_engine.specs.Reports.{report_of_run}
 use Rattle.run_history.specs.Headline.{MeetsHeadline}
 use Rattle.nwf_run.specs.Judging.{SayFirst}
 use Rattle.nwf_run.specs.Reading.{files_by_name}
-use Rattle.nwf_run.specs.Runs.{IsTextOf}
+use Rattle.nwf_run.specs.Runs.{FilesRun, IsRun, IsTextOf}
 use Rattle.nwf_run.specs.Words.{Replay}
 use Rattle.nwf_run.specs.declared.words.Served.{Served}
 use Rattle.nwf_run.specs.declared.words.Served.TheVariants as served
 
--- a run of commands by threads, and its report
-pub record ThreadRun : Type 0 where
-  pub setup : Setup
-  -- the commands of each seat
-  pub commands : List (List Op)
-  -- the seats of the steps, the newest first, as the threads came to make them: nothing else is known of it
-  pub order : List ℕ
-  pub report : Report
-
--- the run is that of its commands, with a seat for each list of them, so many blocks and this limit, in the order
--- in which the seats made their steps; the report is that of this run, in which each command was made and answered
-pub record IsThreadRun {S W : Type 0} (form : NormalForm S W) (cap limit : ℕ) (run : ThreadRun) : Type 0 where
-  pub has_seats : run.setup.seats ≡ length run.commands
-  pub has_cap : run.setup.cap ≡ cap
-  pub has_limit : run.setup.limit ≡ limit
-  pub made : run.report ≡ report_of_run (run_of form run.setup (moves_over form run.setup run.commands run.order))
+-- the run is that of its commands, in the order in which the threads came to make its steps, of which nothing else is
+-- known; each command was made and answered
+pub record IsThreadRun {S W : Type 0} (form : NormalForm S W) (cap limit : ℕ) (run : FilesRun) : Type 0 where
+  pub runs : IsRun form cap limit run
   pub whole : length run.report.receipts ≡ sum_by length run.commands
   pub over : run.report.pending ≡ []
 
 -- the same, of the structure with this name
-abbrev pub IsThreadRunOf : Served → ℕ → ℕ → ThreadRun → Type 0
+abbrev pub IsThreadRunOf : Served → ℕ → ℕ → FilesRun → Type 0
 IsThreadRunOf served.Queue cap limit run = IsThreadRun queue_form cap limit run
 IsThreadRunOf served.List cap limit run = IsThreadRun (list_form the_list) cap limit run
 
--- what the laws of every run give for this one: its report is complete and linearizable, and more
-abbrev pub ThreadRunMeetsHeadline : Served → ThreadRun → Type 0
-ThreadRunMeetsHeadline served.Queue run = MeetsHeadline queue_form run.setup run.commands run.order
-ThreadRunMeetsHeadline served.List run = MeetsHeadline (list_form the_list) run.setup run.commands run.order
-
 -- the text is that of the report of a run of these commands, and the run meets the headline
 pub record IsThreaded {S W : Type 0} (form : NormalForm S W) (cap limit : ℕ) (commands : List (List Op)) (text : List ℕ) (exhausted : Bool) : Type 0 where
-  pub run : ThreadRun
+  pub run : FilesRun
   pub of_commands : run.commands ≡ commands
   pub is : IsThreadRun form cap limit run
   pub headline : MeetsHeadline form run.setup run.commands run.order
-  pub text_is : IsTextOf run.report None text exhausted
+  pub text_is : IsTextOf run.report (report_text run.report None) text exhausted
 
 -- the same, of the structure with this name
 abbrev pub MakesThreadReport : Served → ℕ → ℕ → List (List Op) → List ℕ → Bool → Type 0
@@ -60,14 +40,7 @@ MakesThreadReport served.Queue cap limit commands text exhausted = IsThreaded qu
 MakesThreadReport served.List cap limit commands text exhausted = IsThreaded (list_form the_list) cap limit commands text exhausted
 
 -- the run is one of named command files, which are all there and accepted where bytes are told
-pub record IsRunOfFiles (tells : Bool) (held : List ℕ → Option (List ℕ)) (words : Replay) (run : ThreadRun) : Type 0 where
+pub record IsRunOfFiles (tells : Bool) (held : List ℕ → Option (List ℕ)) (words : Replay) (run : FilesRun) : Type 0 where
   pub accepted : IsTrue tells → SayFirst words.served (length words.files) (files_by_name held words) run.commands
   pub seats : length run.commands ≡ length words.files
   pub runs : IsThreadRunOf words.served words.cap words.limit run
-
--- the text is that of the report of a run of the files, which meets the headline
-pub record MakesRun (tells : Bool) (held : List ℕ → Option (List ℕ)) (words : Replay) (text : List ℕ) (exhausted : Bool) : Type 0 where
-  pub run : ThreadRun
-  pub is : IsRunOfFiles tells held words run
-  pub headline : ThreadRunMeetsHeadline words.served run
-  pub text_is : IsTextOf run.report None text exhausted

@@ -1,11 +1,12 @@
--- The run that a replay makes and its report, and what every such run meets.
-use Rattle.std.specs.Prelude.{◌≡◌, ℕ, ◌↔◌, Bool, true, List, length, Option, Some, Any}
+-- Runs of command files and their reports, and what every such run meets.
+use Rattle.std.specs.Prelude.{◌≡◌, ℕ, ◌↔◌, Bool, true, List, length, Some, Any}
 use Rattle.lin_report.specs.declared.calls.Op.{Op}
 use Rattle.lin_report.specs.declared.calls.Receipt.{Receipt}
 use Rattle.lin_report.specs.declared.calls.Reply.TheVariants.{Exhausted}
 use Rattle.lin_report.specs.Calls.{Report}
 use Rattle.lin_report.specs.Text.{report_text}
 use Rattle.script_reader.specs.declared.schedules.ScheduleEntry.{ScheduleEntry}
+use Rattle.normal_traits.specs.AtOnce.{ChangesAtOnce}
 use Rattle.normal_traits.specs.NormalForm.{NormalForm}
 use Rattle.queue_laws.specs.Form.{queue_form}
 use Rattle.list_laws.specs.Lists.{the_list}
@@ -19,67 +20,73 @@ use Rattle.nwf_run.specs.Judging.{Accepts, files_of_bytes}
 use Rattle.nwf_run.specs.declared.words.Served.{Served}
 use Rattle.nwf_run.specs.declared.words.Served.TheVariants as served
 
--- a run of commands by a schedule, and its report
-pub record ReplayRun : Type 0 where
+-- a run of command files, and its report
+pub record FilesRun : Type 0 where
   pub setup : Setup
-  pub entries : List ScheduleEntry
   -- the commands of each seat
   pub commands : List (List Op)
   -- the seats of the steps, the newest first
   pub order : List ℕ
   pub report : Report
 
--- the run is that of its commands, with a seat for each list of them, so many blocks and this limit, in the
--- order of the seats that its entries name, and the report is that of this run
-pub record IsRun {S W : Type 0} (form : NormalForm S W) (cap limit : ℕ) (run : ReplayRun) : Type 0 where
+-- the run is that of its commands in its order, with a seat for each list of them, so many blocks and this limit, and
+-- the report is that of this run
+pub record IsRun {S W : Type 0} (form : NormalForm S W) (cap limit : ℕ) (run : FilesRun) : Type 0 where
   pub has_seats : run.setup.seats ≡ length run.commands
   pub has_cap : run.setup.cap ≡ cap
   pub has_limit : run.setup.limit ≡ limit
-  pub named : IsOrderOf form run.setup run.commands run.entries run.order
   pub made : run.report ≡ report_of_run (run_of form run.setup (moves_over form run.setup run.commands run.order))
 
 -- the same, of the structure with this name
-abbrev pub IsRunOf : Served → ℕ → ℕ → ReplayRun → Type 0
+abbrev pub IsRunOf : Served → ℕ → ℕ → FilesRun → Type 0
 IsRunOf served.Queue cap limit run = IsRun queue_form cap limit run
 IsRunOf served.List cap limit run = IsRun (list_form the_list) cap limit run
 
--- what the laws of every run give for this one: its report is complete and linearizable, and more
-abbrev pub RunMeetsHeadline : Served → ReplayRun → Type 0
-RunMeetsHeadline served.Queue run = MeetsHeadline queue_form run.setup run.commands run.order
-RunMeetsHeadline served.List run = MeetsHeadline (list_form the_list) run.setup run.commands run.order
+-- its order is the one that the entries of a schedule name for its commands
+abbrev pub IsNamedBy : Served → List ScheduleEntry → FilesRun → Type 0
+IsNamedBy served.Queue entries run = IsOrderOf queue_form run.setup run.commands entries run.order
+IsNamedBy served.List entries run = IsOrderOf (list_form the_list) run.setup run.commands entries run.order
+
+-- what the laws of every run give for this one: its report is complete and linearizable, and more; and the first entry
+-- of each list makes its change, which is the premise of a part of it
+abbrev pub RunMeetsHeadline : Served → FilesRun → Type 0
+RunMeetsHeadline served.Queue run = MeetsHeadline queue_form run.setup run.commands run.order × ChangesAtOnce queue_form
+RunMeetsHeadline served.List run = MeetsHeadline (list_form the_list) run.setup run.commands run.order × ChangesAtOnce (list_form the_list)
 
 -- a call was answered that it found no block left
 abbrev pub Exhausts : Report → Type 0
 Exhausts report = Any (λ (r : Receipt). r.reply ≡ Exhausted) report.receipts
 
--- the text is that of the report with this overtaking count, and the mark says whether a call found no block left
-pub record IsTextOf (report : Report) (count : Option ℕ) (text : List ℕ) (exhausted : Bool) : Type 0 where
-  pub written : text ≡ report_text report count
+-- the text is this one, and the mark says whether a call of the report found no block left
+pub record IsTextOf (report : Report) (whole text : List ℕ) (exhausted : Bool) : Type 0 where
+  pub written : text ≡ whole
   pub marked : (exhausted ≡ true) ↔ Exhausts report
 
 -- the text is that of the report of the run of these commands by these entries, and the run meets the headline
 pub record IsDriven {S W : Type 0} (form : NormalForm S W) (cap limit : ℕ) (entries : List ScheduleEntry) (commands : List (List Op)) (text : List ℕ) (exhausted : Bool) : Type 0 where
-  pub run : ReplayRun
-  pub by_entries : run.entries ≡ entries
+  pub run : FilesRun
   pub of_commands : run.commands ≡ commands
+  pub named : IsOrderOf form run.setup run.commands entries run.order
   pub is : IsRun form cap limit run
   pub headline : MeetsHeadline form run.setup run.commands run.order
-  pub text_is : IsTextOf run.report (Some 0) text exhausted
+  pub text_is : IsTextOf run.report (report_text run.report (Some 0)) text exhausted
 
 -- the same, of the structure with this name
 abbrev pub MakesReport : Served → ℕ → ℕ → List ScheduleEntry → List (List Op) → List ℕ → Bool → Type 0
 MakesReport served.Queue cap limit entries commands text exhausted = IsDriven queue_form cap limit entries commands text exhausted
 MakesReport served.List cap limit entries commands text exhausted = IsDriven (list_form the_list) cap limit entries commands text exhausted
 
--- the run is that of a replay of these bytes: of the commands and the schedule of its files, which are all
--- accepted
-pub record IsReplayOfBytes (served : Served) (cap limit : ℕ) (schedule : List ℕ) (files : List (List ℕ)) (run : ReplayRun) : Type 0 where
-  pub accepted : Accepts served (length files) (files_of_bytes schedule files) run.entries run.commands
+-- the run is that of a replay of these bytes: of the commands of its files, in the order that its schedule names, where
+-- all of them are accepted
+pub record IsReplayOfBytes (served : Served) (cap limit : ℕ) (schedule : List ℕ) (files : List (List ℕ)) (run : FilesRun) : Type 0 where
+  pub entries : List ScheduleEntry
+  pub accepted : Accepts served (length files) (files_of_bytes schedule files) entries run.commands
+  pub named : IsNamedBy served entries run
   pub runs : IsRunOf served cap limit run
 
 -- the text is that of the report of the run of a replay of these bytes, which meets the headline
 pub record MakesReplayOfBytes (served : Served) (cap limit : ℕ) (schedule : List ℕ) (files : List (List ℕ)) (text : List ℕ) (exhausted : Bool) : Type 0 where
-  pub run : ReplayRun
+  pub run : FilesRun
   pub is : IsReplayOfBytes served cap limit schedule files run
   pub headline : RunMeetsHeadline served run
-  pub text_is : IsTextOf run.report (Some 0) text exhausted
+  pub text_is : IsTextOf run.report (report_text run.report (Some 0)) text exhausted

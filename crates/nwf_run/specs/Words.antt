@@ -5,6 +5,7 @@ use Rattle.std.specs.Str.{bytes_eq}
 use Rattle.lin_report.specs.declared.calls.Client.{Client}
 use Rattle.lin_report.specs.declared.calls.Client.TheVariants as client
 use Rattle.script_reader.specs.Words.{number_up_to}
+use Rattle.nwf_run.specs.declared.load_words.LoadWords.{LoadWords}
 use Rattle.nwf_run.specs.declared.words.Served.{Served}
 use Rattle.nwf_run.specs.declared.words.Served.TheVariants as served
 
@@ -60,6 +61,59 @@ abbrev pub starts_run : List (List ℕ) → Bool
 starts_run (command ∷ words) = bytes_eq command (codes "run")
 starts_run [] = false
 
--- what the words of the program say: those of a run where the first is `run`, and else those of a replay
-abbrev pub nwf_words : List (List ℕ) → Option Replay
-nwf_words words = if starts_run words then run_words words else replay_words words
+-- a load of a structure that is served, with each of its numbers in range
+abbrev pub load_of : Option Served → Option ℕ → Option ℕ → Option ℕ → Option ℕ → Option ℕ → Option LoadWords
+load_of (Some structure) (Some cap) (Some limit) (Some threads) (Some calls) (Some seed) =
+    Some (record { served = structure; cap = cap; limit = limit; threads = threads; calls = calls; seed = seed })
+load_of _ _ _ _ _ _ = None
+
+-- `load CLIENT CAP LIMIT THREADS CALLS SEED`, with 1 to 65,536 blocks, a limit from 1 to 255, one to eight seats,
+-- 1 to 65,535 calls of each, and a seed of 32 bits; other words are no load
+abbrev pub load_words : List (List ℕ) → Option LoadWords
+load_words (command ∷ client ∷ cap ∷ limit ∷ threads ∷ calls ∷ seed ∷ []) =
+    if bytes_eq command (codes "load")
+    then load_of (served_named client) (number_in 1 65536 cap) (number_in 1 255 limit) (number_in 1 8 threads) (number_in 1 65535 calls) (number_in 0 4294967295 seed)
+    else None
+load_words _ = None
+
+-- what is asked for: the report of a replay, the summary of a load, or the report of a run with threads
+pub data Asked : Type 0 where
+  a_replay : Replay → Asked
+  a_load : LoadWords → Asked
+  a_run : Replay → Asked
+
+-- the structure that it is of
+abbrev pub structure_of : Asked → Served
+structure_of (a_replay r) = r.served
+structure_of (a_load l) = l.served
+structure_of (a_run r) = r.served
+
+-- the words that name its files, where it has files
+abbrev pub files_asked : Option Asked → Option Replay
+files_asked None = None
+files_asked (Some (a_replay r)) = Some r
+files_asked (Some (a_load l)) = None
+files_asked (Some (a_run r)) = Some r
+
+-- a replay is asked for, or a load, or nothing that is served
+abbrev pub asked_of : Option Replay → Option LoadWords → Option Asked
+asked_of (Some r) l = Some (a_replay r)
+asked_of None (Some l) = Some (a_load l)
+asked_of None None = None
+
+-- a run with threads is asked for, or nothing that is served
+abbrev pub asked_run : Option Replay → Option Asked
+asked_run (Some r) = Some (a_run r)
+asked_run None = None
+
+-- what the words ask for of a call that makes no thread
+abbrev pub asked_words : List (List ℕ) → Option Asked
+asked_words words = asked_of (replay_words words) (load_words words)
+
+-- what they ask for of one that makes threads
+abbrev pub run_asked : List (List ℕ) → Option Asked
+run_asked words = asked_run (run_words words)
+
+-- what they ask for of the program: a run where the first word is `run`, and else a replay or a load
+abbrev pub nwf_asked : List (List ℕ) → Option Asked
+nwf_asked words = if starts_run words then run_asked words else asked_words words

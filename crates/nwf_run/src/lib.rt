@@ -13,6 +13,8 @@ pub use thread_runs::{Gate, NoGate};
 pub use words::Served;
 
 mod judging;
+mod load_words;
+mod loading;
 pub mod outside;
 pub mod program;
 mod reading;

@@ -1,17 +1,20 @@
-//! `replay`: runs command files by a schedule and writes the report.
+//! `replay` and `load`: runs command files by a schedule and writes the report, or generated files in rounds and
+//! writes the summary.
 ghost use Rattle.std.specs.Prelude.{◌≡◌, ◌≢◌, ◌↔◌, ◌⊎◌, ◌≤◌, ◌+◌, ℕ, List, None, Some, map, length, IfOk, IfErr, IsSomeAnd, IsErrOf, string_bytes};
 ghost use Rattle.std.specs.Io.KnownBytes.{Appends};
-ghost use Rattle.lin_report.specs.Text.{report_text};
 ghost use Rattle.script_reader.specs.declared.causes.Refusal.{Refusal};
 ghost use Rattle.nwf_run.specs.Outside.{Rose, AppendsPrefix};
 ghost use Rattle.nwf_run.specs.Reading.{FaultsAsTold, Opens, OpensUntil, Reaches, Refuses, StopsAt};
-ghost use Rattle.nwf_run.specs.Replaying.{Ends, IsReplayOf, MakesReplay, OpensFor, Reports, StopsFor, WritesMessage};
-ghost use Rattle.nwf_run.specs.Runs.{Exhausts, ReplayRun, RunMeetsHeadline};
+ghost use Rattle.nwf_run.specs.Replaying.{Ends, IsRunFor, Makes, OpensAll, OpensFor, OpensSome, Reports, StopsFor, WritesMessage, text_for};
+ghost use Rattle.nwf_run.specs.Runs.{Exhausts, FilesRun, RunMeetsHeadline};
 ghost use Rattle.nwf_run.specs.Said.{said};
 ghost use Rattle.nwf_run.specs.Stops.{status_of, message_of, USAGE_MESSAGE, NO_MEMORY_MESSAGE, refused_message, unread_message};
-ghost use Rattle.nwf_run.specs.Words.{replay_words};
+ghost use Rattle.nwf_run.specs.Words.{asked_words, files_asked, structure_of};
+ghost use Rattle.nwf_run.specs.Words.Asked.{a_replay};
 ghost use Rattle.nwf_run.specs.declared.stops.Stop.{Stop};
 
+use crate::load_words::load_words;
+use crate::loading::make_summary;
 use crate::outside::{Files, Sink};
 use crate::running::{Replayed, make_report};
 use crate::scripts::read_scripts;
@@ -30,7 +33,7 @@ fn replay_files<F: Files>(
     requires limit { words.now.limit ≤ 255 }
     requires some { 1 ≤ length words.now.files.now }
     requires few { length words.now.files.now ≤ 8 }
-    ensures text { IfOk result (λ made. MakesReplay (F.tells files.old) (F.held files.old) (said words.now) made.text.items made.exhausted) }
+    ensures text { IfOk result (λ made. Makes (F.tells files.old) (F.held files.old) (a_replay (said words.now)) made.text.items made.exhausted) }
     ensures stops { IfErr result (StopsAt (F.tells files.old) (F.held files.old) (said words.now)) }
     ensures faults { FaultsAsTold (F.faults files.old) (F.faults files.new) result }
     ensures opened { OpensUntil (said words.now) (F.faults files.old) (F.opened files.old) (F.opened files.new) result }
@@ -41,16 +44,19 @@ fn replay_files<F: Files>(
     Ok(made)
 }
 
-/// The report that the words ask for, or why there is none.
+/// What the words ask for, or why there is none.
 fn answer<F: Files>(alloc: Global, words: &[String], files: &mut F) -> Result<Replayed, Stop>
-    ensures text { IfOk result (λ made. IsSomeAnd (replay_words (map string_bytes words.now)) (λ r. MakesReplay (F.tells files.old) (F.held files.old) r made.text.items made.exhausted)) }
-    ensures stops { IfErr result (StopsFor (F.tells files.old) (F.held files.old) (replay_words (map string_bytes words.now))) }
+    ensures text { IfOk result (λ made. IsSomeAnd (asked_words (map string_bytes words.now)) (λ a. Makes (F.tells files.old) (F.held files.old) a made.text.items made.exhausted)) }
+    ensures stops { IfErr result (StopsFor (F.tells files.old) (F.held files.old) (asked_words (map string_bytes words.now))) }
     ensures faults { FaultsAsTold (F.faults files.old) (F.faults files.new) result }
-    ensures opened { OpensFor (replay_words (map string_bytes words.now)) (F.faults files.old) (F.opened files.old) (F.opened files.new) result }
+    ensures opened { OpensFor (asked_words (map string_bytes words.now)) (F.faults files.old) (F.opened files.old) (F.opened files.new) result }
     ensures held { (n : List ℕ) → F.held files.new n ≡ F.held files.old n }
 {
-    match replay_words(words) {
-        Some(words) => replay_files(alloc, &words, files),
+    if let Some(replay) = replay_words(words) {
+        return replay_files(alloc, &replay, files);
+    }
+    match load_words(words) {
+        Some(load) => Ok(make_summary(alloc, load)?),
         None => Err(Stop::Usage),
     }
 }
@@ -101,36 +107,36 @@ pub fn replay_main<F: Files, K: Sink>(
     out: &mut K,
 ) -> u8
     // The words alone decide whether they are served.
-    ensures usage { (result ≡ 2) ↔ (replay_words (map string_bytes words.now) ≡ None) }
+    ensures usage { (result ≡ 2) ↔ (asked_words (map string_bytes words.now) ≡ None) }
 
     // What is written for accepted files is the report of their run, which meets the headline: all of it or,
     // after a fault of the sink, its first bytes; the status says whether a call of it found no block left.
-    ensures done { result ≡ 0 → IsSomeAnd (replay_words (map string_bytes words.now)) (λ r. (run : ReplayRun) × IsReplayOf (F.tells files.old) (F.held files.old) r run × RunMeetsHeadline r.served run × (¬ Exhausts run.report) × Appends (K.written out.old) (K.written out.new) (report_text run.report (Some 0))) }
-    ensures exhausted { result ≡ 7 → IsSomeAnd (replay_words (map string_bytes words.now)) (λ r. (run : ReplayRun) × IsReplayOf (F.tells files.old) (F.held files.old) r run × RunMeetsHeadline r.served run × Exhausts run.report × Appends (K.written out.old) (K.written out.new) (report_text run.report (Some 0))) }
-    ensures cut { result ≡ 5 → IsSomeAnd (replay_words (map string_bytes words.now)) (λ r. (run : ReplayRun) × IsReplayOf (F.tells files.old) (F.held files.old) r run × RunMeetsHeadline r.served run × AppendsPrefix (K.written out.old) (K.written out.new) (report_text run.report (Some 0))) }
+    ensures done { result ≡ 0 → IsSomeAnd (asked_words (map string_bytes words.now)) (λ a. (run : FilesRun) × IsRunFor (F.tells files.old) (F.held files.old) a run × RunMeetsHeadline (structure_of a) run × (¬ Exhausts run.report) × Appends (K.written out.old) (K.written out.new) (text_for a run.report)) }
+    ensures exhausted { result ≡ 7 → IsSomeAnd (asked_words (map string_bytes words.now)) (λ a. (run : FilesRun) × IsRunFor (F.tells files.old) (F.held files.old) a run × RunMeetsHeadline (structure_of a) run × Exhausts run.report × Appends (K.written out.old) (K.written out.new) (text_for a run.report)) }
+    ensures cut { result ≡ 5 → IsSomeAnd (asked_words (map string_bytes words.now)) (λ a. (run : FilesRun) × IsRunFor (F.tells files.old) (F.held files.old) a run × RunMeetsHeadline (structure_of a) run × AppendsPrefix (K.written out.old) (K.written out.new) (text_for a run.report)) }
 
     // A file is refused only where it is there and not accepted and each file before it is, and the message
     // names it. No later one was opened.
-    ensures refused { result ≡ 3 → IsSomeAnd (replay_words (map string_bytes words.now)) (λ r. (file : ℕ) × (refusal : Refusal) × Refuses (F.tells files.old) (F.held files.old) r file refusal × Opens r (file + 1) (F.faults files.old) (F.opened files.old) (F.opened files.new) × WritesMessage (K.written out.old) (K.written out.new) (K.faults out.old) (K.faults out.new) (refused_message file refusal)) }
+    ensures refused { result ≡ 3 → IsSomeAnd (files_asked (asked_words (map string_bytes words.now))) (λ r. (file : ℕ) × (refusal : Refusal) × Refuses (F.tells files.old) (F.held files.old) r file refusal × Opens r (file + 1) (F.faults files.old) (F.opened files.old) (F.opened files.new) × WritesMessage (K.written out.old) (K.written out.new) (K.faults out.old) (K.faults out.new) (refused_message file refusal)) }
 
     // A fault is told only where the count of faults rose, of the file that was opened or read then: it stood
     // still before the last opening. Each file before that one is there and accepted. No other answer comes
     // after a fault.
     ensures read_fault { result ≡ 4 → Rose (F.faults files.old) (F.faults files.new) }
-    ensures unread { result ≡ 4 → IsSomeAnd (replay_words (map string_bytes words.now)) (λ r. (file : ℕ) × Reaches (F.tells files.old) (F.held files.old) r file × Opens r (file + 1) (F.faults files.old) (F.opened files.old) (F.opened files.new) × WritesMessage (K.written out.old) (K.written out.new) (K.faults out.old) (K.faults out.new) (unread_message file)) }
+    ensures unread { result ≡ 4 → IsSomeAnd (files_asked (asked_words (map string_bytes words.now))) (λ r. (file : ℕ) × Reaches (F.tells files.old) (F.held files.old) r file × Opens r (file + 1) (F.faults files.old) (F.opened files.old) (F.opened files.new) × WritesMessage (K.written out.old) (K.written out.new) (K.faults out.old) (K.faults out.new) (unread_message file)) }
     ensures read_calm { result ≢ 4 → F.faults files.new ≡ F.faults files.old }
     ensures write_fault { result ≡ 5 → Rose (K.faults out.old) (K.faults out.new) }
     ensures write_calm { (result ≡ 0) ⊎ (result ≡ 7) → K.faults out.new ≡ K.faults out.old }
 
     // Every file was opened, in order and once, where there is a report; none where the words are not served.
-    ensures all_opened { (result ≡ 0) ⊎ (result ≡ 5) ⊎ (result ≡ 7) → IsSomeAnd (replay_words (map string_bytes words.now)) (λ r. Opens r (length r.files + 1) (F.faults files.old) (F.opened files.old) (F.opened files.new)) }
+    ensures all_opened { (result ≡ 0) ⊎ (result ≡ 5) ⊎ (result ≡ 7) → IsSomeAnd (asked_words (map string_bytes words.now)) (λ a. OpensAll a (F.faults files.old) (F.opened files.old) (F.opened files.new)) }
     ensures none_opened { result ≡ 2 → F.opened files.new ≡ F.opened files.old }
 
     // The other statuses have their message, of which the sink has all or, after a fault, the first bytes.
     ensures statuses { (result ≡ 0) ⊎ (result ≡ 5) ⊎ (result ≡ 7) ⊎ ((stop : Stop) × (result ≡ status_of stop)) }
     ensures unserved { result ≡ 2 → WritesMessage (K.written out.old) (K.written out.new) (K.faults out.old) (K.faults out.new) USAGE_MESSAGE }
     ensures no_memory { result ≡ 6 → WritesMessage (K.written out.old) (K.written out.new) (K.faults out.old) (K.faults out.new) NO_MEMORY_MESSAGE }
-    ensures some_opened { result ≡ 6 → IsSomeAnd (replay_words (map string_bytes words.now)) (λ r. (count : ℕ) × (count ≤ length r.files + 1) × Opens r count (F.faults files.old) (F.opened files.old) (F.opened files.new)) }
+    ensures some_opened { result ≡ 6 → IsSomeAnd (asked_words (map string_bytes words.now)) (λ a. OpensSome a (F.faults files.old) (F.opened files.old) (F.opened files.new)) }
     ensures held { (n : List ℕ) → F.held files.new n ≡ F.held files.old n }
 {
     let answer = answer(alloc, words, files);

@@ -1,16 +1,15 @@
 //! `run`: runs command files, each in a thread of its own, and writes the report.
 ghost use Rattle.std.specs.Prelude.{◌≡◌, ◌≢◌, ◌↔◌, ◌⊎◌, ◌≤◌, ◌+◌, ℕ, List, None, map, length, IfOk, IfErr, IsSomeAnd, string_bytes};
 ghost use Rattle.std.specs.Io.KnownBytes.{Appends};
-ghost use Rattle.lin_report.specs.Text.{report_text};
 ghost use Rattle.script_reader.specs.declared.causes.Refusal.{Refusal};
 ghost use Rattle.nwf_run.specs.Outside.{Rose, AppendsPrefix};
 ghost use Rattle.nwf_run.specs.Reading.{FaultsAsTold, Opens, OpensUntil, Reaches, Refuses, StopsAt};
-ghost use Rattle.nwf_run.specs.Replaying.{OpensFor, StopsFor, WritesMessage};
-ghost use Rattle.nwf_run.specs.Running.{IsRunOfFiles, MakesRun, ThreadRun, ThreadRunMeetsHeadline};
-ghost use Rattle.nwf_run.specs.Runs.{Exhausts};
+ghost use Rattle.nwf_run.specs.Replaying.{IsRunFor, Makes, OpensAll, OpensFor, OpensSome, StopsFor, WritesMessage, text_for};
+ghost use Rattle.nwf_run.specs.Runs.{Exhausts, FilesRun, RunMeetsHeadline};
 ghost use Rattle.nwf_run.specs.Said.{said_run};
 ghost use Rattle.nwf_run.specs.Stops.{status_of, USAGE_MESSAGE, NO_MEMORY_MESSAGE, refused_message, unread_message};
-ghost use Rattle.nwf_run.specs.Words.{run_words};
+ghost use Rattle.nwf_run.specs.Words.{files_asked, run_asked, structure_of};
+ghost use Rattle.nwf_run.specs.Words.Asked.{a_run};
 ghost use Rattle.nwf_run.specs.declared.stops.Stop.{Stop};
 
 use crate::outside::{Files, Sink};
@@ -37,7 +36,7 @@ fn run_files<R: Threads + Wait + Sync, F: Files, G: Gate + Sync>(
     requires limit { words.now.limit ≤ 255 }
     requires some { 1 ≤ length words.now.files.now }
     requires few { length words.now.files.now ≤ 8 }
-    ensures text { IfOk result (λ made. MakesRun (F.tells files.old) (F.held files.old) (said_run words.now) made.text.items made.exhausted) }
+    ensures text { IfOk result (λ made. Makes (F.tells files.old) (F.held files.old) (a_run (said_run words.now)) made.text.items made.exhausted) }
     ensures stops { IfErr result (StopsAt (F.tells files.old) (F.held files.old) (said_run words.now)) }
     ensures faults { FaultsAsTold (F.faults files.old) (F.faults files.new) result }
     ensures opened { OpensUntil (said_run words.now) (F.faults files.old) (F.opened files.old) (F.opened files.new) result }
@@ -64,10 +63,10 @@ fn answer<R: Threads + Wait + Sync, F: Files, G: Gate + Sync>(
     files: &mut F,
     gate: &G,
 ) -> Result<Replayed, Stop>
-    ensures text { IfOk result (λ made. IsSomeAnd (run_words (map string_bytes words.now)) (λ r. MakesRun (F.tells files.old) (F.held files.old) r made.text.items made.exhausted)) }
-    ensures stops { IfErr result (StopsFor (F.tells files.old) (F.held files.old) (run_words (map string_bytes words.now))) }
+    ensures text { IfOk result (λ made. IsSomeAnd (run_asked (map string_bytes words.now)) (λ a. Makes (F.tells files.old) (F.held files.old) a made.text.items made.exhausted)) }
+    ensures stops { IfErr result (StopsFor (F.tells files.old) (F.held files.old) (run_asked (map string_bytes words.now))) }
     ensures faults { FaultsAsTold (F.faults files.old) (F.faults files.new) result }
-    ensures opened { OpensFor (run_words (map string_bytes words.now)) (F.faults files.old) (F.opened files.old) (F.opened files.new) result }
+    ensures opened { OpensFor (run_asked (map string_bytes words.now)) (F.faults files.old) (F.opened files.old) (F.opened files.new) result }
     ensures held { (n : List ℕ) → F.held files.new n ≡ F.held files.old n }
 {
     match run_words(words) {
@@ -94,37 +93,37 @@ pub fn run_main<R: Threads + Wait + Sync, F: Files, K: Sink, G: Gate + Sync>(
     gate: &G,
 ) -> u8
     // The words alone decide whether they are served.
-    ensures usage { (result ≡ 2) ↔ (run_words (map string_bytes words.now) ≡ None) }
+    ensures usage { (result ≡ 2) ↔ (run_asked (map string_bytes words.now) ≡ None) }
 
     // What is written for accepted files is the report of a run of them, in which every command was made and
     // answered, and which meets the headline in the order in which the threads made its steps: all of it or,
     // after a fault of the sink, its first bytes; the status says whether a call of it found no block left.
-    ensures done { result ≡ 0 → IsSomeAnd (run_words (map string_bytes words.now)) (λ r. (run : ThreadRun) × IsRunOfFiles (F.tells files.old) (F.held files.old) r run × ThreadRunMeetsHeadline r.served run × (¬ Exhausts run.report) × Appends (K.written out.old) (K.written out.new) (report_text run.report None)) }
-    ensures exhausted { result ≡ 7 → IsSomeAnd (run_words (map string_bytes words.now)) (λ r. (run : ThreadRun) × IsRunOfFiles (F.tells files.old) (F.held files.old) r run × ThreadRunMeetsHeadline r.served run × Exhausts run.report × Appends (K.written out.old) (K.written out.new) (report_text run.report None)) }
-    ensures cut { result ≡ 5 → IsSomeAnd (run_words (map string_bytes words.now)) (λ r. (run : ThreadRun) × IsRunOfFiles (F.tells files.old) (F.held files.old) r run × ThreadRunMeetsHeadline r.served run × AppendsPrefix (K.written out.old) (K.written out.new) (report_text run.report None)) }
+    ensures done { result ≡ 0 → IsSomeAnd (run_asked (map string_bytes words.now)) (λ a. (run : FilesRun) × IsRunFor (F.tells files.old) (F.held files.old) a run × RunMeetsHeadline (structure_of a) run × (¬ Exhausts run.report) × Appends (K.written out.old) (K.written out.new) (text_for a run.report)) }
+    ensures exhausted { result ≡ 7 → IsSomeAnd (run_asked (map string_bytes words.now)) (λ a. (run : FilesRun) × IsRunFor (F.tells files.old) (F.held files.old) a run × RunMeetsHeadline (structure_of a) run × Exhausts run.report × Appends (K.written out.old) (K.written out.new) (text_for a run.report)) }
+    ensures cut { result ≡ 5 → IsSomeAnd (run_asked (map string_bytes words.now)) (λ a. (run : FilesRun) × IsRunFor (F.tells files.old) (F.held files.old) a run × RunMeetsHeadline (structure_of a) run × AppendsPrefix (K.written out.old) (K.written out.new) (text_for a run.report)) }
 
     // A file is refused only where it is there and not accepted and each file before it is, and the message
     // names it. No later one was opened.
-    ensures refused { result ≡ 3 → IsSomeAnd (run_words (map string_bytes words.now)) (λ r. (file : ℕ) × (refusal : Refusal) × Refuses (F.tells files.old) (F.held files.old) r file refusal × Opens r (file + 1) (F.faults files.old) (F.opened files.old) (F.opened files.new) × WritesMessage (K.written out.old) (K.written out.new) (K.faults out.old) (K.faults out.new) (refused_message file refusal)) }
+    ensures refused { result ≡ 3 → IsSomeAnd (files_asked (run_asked (map string_bytes words.now))) (λ r. (file : ℕ) × (refusal : Refusal) × Refuses (F.tells files.old) (F.held files.old) r file refusal × Opens r (file + 1) (F.faults files.old) (F.opened files.old) (F.opened files.new) × WritesMessage (K.written out.old) (K.written out.new) (K.faults out.old) (K.faults out.new) (refused_message file refusal)) }
 
     // A fault is told only where the count of faults rose, of the file that was opened or read then: it stood
     // still before the last opening. Each file before that one is there and accepted. No other answer comes
     // after a fault.
     ensures read_fault { result ≡ 4 → Rose (F.faults files.old) (F.faults files.new) }
-    ensures unread { result ≡ 4 → IsSomeAnd (run_words (map string_bytes words.now)) (λ r. (file : ℕ) × Reaches (F.tells files.old) (F.held files.old) r file × Opens r (file + 1) (F.faults files.old) (F.opened files.old) (F.opened files.new) × WritesMessage (K.written out.old) (K.written out.new) (K.faults out.old) (K.faults out.new) (unread_message file)) }
+    ensures unread { result ≡ 4 → IsSomeAnd (files_asked (run_asked (map string_bytes words.now))) (λ r. (file : ℕ) × Reaches (F.tells files.old) (F.held files.old) r file × Opens r (file + 1) (F.faults files.old) (F.opened files.old) (F.opened files.new) × WritesMessage (K.written out.old) (K.written out.new) (K.faults out.old) (K.faults out.new) (unread_message file)) }
     ensures read_calm { result ≢ 4 → F.faults files.new ≡ F.faults files.old }
     ensures write_fault { result ≡ 5 → Rose (K.faults out.old) (K.faults out.new) }
     ensures write_calm { (result ≡ 0) ⊎ (result ≡ 7) → K.faults out.new ≡ K.faults out.old }
 
     // Every file was opened, in order and once, where there is a report; none where the words are not served.
-    ensures all_opened { (result ≡ 0) ⊎ (result ≡ 5) ⊎ (result ≡ 7) → IsSomeAnd (run_words (map string_bytes words.now)) (λ r. Opens r (length r.files + 1) (F.faults files.old) (F.opened files.old) (F.opened files.new)) }
+    ensures all_opened { (result ≡ 0) ⊎ (result ≡ 5) ⊎ (result ≡ 7) → IsSomeAnd (run_asked (map string_bytes words.now)) (λ a. OpensAll a (F.faults files.old) (F.opened files.old) (F.opened files.new)) }
     ensures none_opened { result ≡ 2 → F.opened files.new ≡ F.opened files.old }
 
     // The other statuses have their message, of which the sink has all or, after a fault, the first bytes.
     ensures statuses { (result ≡ 0) ⊎ (result ≡ 5) ⊎ (result ≡ 7) ⊎ ((stop : Stop) × (result ≡ status_of stop)) }
     ensures unserved { result ≡ 2 → WritesMessage (K.written out.old) (K.written out.new) (K.faults out.old) (K.faults out.new) USAGE_MESSAGE }
     ensures no_memory { result ≡ 6 → WritesMessage (K.written out.old) (K.written out.new) (K.faults out.old) (K.faults out.new) NO_MEMORY_MESSAGE }
-    ensures some_opened { result ≡ 6 → IsSomeAnd (run_words (map string_bytes words.now)) (λ r. (below : ℕ) × (below ≤ length r.files + 1) × Opens r below (F.faults files.old) (F.opened files.old) (F.opened files.new)) }
+    ensures some_opened { result ≡ 6 → IsSomeAnd (run_asked (map string_bytes words.now)) (λ a. OpensSome a (F.faults files.old) (F.opened files.old) (F.opened files.new)) }
     ensures held { (n : List ℕ) → F.held files.new n ≡ F.held files.old n }
 {
     let answer = answer(rt, alloc, words, files, gate);

@@ -22,7 +22,7 @@ use schedule_runs::drive;
 use schedule_runs::laws::runs_in_order;
 use std::alloc::Global;
 
-/// The text of a report, and whether a call of it found no block left.
+/// The text of a report, or of its summary, and whether a call of it found no block left.
 #[derive(Drop)]
 pub struct Replayed {
     pub text: Vec<u8>,
@@ -52,8 +52,8 @@ pub fn any_exhausted(receipts: &[Receipt]) -> bool
         .any(|receipt| matches!(receipt.reply, Reply::Exhausted))
 }
 
-/// Every run over command files can be written.
-fn runs_can_be_written<C: Normalized>()
+/// Every run over command files can be written, in any order of the seats.
+pub fn runs_can_be_written<C: Normalized>()
     ensures { RunsCanBeWritten C.form }
 {}
 

@@ -2,6 +2,7 @@
 mod bytes;
 mod faults;
 mod lists;
+mod loads;
 mod meeting;
 mod queues;
 mod refusals;

@@ -4,9 +4,8 @@ ghost use Rattle.node_arena.specs.Opening.{IsLaidOut};
 ghost use Rattle.lin_report.specs.CommandFiles.{IsCommandFile};
 ghost use Rattle.nwf_run.specs.Words.{client_of};
 ghost use Rattle.nwf_run.specs.Running.{IsThreaded, MakesThreadReport};
-ghost use Rattle.nwf_run.specs.Writable.{OrdersCanBeWritten};
 
-use crate::running::{Replayed, any_exhausted, commands_of};
+use crate::running::{Replayed, any_exhausted, commands_of, runs_can_be_written};
 use crate::words::Served;
 use fast_slow_engine::Setup;
 use harris_list::HarrisList;
@@ -19,11 +18,6 @@ use std::thread::Threads;
 use thread_laws::laws::threads_meet_headline;
 use thread_runs::Gate;
 use thread_runs::run::run;
-
-/// Every run over command files can be written, in any order of the seats.
-fn orders_can_be_written<C: Normalized>()
-    ensures { OrdersCanBeWritten C.form }
-{}
 
 /// The report of a structure's run with threads. All memory of the run and of the report is taken before the
 /// first thread starts.
@@ -52,7 +46,7 @@ fn threaded<R: Threads + Wait + Sync, C: Normalized + Send + Sync, G: Gate + Syn
     let (mut lines, _) = run::<R, C, G>(rt, alloc, setup, commands, gate)?;
     lines.sort_unstable_by_key(|line| line.begin);
     threads_meet_headline::<C>();
-    orders_can_be_written::<C>();
+    runs_can_be_written::<C>();
     write_report(&mut text, &lines, &[], None);
     let exhausted = any_exhausted(&lines);
     Ok(Replayed { text, exhausted })

@@ -7,7 +7,7 @@ ghost use Rattle.nwf_run.specs.Said.{said_run};
 use lin_report::Client;
 use script_reader::number_up_to;
 
-/// The structures that a replay serves, each named by its word.
+/// The structures that are served, each named by its word.
 #[derive(Clone, Copy, Debug, PartialEq, Eq)]
 pub enum Served {
     /// Michael and Scott's queue.
@@ -18,7 +18,7 @@ pub enum Served {
 
 impl Served {
     /// The structure that a word names.
-    fn named(word: &str) -> Option<Served>
+    pub fn named(word: &str) -> Option<Served>
         ensures { result ≡ served_named word.now }
     {
         match word {
@@ -60,9 +60,9 @@ pub struct ReplayWords<'a> {
 }
 
 /// The greatest number of blocks.
-const MAX_CAP: u32 = 65_536;
+pub const MAX_CAP: u32 = 65_536;
 /// The greatest contention limit.
-const MAX_LIMIT: u32 = 255;
+pub const MAX_LIMIT: u32 = 255;
 /// The most command files: one for each seat.
 const MAX_FILES: usize = 8;
 
@@ -124,7 +124,7 @@ pub fn run_words(words: &[String]) -> Option<RunWords<'_>>
 }
 
 /// The number that a word writes, where it is in range.
-fn number_in(least: u32, most: u32, word: &str) -> Option<u32>
+pub fn number_in(least: u32, most: u32, word: &str) -> Option<u32>
     ensures number { result ≡ number_in least most word.now }
     ensures range { IfSome result (λ n. (least ≤ n) × (n ≤ most)) }
 {

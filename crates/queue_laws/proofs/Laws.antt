@@ -11,6 +11,7 @@ use Rattle.queue_laws.specs.Wrap.{wrap_asked}
 use Rattle.queue_laws.specs.Shape.{IsQueue}
 use Rattle.queue_laws.specs.Knowledge.{IsDead}
 use Rattle.queue_laws.specs.Form.{queue_form}
+use Rattle.queue_laws.proofs.Fitting.{begun_fits, found_fits, wrapped_fits}
 use Rattle.queue_laws.proofs.Places.{note_not_versioned}
 use Rattle.queue_laws.proofs.Later.{later, went, went_later, asked_clear, wrap_asked_clear, some_entry}
 use Rattle.queue_laws.proofs.Kept.{knows_later, follows_later, dead_later}
@@ -69,4 +70,7 @@ laws =
       dead_unchanged = dead_unchanged;
       dead_first = λ world list searched since entry queue dead offer fresh listed. dead_first world list entry dead listed;
       beside = λ world list entry queue e. absurd (none_beside list e);
+      answers_fit = λ world after seen searched op since command queue asks knows requested. found_fits searched seen;
+      begun_fits = λ world list searched since stop queue offer stopped. begun_fits list.call.op list.entries stop;
+      wraps_fit = λ world after seen wrap list stop command queue going follows requested. wrapped_fits wrap seen;
     }

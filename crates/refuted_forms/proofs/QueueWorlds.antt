@@ -14,7 +14,7 @@ use Rattle.node_arena.specs.Opening.{opening_word, dummy_word}
 use Rattle.normal_traits.specs.declared.form.Found.{Found}
 use Rattle.normal_traits.specs.declared.form.Wrapped.{Wrapped}
 use Rattle.normal_traits.specs.declared.lists.Entry.{Entry}
-use Rattle.normal_traits.specs.World.{Listed, World, is_word}
+use Rattle.normal_traits.specs.World.{Listed, Maker, Cause, World, is_word}
 use Rattle.normal_traits.specs.World.Maker.{By}
 use Rattle.normal_traits.specs.NormalForm.{NormalForm}
 use Rattle.normal_traits.specs.Steps.{IsStep, IsOffered, IsFilled, IsExchanged, exchanged, put_word, using_block}
@@ -60,9 +60,10 @@ valued = put_word (node_place (reference_to 1 1) NODE_VALUE) 7 noted
 abbrev pub filled : World
 filled = put_word (node_place (reference_to 1 1) NODE_NEXT) 0 valued
 
-abbrev pub linked : World
-linked =
-    let after = exchanged queue_form (By the_list 0) (Some the_list) the_entry the_entry.to filled in
+-- whatever the cause of an exchange is said to be
+abbrev pub linked : (World → Maker → Entry → Cause) → World
+linked cause =
+    let after = exchanged (record queue_form { cause_of = cause }) (By the_list 0) (Some the_list) the_entry the_entry.to filled in
     record { words = after.words; changes = after.changes; used = using_block 1 after.used; journal = after.journal }
 
 pub the_command : IsCommandOf queue_form.client the_put
@@ -77,9 +78,9 @@ knows_filled = record {
   learnt = (record { names = refl; passed = omega arith; within = omega arith }, λ clear. inl refl, refl, refl);
 }
 
-pub knows_linked : Knows the_search the_put linked 0
+pub knows_linked : (cause : World → Maker → Entry → Cause) → Knows the_search the_put (linked cause) 0
 unfolding versioned_value versioned_bit versioned_version versioned_word changed_word block_place node_place node_named opening_word
-knows_linked = record {
+knows_linked cause = record {
   serves = refl;
   began = omega arith;
   learnt = (record { names = refl; passed = omega arith; within = omega arith }, λ clear. inr (omega arith), refl, refl);
@@ -101,10 +102,10 @@ pub is_exchanged : IsExchanged the_entry the_entry.to
 unfolding versioned_value versioned_version versioned_word changed_word cleared_word
 is_exchanged = record { to = refl; raised = refl }
 
--- whatever the search finds and the wrap-up says, the laws give the shape of these worlds
-module _ (found : QueueSearch → Seen → Found) (begun : Op → List Entry → ℕ → Wrapped) where
+-- whatever the search finds, the wrap-up says and the causes are, the laws give the shape of these worlds
+module _ (found : QueueSearch → Seen → Found) (begun : Op → List Entry → ℕ → Wrapped) (cause : World → Maker → Entry → Cause) where
   abbrev pub form : NormalForm QueueSearch QueueWrap
-  form = record queue_form { found_of = found; wrap_begun_of = begun }
+  form = record queue_form { found_of = found; wrap_begun_of = begun; cause_of = cause }
 
   pub offered_in : (world : World) → Knows the_search the_put world 0 → IsOffered form world the_list the_search 0
   offered_in world knows = record { command = the_command; knows = knows; ready = tt; small = omega arith; entries = refl }
@@ -121,10 +122,10 @@ module _ (found : QueueSearch → Seen → Found) (begun : Op → List Entry →
       let four = elsewhere_kept laws noted (node_place (reference_to 1 1) NODE_VALUE) 7 refl three in
       elsewhere_kept laws valued (node_place (reference_to 1 1) NODE_NEXT) 0 refl four
 
-  pub links : IsStep form filled linked
+  pub links : IsStep form filled (linked cause)
   unfolding block_place node_place node_named opening_word versioned_value versioned_word
   links =
       first_of_block the_list the_search 0 the_entry the_entry.to (offered_in filled knows_filled) (λ other j same took. took.won) (omega arith) refl is_filled refl refl is_exchanged
 
-  pub linked_shape : Laws form → IsQueue linked
-  linked_shape laws = laws.shape_kept filled linked (filled_shape laws) links
+  pub linked_shape : Laws form → IsQueue (linked cause)
+  linked_shape laws = laws.shape_kept filled (linked cause) (filled_shape laws) links

@@ -1,5 +1,5 @@
 -- The queue with one function of its form replaced by a wrong one.
-use Rattle.std.specs.Prelude.{ℕ, ◌==◌, if◌then◌else◌, List}
+use Rattle.std.specs.Prelude.{ℕ, ◌/◌, ◌==◌, if◌then◌else◌, List}
 use Rattle.lin_report.specs.declared.calls.Op.{Op}
 use Rattle.lin_report.specs.declared.calls.Reply.TheVariants.{Empty}
 use Rattle.lin_report.specs.declared.calls.Outcome.TheVariants.{Plain}
@@ -10,6 +10,7 @@ use Rattle.normal_traits.specs.declared.form.Found.TheVariants.{Going, Answer}
 use Rattle.normal_traits.specs.declared.form.Wrapped.{Wrapped}
 use Rattle.normal_traits.specs.declared.form.Wrapped.TheVariants.{Restart}
 use Rattle.normal_traits.specs.declared.lists.Entry.{Entry}
+use Rattle.normal_traits.specs.World.{World, Maker, Cause}
 use Rattle.normal_traits.specs.NormalForm.{NormalForm}
 use Rattle.queue_laws.specs.declared.states.QueueSearch.{QueueSearch}
 use Rattle.queue_laws.specs.declared.states.QueueSearch.TheVariants.{TakeTail}
@@ -30,3 +31,10 @@ restarts op entries stop = Restart
 
 abbrev pub queue_that_restarts : NormalForm QueueSearch QueueWrap
 queue_that_restarts = record queue_form { wrap_begun_of = restarts }
+
+-- an exchange is made for the node that it brings in, whether it links the node or moves head or tail to it
+abbrev pub cause_of_the_node : World → Maker → Entry → Cause
+cause_of_the_node world maker entry = record { block = versioned_value entry.to / 4; kind = 0 }
+
+abbrev pub queue_of_one_cause : NormalForm QueueSearch QueueWrap
+queue_of_one_cause = record queue_form { cause_of = cause_of_the_node }

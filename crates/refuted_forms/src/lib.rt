@@ -3,7 +3,7 @@
 
 ghost use Rattle.normal_traits.specs.Laws.{Laws};
 ghost use Rattle.refuted_forms.specs.ListForms.{list_from_a_set_bit, list_past_a_mark};
-ghost use Rattle.refuted_forms.specs.QueueForms.{queue_that_restarts, queue_without_a_look};
+ghost use Rattle.refuted_forms.specs.QueueForms.{queue_of_one_cause, queue_that_restarts, queue_without_a_look};
 
 /// A take that answers `empty` where the tail names the head's node, without a look at the node's next word,
 /// misses a value whose put hasn't moved the tail yet.
@@ -14,6 +14,12 @@ pub fn empty_without_a_look()
 /// A wrap-up that restarts after its list's entry made the change would have the change made twice.
 pub fn restart_after_the_change()
     ensures { ¬ Laws queue_that_restarts }
+{}
+
+/// Where the link of a node and the move of the tail to it have one cause, causes don't tell won exchanges
+/// apart.
+pub fn one_cause_for_two()
+    ensures { ¬ Laws queue_of_one_cause }
 {}
 
 /// An add that names its list from a word whose bit is set exchanges a word that an undecided list may still

@@ -15,12 +15,12 @@ use Rattle.run_history.specs.Moves.{WorldOpens}
 use Rattle.run_history.proofs.OwnLemmas.{of_words}
 use Rattle.run_history.proofs.WordLemmas.{word_in, same_words}
 
--- the opening word of a place behind the first words is 0
-behind_zero : (c : Client) (place : ℕ) → 32 ≤ place → opening_word c place ≡ 0
+-- the opening word of a place behind block 0 is 0
+behind_zero : (c : Client) (place : ℕ) → 64 ≤ place → opening_word c place ≡ 0
 unfolding opening_word
 behind_zero client.Queue place behind = grind (arith, common_steps, nat_tests)
 behind_zero client.List place behind = refl
-behind_zero client.Tree place behind = refl
+behind_zero client.Tree place behind = grind (arith, common_steps, nat_tests)
 behind_zero client.Buckets place behind = refl
 
 opens_at : (c : Client) (cap place : ℕ) → word_in (opening_words c cap) place ≡ opening_word c place

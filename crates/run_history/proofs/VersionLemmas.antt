@@ -71,11 +71,18 @@ unfolding versioned_word
 opening_either true = omega arith
 opening_either false = omega arith
 
+tree_either : (a b c d : Bool) → (if a then 1048576 else (if b then 1048577 else (if c then 1 else (if d then 3 else 0)))) < 2 ^ 24
+tree_either true b c d = omega arith
+tree_either false true c d = omega arith
+tree_either false false true d = omega arith
+tree_either false false false true = omega arith
+tree_either false false false false = omega arith
+
 opening_small : (c : Client) (place : ℕ) → opening_word c place < 2 ^ 24
 unfolding opening_word versioned_word
 opening_small client.Queue place = opening_either (place == 20 || place == 21)
 opening_small client.List place = omega arith
-opening_small client.Tree place = omega arith
+opening_small client.Tree place = tree_either (place == 44) (place == 49 || place == 54) (place == 51) (place == 52)
 opening_small client.Buckets place = omega arith
 
 -- ---- the journal

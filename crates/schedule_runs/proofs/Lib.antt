@@ -2,3 +2,4 @@ pub mod SpanLemmas
 pub mod OrderLemmas
 pub mod NameLemmas
 pub mod LoopLemmas
+pub mod RoundLemmas

@@ -16,7 +16,7 @@ module _ {S W : Type 0} (form : NormalForm S W) where
 
   module _ (setup : Setup) (files : List (List Op)) where
     -- a step of a seat puts it in front of the order
-    stepped_in : (seat : ℕ) (order : List ℕ) → core_stepped form seat (core_in form setup files order) ≡ core_in form setup files (seat ∷ order)
+    pub stepped_in : (seat : ℕ) (order : List ℕ) → core_stepped form seat (core_in form setup files order) ≡ core_in form setup files (seat ∷ order)
     stepped_in seat order =
         let moves = moves_over form setup files order in
         ap (λ state. record { setup = setup; files = files; state = state }) (state_in setup (next_move files seat (run_of form setup moves)) moves)

@@ -118,31 +118,50 @@ fn files_that_are_refused(rt: HostRuntime) -> Result<(), Fail> {
     compare(&rt, rt.alloc(), &REFUSED)
 }
 
+/// Words of which none is served.
+const UNSERVED: [&str; 36] = [
+    "",
+    "replay",
+    "replay stack 8 3 s f0",
+    "replay tree 8 3 s f0",
+    "replay buckets 8 3 s f0",
+    "replay lists 8 3 s f0",
+    "replay queues 8 3 s f0",
+    "run queue 8 3 f0",
+    "sweep queue 8 3 0 f0",
+    "check queue report order",
+    "replay queue 0 3 s f0",
+    "replay queue 65537 3 s f0",
+    "replay queue 8 0 s f0",
+    "replay queue 8 256 s f0",
+    "replay queue  3 s f0",
+    "replay queue +8 3 s f0",
+    "replay queue 99999999999999999999999 3 s f0",
+    "replay queue 8 3 s",
+    "replay queue 8 3 s f0 f0 f0 f0 f0 f0 f0 f0 f0",
+    "load",
+    "load stack 8 3 1 1 0",
+    "load tree 8 3 1 1 0",
+    "load queue 0 3 1 1 0",
+    "load queue 65537 3 1 1 0",
+    "load queue 8 0 1 1 0",
+    "load queue 8 256 1 1 0",
+    "load queue 8 3 0 1 0",
+    "load queue 8 3 9 1 0",
+    "load queue 8 3 1 0 0",
+    "load queue 8 3 1 65536 0",
+    "load queue 8 3 1 1 4294967296",
+    "load queue 8 3 1 1 -1",
+    "load queue 8 3 1 one 0",
+    "load queue 8 3 1 1",
+    "load queue 8 3 1 1 0 0",
+    "loads queue 8 3 1 1 0",
+];
+
 #[test]
 fn words_that_are_not_served(rt: HostRuntime) -> Result<(), Fail> {
     let alloc = rt.alloc();
-    for words in [
-        "",
-        "replay",
-        "replay stack 8 3 s f0",
-        "replay tree 8 3 s f0",
-        "replay buckets 8 3 s f0",
-        "replay lists 8 3 s f0",
-        "replay queues 8 3 s f0",
-        "load queue 8 3 1 1 0",
-        "run queue 8 3 f0",
-        "sweep queue 8 3 0 f0",
-        "check queue report order",
-        "replay queue 0 3 s f0",
-        "replay queue 65537 3 s f0",
-        "replay queue 8 0 s f0",
-        "replay queue 8 256 s f0",
-        "replay queue  3 s f0",
-        "replay queue +8 3 s f0",
-        "replay queue 99999999999999999999999 3 s f0",
-        "replay queue 8 3 s",
-        "replay queue 8 3 s f0 f0 f0 f0 f0 f0 f0 f0 f0",
-    ] {
+    for words in UNSERVED {
         let mut files = files_of(alloc, "0 end/", "take/", &[], AMPLE)?;
         let mut sink = SinkInMemory::with_room(alloc, AMPLE, Vec::new(alloc))?;
         assert_eq!(rt;

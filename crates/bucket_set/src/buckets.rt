@@ -1,0 +1,90 @@
+//! The buckets as a structure in normalized form: each step is one of the list of a key.
+ghost use Rattle.std.specs.Prelude.{◌≡◌, ◌≤◌, ◌<◌};
+ghost use Rattle.bucket_set.specs.Buckets.{bucket_count, start_of};
+
+use harris_list::{HarrisList, begun_at};
+use lin_report::{Client, Op};
+use list_laws::{ListSearch, ListWrap};
+use node_arena::places::FIRST_WORDS;
+use normal_traits::{Found, List, Normalized, Offer, Wrapped};
+use step_memory::{Request, Seen};
+
+/// The most buckets that there can be.
+const MOST: u32 = 32;
+
+/// A set whose keys are spread over N lists: over one where N is 0, and over 32 where it is above.
+pub struct BucketSet<const N: u32>;
+
+/// How many buckets there are.
+fn bucket_count(asked: u32) -> u32
+    ensures count { result ≡ bucket_count asked }
+    ensures some { 1 ≤ result }
+    ensures few { result ≤ 32 }
+{
+    match asked {
+        0 => 1,
+        1..=MOST => asked,
+        _ => MOST,
+    }
+}
+
+/// The place at which the list of a key begins.
+fn start_of(asked: u32, key: u32) -> u32
+    ensures { result ≡ start_of asked key }
+{
+    FIRST_WORDS + key % bucket_count(asked)
+}
+
+impl<const N: u32> Normalized for BucketSet<N> {
+    ghost use Rattle.std.specs.Prelude.{refl};
+    ghost use Rattle.lin_report.specs.declared.calls.Client.{Client};
+    ghost use Rattle.list_laws.specs.Form.{list_form};
+    ghost use Rattle.bucket_set.specs.Buckets.{buckets};
+    ghost use Rattle.bucket_set.specs.ProvedLaws.{bucket_laws};
+
+    type Search = ListSearch;
+
+    type Wrap = ListWrap;
+
+    const CLIENT: Client = Client::Buckets;
+
+    ghost CLIENT = { Client.Buckets };
+
+    ghost form = { list_form (buckets N) };
+
+    fn needs_block(op: Op) -> bool {
+        HarrisList::needs_block(op)
+    }
+
+    fn begin(op: Op) -> ListSearch {
+        begun_at(start_of(N, op.key), op)
+    }
+
+    fn request(search: &ListSearch) -> Request {
+        HarrisList::request(search)
+    }
+
+    fn feed(search: &mut ListSearch, seen: Seen) -> Found {
+        HarrisList::feed(search, seen)
+    }
+
+    fn offer(search: &ListSearch, op: Op, block: u32) -> Offer {
+        HarrisList::offer(search, op, block)
+    }
+
+    fn begin_wrap(op: Op, list: &List, stop: u32) -> (ListWrap, Wrapped) {
+        HarrisList::begin_wrap(op, list, stop)
+    }
+
+    fn wrap_request(wrap: &ListWrap) -> Request {
+        HarrisList::wrap_request(wrap)
+    }
+
+    fn feed_wrap(wrap: &mut ListWrap, seen: Seen) -> Wrapped {
+        HarrisList::feed_wrap(wrap, seen)
+    }
+
+    ghost laws = { bucket_laws N };
+
+    ghost named = { refl };
+}

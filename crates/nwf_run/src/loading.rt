@@ -1,0 +1,66 @@
+//! Runs generated files in rounds and makes the text of the summary.
+ghost use Rattle.std.specs.Prelude.{◌≡◌, ◌≤◌, IfOk};
+ghost use Rattle.node_arena.specs.Opening.{IsLaidOut};
+ghost use Rattle.nwf_run.specs.Loads.{IsLoaded, MakesSummary};
+
+use crate::load_words::LoadWords;
+use crate::running::{Replayed, any_exhausted, runs_can_be_written};
+use crate::words::Served;
+use event_core::Core;
+use fast_slow_engine::Setup;
+use generated_files::generate;
+use generated_files::laws::each_runs;
+use harris_list::HarrisList;
+use lin_report::{NoMemory, report_room, write_summary};
+use ms_queue::MsQueue;
+use normal_traits::Normalized;
+use run_history::headline::files_meet_headline;
+use schedule_runs::laws::steps_run_in_order;
+use schedule_runs::take_rounds;
+use std::alloc::Global;
+
+/// How many rounds there are at most for each call of a seat.
+const ROUNDS_OF_A_CALL: u32 = 16_384;
+
+/// The summary of a structure's run. All memory of the run and of the text is taken before the run is made.
+fn summary_of<C: Normalized>(alloc: Global, load: LoadWords) -> Result<Replayed, NoMemory>
+    requires client { IsLaidOut C.form.client }
+    requires cap { (1 ≤ load.cap) × (load.cap ≤ 65536) }
+    requires limit { load.limit ≤ 255 }
+    requires threads { (1 ≤ load.threads) × (load.threads ≤ 8) }
+    requires calls { load.calls ≤ 65535 }
+    ensures { IfOk result (λ made. IsLoaded C.form load made.text.items made.exhausted) }
+{
+    let setup = Setup {
+        seats: load.threads,
+        cap: load.cap,
+        limit: load.limit,
+    };
+    let mut text = report_room(alloc, 0)?;
+    each_runs();
+    let files = generate(alloc, C::CLIENT, load.seed, load.threads, load.calls)?;
+    let mut core = Core::<C>::new(alloc, setup, files)?;
+    take_rounds(&mut core, load.threads, load.calls * ROUNDS_OF_A_CALL);
+    core.sort_by_begin();
+    let pending = core.pending();
+    steps_run_in_order::<C>();
+    runs_can_be_written::<C>();
+    files_meet_headline::<C>();
+    write_summary(&mut text, core.receipts(), pending.as_slice(), Some(0));
+    let exhausted = any_exhausted(core.receipts());
+    Ok(Replayed { text, exhausted })
+}
+
+/// The summary of the run of a structure by its name.
+pub fn make_summary(alloc: Global, load: LoadWords) -> Result<Replayed, NoMemory>
+    requires cap { (1 ≤ load.cap) × (load.cap ≤ 65536) }
+    requires limit { load.limit ≤ 255 }
+    requires threads { (1 ≤ load.threads) × (load.threads ≤ 8) }
+    requires calls { load.calls ≤ 65535 }
+    ensures { IfOk result (λ made. MakesSummary load.served load made.text.items made.exhausted) }
+{
+    match load.served {
+        Served::Queue => summary_of::<MsQueue>(alloc, load),
+        Served::List => summary_of::<HarrisList>(alloc, load),
+    }
+}

@@ -1,0 +1,86 @@
+//! Summaries of loads.
+use super::rows::{AMPLE, Row, compare, files_of, replayed};
+use crate::outside::SinkInMemory;
+use std::alloc::{AllocError, Global};
+use std::test::Fail;
+
+/// Loads of one seat, whose calls come one after the other: the first one that finds no block left is answered so, and
+/// so is each later one that wants a block.
+const ONE_SEAT: [Row; 6] = [
+    (
+        "load list 65536 3 1 100 7",
+        "",
+        "",
+        0,
+        "calls 100 fast 100 slow 0 exhausted 0 pending 0 overtaken 0/",
+    ),
+    (
+        "load queue 65536 255 01 00100 0",
+        "",
+        "",
+        0,
+        "calls 100 fast 100 slow 0 exhausted 0 pending 0 overtaken 0/",
+    ),
+    (
+        "load queue 1 3 1 20 7",
+        "",
+        "",
+        7,
+        "calls 20 fast 20 slow 0 exhausted 13 pending 0 overtaken 0/",
+    ),
+    (
+        "load list 1 3 1 100 7",
+        "",
+        "",
+        7,
+        "calls 100 fast 100 slow 0 exhausted 29 pending 0 overtaken 0/",
+    ),
+    (
+        "load list 2 3 1 100 7",
+        "",
+        "",
+        7,
+        "calls 100 fast 100 slow 0 exhausted 27 pending 0 overtaken 0/",
+    ),
+    (
+        "load queue 3 1 1 10 4294967295",
+        "",
+        "",
+        7,
+        "calls 10 fast 10 slow 0 exhausted 2 pending 0 overtaken 0/",
+    ),
+];
+
+#[test]
+fn loads_of_one_seat(rt: HostRuntime) -> Result<(), Fail> {
+    compare(&rt, rt.alloc(), &ONE_SEAT)
+}
+
+/// The status and the text of a load over files of which each call fails.
+fn loaded(alloc: Global, words: &str, room: usize) -> Result<(u8, SinkInMemory), AllocError> {
+    let mut files = files_of(alloc, "", "", &[0, 1, 2], AMPLE)?;
+    let mut sink = SinkInMemory::with_room(alloc, room, Vec::new(alloc))?;
+    let status = replayed(alloc, words, &mut files, &mut sink)?;
+    Ok((status + files.calls() as u8, sink))
+}
+
+#[test]
+fn eight_seats_take_turns(rt: HostRuntime) -> Result<(), Fail> {
+    let alloc = rt.alloc();
+    let words = "load list 65536 3 8 2000 42";
+    let (status, first) = loaded(alloc, words, AMPLE)?;
+    let (_, second) = loaded(alloc, words, AMPLE)?;
+    assert_eq!(rt; status, 0);
+    assert!(rt; first.bytes().starts_with(b"calls 16000 fast "));
+    assert!(rt; first.bytes().ends_with(b" exhausted 0 pending 0 overtaken 0\n"));
+    assert_eq!(rt; first.bytes(), second.bytes());
+    Ok(())
+}
+
+#[test]
+fn a_summary_that_is_cut(rt: HostRuntime) -> Result<(), Fail> {
+    let (status, sink) = loaded(rt.alloc(), "load queue 8 3 2 1 0", 10)?;
+    assert_eq!(rt; status, 5);
+    assert_eq!(rt; sink.bytes(), b"calls 2 fa".as_slice());
+    Ok(())
+}

@@ -1,0 +1,5 @@
+pub mod Blocks
+pub mod Helpers
+pub mod Others
+pub mod Records
+pub mod LawLemmas

@@ -1,0 +1,6 @@
+-- The steps on records, and what a record tells.
+pub mod RecordSteps
+pub mod Names
+pub mod Settles
+pub mod Puts
+pub mod Naming

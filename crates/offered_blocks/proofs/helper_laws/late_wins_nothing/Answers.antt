@@ -1,0 +1,5 @@
+use Rattle.offered_blocks.proofs.LawLemmas.{late_wins_nothing}
+use Rattle.offered_blocks.proofs.helper_laws.late_wins_nothing.Goals as goal
+
+pub returns : goal.returns
+returns g c = late_wins_nothing g.C.Normalized.form g.met.C.Normalized.laws

@@ -1,0 +1,5 @@
+use Rattle.offered_blocks.proofs.LawLemmas.{entries_beside}
+use Rattle.offered_blocks.proofs.other_laws.entries_beside.Goals as goal
+
+pub returns : goal.returns
+returns g c = entries_beside g.C.Normalized.form g.met.C.Normalized.laws

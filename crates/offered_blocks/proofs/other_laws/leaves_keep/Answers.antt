@@ -1,0 +1,5 @@
+use Rattle.offered_blocks.proofs.LawLemmas.{leaves_keep}
+use Rattle.offered_blocks.proofs.other_laws.leaves_keep.Goals as goal
+
+pub returns : goal.returns
+returns g c = leaves_keep g.C.Normalized.form g.met.C.Normalized.laws
