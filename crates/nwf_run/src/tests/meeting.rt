@@ -117,7 +117,8 @@ fn lines_like(text: &str, first: &str, last: &str) -> u32 {
 fn what_is_printed_is_what_the_threads_did(rt: HostRuntime) -> Result<(), Fail> {
     let alloc = rt.alloc();
     let gate = Meeting::new(alloc)?;
-    let commands = "put 7/take/|put 7/take/|put 7/take/|put 7/take/|put 7/take/|put 7/take/|put 7/take/|put 7/take/";
+    let commands =
+        "put 7/take/|put 7/take/|put 7/take/|put 7/take/|put 7/take/|put 7/take/|put 7/take/|put 7/take/";
     let mut files = files_of(alloc, "", commands, &[], AMPLE)?;
     let mut sink = SinkInMemory::with_room(alloc, AMPLE, Vec::new(alloc))?;
     let words = "run queue 65536 3 f0 f1 f2 f3 f4 f5 f6 f7";

@@ -77,12 +77,7 @@ const ROWS: [Row; 12] = [
         3,
         "nwf: refused file 2 line 3 cause 2/",
     ),
-    (
-        "run queue 8 3 g",
-        "take/",
-        4,
-        "nwf: read fault file 1/",
-    ),
+    ("run queue 8 3 g", "take/", 4, "nwf: read fault file 1/"),
     (
         "run queue 8 3 f0 f0 g f1",
         "take/|tak/",
@@ -150,7 +145,14 @@ fn faults_of_runs(rt: HostRuntime) -> Result<(), Fail> {
     ] {
         let mut files = files_of(alloc, "", "take/|put 7/", &[fails], 1)?;
         let mut sink = SinkInMemory::with_room(alloc, AMPLE, Vec::new(alloc))?;
-        let got = ran(&rt, alloc, "run queue 8 3 f0 f1", &mut files, &mut sink, &NoGate)?;
+        let got = ran(
+            &rt,
+            alloc,
+            "run queue 8 3 f0 f1",
+            &mut files,
+            &mut sink,
+            &NoGate,
+        )?;
         assert_eq!(rt; got, 4);
         assert_eq!(rt; sink.bytes(), message.as_bytes());
         assert_eq!(rt; files.calls(), fails + 1);
@@ -160,7 +162,14 @@ fn faults_of_runs(rt: HostRuntime) -> Result<(), Fail> {
         let mut files = files_of(alloc, "", "take/", &[], AMPLE)?;
         let fails = Vec::from_slice(alloc, &[fails])?;
         let mut sink = SinkInMemory::in_pieces(alloc, room, fails, AMPLE)?;
-        let got = ran(&rt, alloc, "run queue 8 3 f0", &mut files, &mut sink, &NoGate)?;
+        let got = ran(
+            &rt,
+            alloc,
+            "run queue 8 3 f0",
+            &mut files,
+            &mut sink,
+            &NoGate,
+        )?;
         assert_eq!(rt; got, 5);
         assert_eq!(rt; sink.bytes(), bytes.as_bytes());
     }
@@ -182,7 +191,11 @@ fn the_first_word_decides(rt: HostRuntime) -> Result<(), Fail> {
             "0 1 take empty 0 1 fast/calls 1 fast 1 slow 0 exhausted 0 pending 0 overtaken 0/",
         ),
         ("run queue 8 3 s", 3, "nwf: refused file 1 line 1 cause 1/"),
-        ("replay queue 8 3 f0 s", 3, "nwf: refused file 0 line 1 cause 1/"),
+        (
+            "replay queue 8 3 f0 s",
+            3,
+            "nwf: refused file 0 line 1 cause 1/",
+        ),
         ("runs queue 8 3 f0", 2, "nwf: usage/"),
         ("", 2, "nwf: usage/"),
     ] {
