@@ -1,7 +1,7 @@
 //! `nwf`: wait-free simulation of normalized lock-free structures, from command files to a report.
 #![tactic(auto)]
 
-use nwf_run::{HostFiles, HostOut, replay_main};
+use nwf_run::{HostFiles, HostOut, NoGate, nwf_main};
 use std::process::ExitCode;
 use std::{env, io};
 
@@ -22,11 +22,13 @@ fn command_words(rt: &HostRuntime) -> io::Result<Vec<String>> {
 
 fn main(rt: HostRuntime) -> ExitCode {
     let status = match command_words(&rt) {
-        Ok(words) => replay_main(
+        Ok(words) => nwf_main(
+            &rt,
             rt.alloc(),
             &words,
             &mut HostFiles::new(&rt),
             &mut HostOut::new(&rt),
+            &NoGate,
         ),
         Err(error) if error.kind() == io::ErrorKind::OutOfMemory => NO_MEMORY,
         Err(_) => NO_WORDS,

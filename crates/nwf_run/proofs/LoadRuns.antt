@@ -26,9 +26,9 @@ module _ (commands : List (Vec Op Global)) (client : Client) (seed seats calls :
   pub each_is_file : EachRuns → calls ≤ 65535 → All (λ (ops : Vec Op Global). IsCommandFile client ops.items) commands
   each_is_file runs few k d within =
       let at : (get_or commands k d).items ≡ generated_file client seed calls k =
-          sym (get_or-map (λ (ops : Vec Op Global). ops.items) commands k d d.items within)
-          ∙ ap (λ (l : List (List Op)). get_or l k d.items) are
-          ∙ get_or-map-range_with_len (generated_file client seed calls) 0 seats k k d.items (omega (arith, within, as_many)) (omega arith) in
+      sym (get_or-map (λ (ops : Vec Op Global). ops.items) commands k d d.items within)
+      ∙ ap (λ (l : List (List Op)). get_or l k d.items) are
+      ∙ get_or-map-range_with_len (generated_file client seed calls) 0 seats k k d.items (omega (arith, within, as_many)) (omega arith) in
       subst (IsCommandFile client) (sym at) (runs client seed calls k few)
 
 -- a core that opened over the commands and made steps of these seats

@@ -1,8 +1,10 @@
-//! The top call on files and sinks in memory, by subject, and the call on bytes.
+//! The top calls on files and sinks in memory, by subject, and the call on bytes.
 mod bytes;
 mod faults;
 mod lists;
 mod loads;
+mod meeting;
 mod queues;
 mod refusals;
 mod rows;
+mod runs;

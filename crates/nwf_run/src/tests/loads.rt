@@ -72,7 +72,11 @@ fn eight_seats_take_turns(rt: HostRuntime) -> Result<(), Fail> {
     let (_, second) = loaded(alloc, words, AMPLE)?;
     assert_eq!(rt; status, 0);
     assert!(rt; first.bytes().starts_with(b"calls 16000 fast "));
-    assert!(rt; first.bytes().ends_with(b" exhausted 0 pending 0 overtaken 0\n"));
+    assert!(rt;
+        first
+            .bytes()
+            .ends_with(b" exhausted 0 pending 0 overtaken 0\n")
+    );
     assert_eq!(rt; first.bytes(), second.bytes());
     Ok(())
 }
