@@ -1,5 +1,5 @@
 -- The report of a run, written from its lines put in order.
-use Rattle.std.proofs.Common.{◌≡◌, ℕ, ◌+◌, ◌≤◌, ◌↔◌, Bool, true, List, length, map, Option, Vec, All, IsPermutation, refl, sym, ap, ◌∙◌, subst, arith, rules}
+use Rattle.std.proofs.Common.{◌≡◌, ℕ, ◌+◌, ◌≤◌, ◌↔◌, Bool, true, List, length, map, Option, Some, Vec, All, IsPermutation, refl, sym, ap, ◌∙◌, subst, arith, rules}
 use Rattle.std.specs.List.{Any, list_any}
 use Rattle.std.specs.Prelude.{sum_by, IfSome}
 use Rattle.std.specs.Global.{Global}

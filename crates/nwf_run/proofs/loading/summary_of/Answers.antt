@@ -39,7 +39,7 @@ write_summary-requires-clause-report g c =
     let ran = in_order_of g.C.Normalized.form _ files order c.in_ok-core.core core c.steps_run_in_order.ensures c.in_ok-core.ensures.core c.take_rounds.ensures.steps in
     let can = can_be_written g.C.Normalized.form _ files order core c.runs_can_be_written.ensures count each ran in
     let sorted = in_order core c.sort_by_begin.new.self c.receipts.result.now c.pending-pending.result.items c.as_slice.result.now c.sort_by_begin.ensures.same c.sort_by_begin.ensures.order c.sort_by_begin.ensures.kept c.pending-pending.ensures.calls c.pending-pending.ensures.order c.receipts.ensures c.as_slice.ensures.value in
-    can_write core.state c.receipts.result.now c.as_slice.result.now sorted.lines sorted.calls _ sorted.order sorted.opened can
+    can_write core.state c.receipts.result.now c.as_slice.result.now sorted.lines sorted.calls (Some 0) (omega arith) _ sorted.order sorted.opened can
 
 pub returns : goal.returns
 returns g c =
