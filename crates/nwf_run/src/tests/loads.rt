@@ -1,7 +1,7 @@
 //! Summaries of loads.
 use super::rows::{AMPLE, Row, compare, files_of, replayed};
 use crate::outside::SinkInMemory;
-use std::alloc::{AllocError, Global};
+use std::alloc::Global;
 use std::test::Fail;
 
 /// Loads of one seat, whose calls come one after the other: the first one that finds no block left is answered so, and
@@ -56,21 +56,22 @@ fn loads_of_one_seat(rt: HostRuntime) -> Result<(), Fail> {
     compare(&rt, rt.alloc(), &ONE_SEAT)
 }
 
-/// The status and the text of a load over files of which each call fails.
-fn loaded(alloc: Global, words: &str, room: usize) -> Result<(u8, SinkInMemory), AllocError> {
+/// The status of a load over files of which each call fails, how many calls of them were made, and the sink.
+fn loaded(alloc: Global, words: &str, room: usize) -> Result<(u8, u64, SinkInMemory), Fail> {
     let mut files = files_of(alloc, "", "", &[0, 1, 2], AMPLE)?;
     let mut sink = SinkInMemory::with_room(alloc, room, Vec::new(alloc))?;
     let status = replayed(alloc, words, &mut files, &mut sink)?;
-    Ok((status + files.calls() as u8, sink))
+    Ok((status, files.calls(), sink))
 }
 
 #[test]
 fn eight_seats_take_turns(rt: HostRuntime) -> Result<(), Fail> {
     let alloc = rt.alloc();
     let words = "load list 65536 3 8 2000 42";
-    let (status, first) = loaded(alloc, words, AMPLE)?;
-    let (_, second) = loaded(alloc, words, AMPLE)?;
+    let (status, calls, first) = loaded(alloc, words, AMPLE)?;
+    let (_, _, second) = loaded(alloc, words, AMPLE)?;
     assert_eq!(rt; status, 0);
+    assert_eq!(rt; calls, 0);
     assert!(rt; first.bytes().starts_with(b"calls 16000 fast "));
     assert!(rt;
         first
@@ -83,7 +84,7 @@ fn eight_seats_take_turns(rt: HostRuntime) -> Result<(), Fail> {
 
 #[test]
 fn a_summary_that_is_cut(rt: HostRuntime) -> Result<(), Fail> {
-    let (status, sink) = loaded(rt.alloc(), "load queue 8 3 2 1 0", 10)?;
+    let (status, _, sink) = loaded(rt.alloc(), "load queue 8 3 2 1 0", 10)?;
     assert_eq!(rt; status, 5);
     assert_eq!(rt; sink.bytes(), b"calls 2 fa".as_slice());
     Ok(())
