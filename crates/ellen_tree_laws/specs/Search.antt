@@ -124,6 +124,13 @@ Asks (SetReady last key value) = ⊥
 Asks (RemReady above last) = ⊥
 Asks (Helps help) = Fits help
 
+-- a search is at an internal node
+abbrev pub IsPassing : TreeSearch → Type 0
+IsPassing (AtUpdate op above node) = Unit {0}
+IsPassing (AtKey op above node update) = Unit {0}
+IsPassing (AtChild op above node update key) = Unit {0}
+IsPassing _ = ⊥
+
 -- a search can name a list
 abbrev pub IsReady : TreeSearch → Type 0
 IsReady (SetReady last key value) = InRange last
@@ -181,8 +188,11 @@ abbrev pub begin_wrap_of : Op → List Entry → ℕ → Help
 begin_wrap_of op entries stop = if is_set op then helps.Insert (insert.ReadPlace (flag_of entries)) else helps.Delete (delete.MarkPlace (flag_of entries))
 
 -- another operation's list, or one that sets no flag of this operation, is of no run: it is done at once
+abbrev pub sets_flag : Op → Flag → Bool
+sets_flag op flag = (is_set op && state_of flag.word == INSERTING) || (is_rem op && state_of flag.word == DELETING)
+
 abbrev pub flags : Op → List Entry → Bool
-flags op entries = (is_set op && state_of (flag_of entries).word == INSERTING) || (is_rem op && state_of (flag_of entries).word == DELETING)
+flags op entries = sets_flag op (flag_of entries)
 
 abbrev pub wrap_begun_of : Op → List Entry → ℕ → Wrapped
 wrap_begun_of op entries stop =
