@@ -38,7 +38,7 @@ use Rattle.ellen_tree_laws.proofs.Plain.{offered_entries}
 -- ---- the flag's word
 
 module _ (list : Listed) (small : list.block < 2 ^ 17) where
-  state_below : flag_state list.call.op < 4
+  pub state_below : flag_state list.call.op < 4
   state_below = by_op (is_set list.call.op)
     where
       by_op : (b : Bool) → (if b then INSERTING else DELETING) < 4
