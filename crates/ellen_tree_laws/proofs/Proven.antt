@@ -1,5 +1,5 @@
 -- The laws of the tree that are proved so far, with their types as the laws have them.
-use Rattle.std.proofs.Common.{◌≡◌, ◌≢◌, ℕ, ◌<◌, true, false, List, ◌∷◌, ◌++◌, length, arith}
+use Rattle.std.proofs.Common.{◌≡◌, ◌≢◌, ℕ, ◌<◌, ◌^◌, true, false, List, ◌∷◌, ◌++◌, length, arith}
 use Rattle.std.specs.Prelude.{slice_get, Some, IsTrue, All, AllPairs}
 use Rattle.lin_report.specs.declared.calls.Op.{Op}
 use Rattle.lin_report.specs.Object.{object_of}
@@ -10,11 +10,14 @@ use Rattle.normal_traits.specs.declared.form.Found.TheVariants as found
 use Rattle.normal_traits.specs.declared.lists.Entry.{Entry}
 use Rattle.normal_traits.specs.World.{Listed, Won, Change, World, Among, Took, Stopped, Observes, held_after}
 use Rattle.normal_traits.specs.Steps.{IsOffered, IsFresh}
-use Rattle.normal_traits.specs.Laws.{WrappedWell, MayContend}
+use Rattle.normal_traits.specs.Laws.{WrappedWell, MayContend, AsksWell, IsGoodOffer}
 use Rattle.ellen_tree_laws.specs.declared.states.TreeSearch.{TreeSearch}
 use Rattle.ellen_tree_laws.specs.Form.{tree_form}
 use Rattle.normal_traits.specs.Laws.{opening_world}
 use Rattle.ellen_tree_laws.proofs.Opens as opening
+use Rattle.ellen_tree_laws.proofs.Asks as asking
+use Rattle.ellen_tree_laws.proofs.Offers as offering
+use Rattle.tree_help.specs.declared.states.Help.{Help}
 use Rattle.ellen_tree_laws.proofs.Plain as plain
 use Rattle.ellen_tree_laws.proofs.Wraps as wraps
 
@@ -35,6 +38,9 @@ pub record ProvenLaws : Type 0 where
       → WrappedWell tree_form world list stop (tree_form.begin_wrap_of list.call.op list.entries stop) (tree_form.wrap_begun_of list.call.op list.entries stop)
   pub dead_unchanged : (world : World) (list : Listed) (change : Change) → tree_form.shape world → tree_form.dead list world → Among change world.changes → change.list ≢ list
   pub dead_first : (world : World) (list : Listed) (search : TreeSearch) (since : ℕ) (entry : Entry) → tree_form.shape world → tree_form.dead list world → IsOffered tree_form world list search since → IsFresh world list → slice_get list.entries 0 ≡ Some entry → world.words entry.target ≢ entry.from
+  pub search_asks_well : (world : World) (search : TreeSearch) (op : Op) (since : ℕ) → IsCommandOf tree_form.client op → tree_form.shape world → tree_form.asks search → tree_form.knows search op world since → AsksWell tree_form world (tree_form.request_of search)
+  pub wrap_asks_well : (world : World) (help : Help) (list : Listed) (stop : ℕ) → tree_form.shape world → tree_form.wraps help → tree_form.follows help list stop world → AsksWell tree_form world (tree_form.wrap_request_of help)
+  pub offers : (world : World) (search : TreeSearch) (op : Op) (since block : ℕ) → IsCommandOf tree_form.client op → tree_form.shape world → tree_form.knows search op world since → tree_form.is_ready search → block < 2 ^ 17 → IsGoodOffer tree_form world block (tree_form.offer_of search op block)
   pub beside : (world : World) (list : Listed) (entry : Entry) → tree_form.shape world → tree_form.adds_beside world entry ≡ Some list → (0 < list.block) × Took world list 0
 
 pub proven : ProvenLaws
@@ -54,5 +60,8 @@ proven = record {
   wrap_begun = λ world list search since stop shape offered stopped. wraps.wrap_begun world list search since stop shape offered stopped;
   dead_unchanged = λ world list change shape dead among. plain.dead_unchanged world list change shape dead among;
   dead_first = λ world list search since entry shape dead offered fresh listed. plain.dead_first world list entry dead fresh listed;
+  search_asks_well = λ world search op since command shape asks knows. asking.search_asks_well world shape search op since asks knows;
+  wrap_asks_well = λ world help list stop shape fits follows. asking.wrap_asks_well world shape list help follows;
+  offers = λ world search op since block command shape knows ready small. offering.offers world shape search op since block command knows ready small;
   beside = λ world list entry shape e. plain.beside world list entry shape e;
 }
