@@ -114,7 +114,7 @@ module _ (world : World) (shape : Shape world) where
           (4 * flag_block flag + CLEAN, omega (arith, small_block flag is), refl),
         )
 
-    inserts : (flagged : Flagged world list) → is_set list.call.op ≡ true → Inserts world list flagged.node flagged.from
+    pub inserts : (flagged : Flagged world list) → is_set list.call.op ≡ true → Inserts world list flagged.node flagged.from
     inserts flagged set = by_does (shape.flaggers list flagged).does
       where
         by_does : Inserts world list flagged.node flagged.from ⊎ Removes world list flagged.node flagged.from → Inserts world list flagged.node flagged.from

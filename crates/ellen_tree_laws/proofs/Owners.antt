@@ -21,7 +21,7 @@ use Rattle.ellen_tree_laws.proofs.Ways.{field_small, way_in, children_are, inner
 -- ---- the flag that is up at a node
 
 module _ (world : World) (list : Listed) (node from : ℕ) (up : IsUp world list node from) (small : list.block < 2 ^ 17) where
-  up_value : versioned_value (world.words (update_at node)) ≡ 4 * list.block + flag_state list.call.op
+  pub up_value : versioned_value (world.words (update_at node)) ≡ 4 * list.block + flag_state list.call.op
   up_value = sym (value-cleared (world.words (update_at node))) ∙ ap versioned_value up ∙ flag_value list small node from
 
   up_block : block_of (world.words (update_at node)) ≡ list.block
