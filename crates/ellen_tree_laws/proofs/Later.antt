@@ -97,7 +97,7 @@ first_target world list search since entry offered listed =
     let one = offered_entries world list search since offered in
     (one.0, ap (λ (o : Option Entry). (entry_or entry o).target) (sym listed ∙ ap (λ (es : List Entry). slice_get es 0) one.2))
 
-no_second : (entries : List Entry) (one' entry : Entry) → entries ≡ one' ∷ [] → slice_get entries 1 ≡ Some entry → ⊥
+pub no_second : (entries : List Entry) (one' entry : Entry) → entries ≡ one' ∷ [] → slice_get entries 1 ≡ Some entry → ⊥
 no_second entries one' entry one listed = by_none (sym (ap (λ (es : List Entry). slice_get es 1) one) ∙ listed)
   where
     by_none : None ≡ Some entry → ⊥

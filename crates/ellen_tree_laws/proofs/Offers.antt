@@ -72,7 +72,7 @@ and_none : (a : Bool) → (a && (false || false) || a && false) ≡ false
 and_none true = refl
 and_none false = refl
 
-plain : (block field : ℕ) → field < 32 → (field < 19) ⊎ (21 < field) → is_versioned (block_place block field) ≡ false
+pub plain : (block field : ℕ) → field < 32 → (field < 19) ⊎ (21 < field) → is_versioned (block_place block field) ≡ false
 plain block field small far =
     rw (field_not block field 19 small far (omega arith) (omega arith), field_not block field 20 small far (omega arith) (omega arith), field_not block field 21 small far (omega arith) (omega arith))
     (and_none (nat_le FIRST_WORDS (block_place block field)))

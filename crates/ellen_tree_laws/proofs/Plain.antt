@@ -19,7 +19,7 @@ use Rattle.normal_traits.specs.declared.lists.Entry.{Entry}
 use Rattle.normal_traits.specs.World.{Listed, Won, Cause, Change, World, Among, Took, Observes, held_after}
 use Rattle.normal_traits.specs.Steps.{IsOffered, IsFresh}
 use Rattle.normal_traits.specs.Laws.{MayContend}
-use Rattle.tree_help.specs.declared.states.TheConstants.{INSERTING, DELETING, MARKED}
+use Rattle.tree_help.specs.declared.states.TheConstants.{CLEAN, INSERTING, DELETING, MARKED}
 use Rattle.tree_help.specs.Updates.{state_of, block_of, is_clean}
 use Rattle.ellen_tree_laws.specs.Words.{update_at, is_child, is_versioned, is_set, is_rem, may_list}
 use Rattle.ellen_tree_laws.specs.declared.states.TreeSearch.{TreeSearch}
@@ -244,3 +244,19 @@ offered_entries world list (AtLeaf o above last) since offered' = absurd offered
 offered_entries world list (Again o last is) since offered' = absurd offered'.ready
 offered_entries world list (AtValue last key) since offered' = absurd offered'.ready
 offered_entries world list (Helps help) since offered' = absurd offered'.ready
+
+-- its flag is set from a clean word
+pub offered_clean : (world : World) (list : Listed) (search : TreeSearch) (since : ℕ) → IsOffered tree_form world list search since
+    → (node : ℕ) × (from : ℕ) × (list.entries ≡ flags_at node from list ∷ []) × (state_of from ≡ CLEAN)
+unfolding offered_entries
+offered_clean world list (SetReady last key value) since offered' =
+    (last.node, last.update, (offered_entries world list (SetReady last key value) since offered').2, offered'.knows.learnt.2.clean)
+offered_clean world list (RemReady above last) since offered' =
+    (above.node, above.update, (offered_entries world list (RemReady above last) since offered').2, offered'.knows.learnt.3.clean)
+offered_clean world list (AtUpdate o above node) since offered' = absurd offered'.ready
+offered_clean world list (AtKey o above node update) since offered' = absurd offered'.ready
+offered_clean world list (AtChild o above node update key) since offered' = absurd offered'.ready
+offered_clean world list (AtLeaf o above last) since offered' = absurd offered'.ready
+offered_clean world list (Again o last is) since offered' = absurd offered'.ready
+offered_clean world list (AtValue last key) since offered' = absurd offered'.ready
+offered_clean world list (Helps help) since offered' = absurd offered'.ready

@@ -45,7 +45,7 @@ AsksFair world (Exchange at from to) = IsFair world at from to
 AsksFair world (Store at value) = ⊥
 AsksFair world (Add at by) = ⊥
 
-flag_unmarked : (op : Op) → flag_state op ≢ MARKED
+pub flag_unmarked : (op : Op) → flag_state op ≢ MARKED
 flag_unmarked op e = by_set (is_set op) e
   where
     by_set : (b : Bool) → (if b then INSERTING else DELETING) ≡ MARKED → ⊥
