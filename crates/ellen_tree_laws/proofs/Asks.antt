@@ -53,7 +53,7 @@ field_word world block field used high small =
     (ne_eqb (block_place block field) 20 (λ e. omega (arith, low, e))) (ne_eqb (block_place block field) 21 (λ e. omega (arith, low, e))) (le-leb 32 (block_place block field) low)
     (ap world.used (block_at-block_place block field small) ∙ used) plain (eqb (block_at (block_place block field)) 0)
 
-field_high : (left : Bool) → 12 ≤ child_field left
+pub field_high : (left : Bool) → 12 ≤ child_field left
 field_high true = omega arith
 field_high false = omega arith
 
