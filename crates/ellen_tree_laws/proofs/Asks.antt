@@ -1,14 +1,13 @@
 -- What searches and wrap-ups ask for: words of nodes and of notes, and exchanges of versioned words.
-use Rattle.std.proofs.Common.{◌≡◌, ◌≢◌, ℕ, ◌+◌, ◌*◌, ◌^◌, ◌<◌, ◌≤◌, Bool, true, false, not, eqb, leb, ◌||◌, ◌&&◌, refl, sym, ap, subst, ◌∙◌, inl, inr, ◌⊎◌, arith}
-use Rattle.std.specs.Prelude.{nat_le}
-use Rattle.std.proofs.lemmas.Bool.{true≢false, ne_eqb, eq-eqb, le-leb, or_left, or_right}
+use Rattle.std.proofs.Common.{◌≡◌, ℕ, ◌+◌, ◌*◌, ◌^◌, ◌<◌, ◌≤◌, Bool, true, false, eqb, ◌||◌, refl, sym, ap, ◌∙◌, inl, inr, ◌⊎◌, arith}
+use Rattle.std.proofs.lemmas.Bool.{true≢false, le-leb, or_left, or_right}
 use Rattle.lin_report.specs.declared.calls.Op.{Op}
 use Rattle.word_fields.specs.Versioned.{versioned_value, versioned_bit, value_below}
 use Rattle.word_fields.proofs.VersionedLemmas.{bit-changed}
 use Rattle.node_arena.specs.declared.places.TheConstants.{FIRST_WORDS}
-use Rattle.node_arena.specs.MemoryMap.{block_place, block_at, field_at, node_place, reference_to}
-use Rattle.node_arena.proofs.PlaceLemmas.{block_place_behind, block_at-block_place, field_at-block_place, node_place-reference_to}
-use Rattle.normal_traits.specs.World.{Listed, World, is_word, is_state}
+use Rattle.node_arena.specs.MemoryMap.{block_place, node_place, reference_to}
+use Rattle.node_arena.proofs.PlaceLemmas.{block_place_behind, field_at-block_place, node_place-reference_to}
+use Rattle.normal_traits.specs.World.{Listed, World, is_word}
 use Rattle.normal_traits.specs.Laws.{AsksWell}
 use Rattle.tree_help.specs.declared.states.Flag.{Flag}
 use Rattle.tree_help.specs.declared.states.Help.{Help}
@@ -24,34 +23,18 @@ use Rattle.tree_help.specs.Updates.{note_at, inner}
 use Rattle.tree_help.specs.Helps.{flag_block, insert_asked, delete_asked, mark_asked, help_asked}
 use Rattle.ellen_tree_laws.specs.declared.states.TreeSearch.{TreeSearch}
 use Rattle.ellen_tree_laws.specs.declared.states.TreeSearch.TheVariants.{AtUpdate, AtKey, AtChild, AtLeaf, Again, AtValue, SetReady, RemReady, Helps}
-use Rattle.ellen_tree_laws.specs.Words.{child_at, child_field, update_at, key_at, leaf_key_at, leaf_value_at, is_child, is_update, is_versioned, is_set, is_rem}
+use Rattle.ellen_tree_laws.specs.Words.{child_at, child_field, update_at, is_child, is_update, is_versioned, is_set}
 use Rattle.ellen_tree_laws.specs.Search.{Asks, asked, flag_of}
-use Rattle.ellen_tree_laws.specs.Shape.{Shape, Flagged, Inserts, Removes, is_node, IsLeaf, flags_at, flag_state, noted}
+use Rattle.ellen_tree_laws.specs.Shape.{Shape, Flagged, Inserts, Removes, is_node, IsLeaf, flags_at, flag_state}
 use Rattle.ellen_tree_laws.specs.Knowledge.{Knows, Follows, FollowsInsert, FollowsDelete, FollowsMark, IsFlag}
 use Rattle.ellen_tree_laws.specs.Form.{tree_form}
+use Rattle.ellen_tree_laws.proofs.Fields.{field_word}
 use Rattle.ellen_tree_laws.proofs.Plain.{both_ops}
 use Rattle.ellen_tree_laws.proofs.Ways.{field_small}
 use Rattle.ellen_tree_laws.proofs.Wraps.{own_block, state_below}
 use Rattle.ellen_tree_laws.proofs.Swings.{removes}
 
 -- ---- words
-
-or_true : (a : Bool) → (a || true) ≡ true
-or_true true = refl
-or_true false = refl
-
-behind : (a b c d e : Bool) → a ≡ false → b ≡ false → c ≡ true → d ≡ true → e ≡ false → (z : Bool) → (a || b || (c && d && (z || not e))) ≡ true
-behind a b c d e low low' is used plain z = rw (low, low', is, used, plain) (or_true z)
-
--- the fields of a used block behind its notes are words
-pub field_word : (world : World) (block field : ℕ) → world.used block ≡ true → 12 ≤ field → field < 32 → is_word world (block_place block field) ≡ true
-field_word world block field used high small =
-    let at : field_at (block_place block field) ≡ field = field_at-block_place block field small in
-    let low : 32 ≤ block_place block field = block_place_behind block field in
-    let plain : is_state (field_at (block_place block field)) ≡ false = rw at (rw (ne_eqb field 9 (λ e. omega (arith, high, e)), ne_eqb field 10 (λ e. omega (arith, high, e))) refl) in
-    behind (eqb (block_place block field) 20) (eqb (block_place block field) 21) (leb 32 (block_place block field)) (world.used (block_at (block_place block field))) (is_state (field_at (block_place block field)))
-    (ne_eqb (block_place block field) 20 (λ e. omega (arith, low, e))) (ne_eqb (block_place block field) 21 (λ e. omega (arith, low, e))) (le-leb 32 (block_place block field) low)
-    (ap world.used (block_at-block_place block field small) ∙ used) plain (eqb (block_at (block_place block field)) 0)
 
 pub field_high : (left : Bool) → 12 ≤ child_field left
 field_high true = omega arith
@@ -106,8 +89,7 @@ module _ (world : World) (shape : Shape world) where
         let place : flag.place ≡ update_at node = ap (λ (f : Flag). f.place) (is.own ∙ ap flag_of is.flagged.entries) in
         let word : flag.word ≡ (flags_at node is.flagged.from list).to = ap (λ (f : Flag). f.word) (is.own ∙ ap flag_of is.flagged.entries) in
         let checks = shape.flaggers list is.flagged in
-        let small : 4 * list.block + flag_state list.call.op < 2 ^ 24 = omega (arith, checks.small, state_below list checks.small) in
-        (
+        let small : 4 * list.block + flag_state list.call.op < 2 ^ 24 = omega (arith, checks.small, state_below list checks.small) in (
           ap (is_word world) place ∙ node_word node 21 checks.is (omega arith) (omega arith),
           ap is_versioned place ∙ update_versioned node,
           λ listable. ap versioned_bit word ∙ bit-changed is.flagged.from (4 * list.block + flag_state list.call.op) small,
@@ -127,8 +109,7 @@ module _ (world : World) (shape : Shape world) where
     insert_asks (insert.Link flag at from) follows =
         let is = follows.0.0 in
         let i = inserts is.flagged follows.0.1 in
-        let place : at ≡ child_at is.flagged.node i.left = follows.1 ∙ i.place in
-        (
+        let place : at ≡ child_at is.flagged.node i.left = follows.1 ∙ i.place in (
           ap (is_word world) place ∙ child_word is.flagged.node i.left (shape.flaggers list is.flagged).is,
           ap is_versioned place ∙ child_versioned is.flagged.node i.left,
           λ listable. absurd (true≢false (sym listable ∙ ap is_update place ∙ child_unlisted is.flagged.node i.left)),
@@ -142,8 +123,7 @@ module _ (world : World) (shape : Shape world) where
     delete_asks (delete.Mark flag at from) follows =
         let is = follows.0.0 in
         let r = removes world list shape is.flagged follows.0.1 in
-        let place : at ≡ update_at r.gone = follows.1 ∙ r.update in
-        (
+        let place : at ≡ update_at r.gone = follows.1 ∙ r.update in (
           ap (is_word world) place ∙ node_word r.gone 21 r.is (omega arith) (omega arith),
           ap is_versioned place ∙ update_versioned r.gone,
           λ listable. ap versioned_bit follows.2 ∙ r.clear,
@@ -161,8 +141,7 @@ module _ (world : World) (shape : Shape world) where
     delete_asks (delete.Swing flag stays at from) follows =
         let is = follows.0.0 in
         let r = removes world list shape is.flagged follows.0.1 in
-        let place : at ≡ child_at is.flagged.node r.left = follows.1 ∙ r.place in
-        (
+        let place : at ≡ child_at is.flagged.node r.left = follows.1 ∙ r.place in (
           ap (is_word world) place ∙ child_word is.flagged.node r.left (shape.flaggers list is.flagged).is,
           ap is_versioned place ∙ child_versioned is.flagged.node r.left,
           λ listable. absurd (true≢false (sym listable ∙ ap is_update place ∙ child_unlisted is.flagged.node r.left)),

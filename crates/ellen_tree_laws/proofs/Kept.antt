@@ -1,6 +1,6 @@
 -- What a help follows stays true whatever anyone does, and a dead list stays dead.
-use Rattle.std.proofs.Common.{◌≡◌, ◌≢◌, ℕ, ◌+◌, ◌*◌, ◌^◌, ◌<◌, Bool, true, false, not, List, [], ◌∷◌, Option, refl, sym, ap, subst, ◌∙◌, inl, inr, ◌⊎◌, arith}
-use Rattle.std.specs.Prelude.{nat_lt, Some, None}
+use Rattle.std.proofs.Common.{◌≡◌, ℕ, ◌+◌, ◌*◌, ◌^◌, ◌<◌, Bool, true, false, not, List, [], ◌∷◌, sym, ap, subst, ◌∙◌, inl, inr, ◌⊎◌, arith}
+use Rattle.std.specs.Prelude.{nat_lt}
 use Rattle.word_fields.specs.Versioned.{versioned_value, versioned_version, cleared_word}
 use Rattle.word_fields.proofs.VersionedLemmas.{cleared-changed}
 use Rattle.lin_report.specs.declared.calls.Reply.TheVariants.{Yes}
@@ -18,14 +18,15 @@ use Rattle.tree_help.specs.declared.states.HelpMark.{HelpMark}
 use Rattle.tree_help.specs.declared.states.HelpMark.TheVariants as mark
 use Rattle.tree_help.specs.declared.states.TheConstants.{MARKED}
 use Rattle.tree_help.specs.Updates.{state_of, updated, note_at}
-use Rattle.ellen_tree_laws.specs.Words.{child_at, child_field, update_at, key_at, is_rem}
+use Rattle.ellen_tree_laws.specs.Words.{child_field, update_at, key_at, is_rem}
 use Rattle.ellen_tree_laws.specs.Shape.{Shape, Flagged, Changed, IsMarked, IsGivenUp, IsGone, is_node, is_left, child_of, noted}
 use Rattle.ellen_tree_laws.specs.Knowledge.{Dead, Follows, FollowsInsert, FollowsDelete, FollowsMark, IsFlag, IsTried, WasMarked, WillStay}
 use Rattle.ellen_tree_laws.specs.Form.{tree_form}
 use Rattle.ellen_tree_laws.proofs.Plain.{update_same, marked_value}
 use Rattle.ellen_tree_laws.proofs.Ways.{field_small}
 use Rattle.ellen_tree_laws.proofs.Swings.{removes}
-use Rattle.ellen_tree_laws.proofs.Asks.{field_word, field_high}
+use Rattle.ellen_tree_laws.proofs.Fields.{field_word}
+use Rattle.ellen_tree_laws.proofs.Asks.{field_high}
 use Rattle.ellen_tree_laws.proofs.Offers.{plain}
 use Rattle.ellen_tree_laws.proofs.Later.{Later, passed_on, later}
 use Rattle.ellen_tree_laws.proofs.Spares.{Spares, spares}
@@ -110,10 +111,14 @@ module _ (world after : World) (shape : Shape world) (l : Later world after) (s 
   gone_later flagged gone = (gone.0, (gone.1.0, update_later flagged gone.0 gone.1.0 gone.1.1, given_later flagged gone.0 gone.1.0 gone.1.1 gone.1.2))
 
   tried_later : Flagged world list → is_rem list.call.op ≡ true → IsTried world list → IsTried after list
-  tried_later flagged rem tried = (tried.0, update_later flagged rem tried.0 tried.1, elim tried.2 [
-    | inl marked ↦ inl (marked_later flagged rem tried.0 tried.1 marked)
-    | inr given ↦ inr (given_later flagged rem tried.0 tried.1 given)
-  ])
+  tried_later flagged rem tried = (
+    tried.0,
+    update_later flagged rem tried.0 tried.1,
+    elim tried.2 [
+      | inl marked ↦ inl (marked_later flagged rem tried.0 tried.1 marked)
+      | inr given ↦ inr (given_later flagged rem tried.0 tried.1 given)
+    ],
+  )
 
   -- ---- helps
 
@@ -133,9 +138,12 @@ module _ (world after : World) (shape : Shape world) (l : Later world after) (s 
   delete_later (delete.SwingPlace flag stays) f = ((flag_later flag f.0.0, f.0.1), (f.1.0, stay_later f.0.0.flagged f.0.1 f.1.0 f.1.1.marked.update stays f.1.1))
   delete_later (delete.SwingWord flag stays at) f =
       ((flag_later flag f.0.0, f.0.1), f.1 ∙ sym (noted_later f.0.0.flagged 2 (omega arith)), (f.2.0, stay_later f.0.0.flagged f.0.1 f.2.0 f.2.1.marked.update stays f.2.1))
-  delete_later (delete.Swing flag stays at from) f =
-      ((flag_later flag f.0.0, f.0.1), f.1 ∙ sym (noted_later f.0.0.flagged 2 (omega arith)), f.2 ∙ sym (noted_later f.0.0.flagged 3 (omega arith)),
-      (f.3.0, stay_later f.0.0.flagged f.0.1 f.3.0 f.3.1.marked.update stays f.3.1))
+  delete_later (delete.Swing flag stays at from) f = (
+    (flag_later flag f.0.0, f.0.1),
+    f.1 ∙ sym (noted_later f.0.0.flagged 2 (omega arith)),
+    f.2 ∙ sym (noted_later f.0.0.flagged 3 (omega arith)),
+    (f.3.0, stay_later f.0.0.flagged f.0.1 f.3.0 f.3.1.marked.update stays f.3.1),
+  )
   delete_later (delete.Unflag flag true) f = (flag_later flag f.0, changed_later f.1)
   delete_later (delete.Unflag flag false) f = (flag_later flag f.0, gone_later f.0.flagged f.1)
 
@@ -152,3 +160,37 @@ module _ (world after : World) (shape : Shape world) (l : Later world after) (s 
 
 pub follows_kept : (world after : World) (help : Help) (list : Listed) → Shape world → Follows help world list → IsStep tree_form world after → Follows help after list
 follows_kept world after help list shape follows step = follows_later world after shape (later world after shape step) (spares world after shape step) list help follows
+
+-- ---- dead lists
+
+entry_or : Entry → List Entry → Entry
+entry_or other [] = other
+entry_or other (entry ∷ entries) = entry
+
+same_head : (entries : List Entry) (a b : Entry) → entries ≡ a ∷ [] → entries ≡ b ∷ [] → a ≡ b
+unfolding entry_or
+same_head entries a b is is' = ap (entry_or a) (sym is ∙ is')
+
+pub dead_kept : (world after : World) (list : Listed) → Shape world → Dead list world → IsStep tree_form world after → Dead list after
+dead_kept world after list shape dead step = record { entry = dead.entry; entries = dead.entries; fate = by_fate dead.fate }
+  where
+    l : Later world after
+    l = later world after shape step
+
+    s : Spares world after
+    s = spares world after shape step
+
+    by_fate : (IsPassed world dead.entry × (¬ Flagged world list) × ((node : ℕ) × (dead.entry.target ≡ update_at node) × (world.used node ≡ true))) ⊎ (Flagged world list × IsGone world list)
+        → (IsPassed after dead.entry × (¬ Flagged after list) × ((node : ℕ) × (dead.entry.target ≡ update_at node) × (after.used node ≡ true))) ⊎ (Flagged after list × IsGone after list)
+    by_fate (inl lost) = inl (
+      passed_on dead.entry.target dead.entry.from (ap (is_word world) lost.2.1 ∙ field_word world lost.2.0 21 lost.2.2 (omega arith) (omega arith)) l lost.0,
+      λ flagged. elim (s.flags list flagged) [
+        | inl was ↦ lost.1 was
+        | inr own ↦
+            let same : own.0 ≡ dead.entry = same_head list.entries own.0 dead.entry own.1 dead.entries in
+            let here : world.words dead.entry.target ≡ dead.entry.from = subst (λ (e : Entry). world.words e.target ≡ e.from) same own.2 in
+            omega (arith, lost.0, ap versioned_version here)
+      ],
+      (lost.2.0, lost.2.1, l.used lost.2.0 lost.2.2),
+    )
+    by_fate (inr gone) = inr (flagged_later world after shape l s list gone.0, gone_later world after shape l s list gone.0 gone.1)

@@ -1,24 +1,23 @@
 -- What every allowed step keeps, whoever makes it: each word of a client stays, has its bit cleared or gets a higher
 -- version; words that are never exchanged stay; changes and journal grow in front; used blocks stay used.
-use Rattle.std.proofs.Common.{◌≡◌, ◌≢◌, ℕ, suc, ◌+◌, ◌<◌, ◌≤◌, Bool, true, false, eqb, ◌||◌, List, [], ◌∷◌, length, Option, refl, sym, ap, subst, ◌∙◌, inl, inr, ◌⊎◌, arith}
+use Rattle.std.proofs.Common.{◌≡◌, ◌≢◌, ℕ, ◌<◌, true, false, eqb, List, [], ◌∷◌, Option, refl, sym, ap, subst, ◌∙◌, inl, inr, ◌⊎◌, arith}
 use Rattle.std.specs.Prelude.{if◌then◌else◌, slice_get, Some, None}
 use Rattle.std.proofs.lemmas.Bool.{true≢false, eq-eqb, ne_eqb, cases_eq, or_right}
-use Rattle.word_fields.specs.Versioned.{versioned_bit, versioned_version, cleared_word}
+use Rattle.word_fields.specs.Versioned.{versioned_version, cleared_word}
 use Rattle.word_fields.proofs.VersionedLemmas.{version-cleared, cleared-clear}
-use Rattle.lin_report.specs.declared.calls.Op.{Op}
 use Rattle.step_memory.specs.declared.steps.Request.{Request}
 use Rattle.step_memory.specs.declared.steps.Request.TheVariants.{Load, Store, Exchange, Add}
 use Rattle.step_memory.specs.declared.steps.Seen.{Seen}
 use Rattle.normal_traits.specs.declared.lists.Entry.{Entry}
-use Rattle.normal_traits.specs.World.{Listed, Maker, Won, Change, World, Among, WasSeen, IsPassed, is_word, Took}
+use Rattle.normal_traits.specs.World.{Listed, Maker, Won, Change, World, Among, WasSeen, is_word}
 use Rattle.normal_traits.specs.World.Maker.{By, Beside}
-use Rattle.normal_traits.specs.Steps.{with_word, put_word, with_change, listed_if, using_block, IsExchanged, IsFresh, IsOffered, Requested, IsStep, exchanged, object}
+use Rattle.normal_traits.specs.Steps.{with_word, with_change, listed_if, IsExchanged, IsOffered, Requested, IsStep, exchanged, object}
 use Rattle.normal_traits.specs.Steps.Requested.{loaded, lost, won}
 use Rattle.normal_traits.specs.Steps.IsStep.{nothing, elsewhere, clears, searches, wraps, first, first_of_block, second}
 use Rattle.normal_traits.specs.Laws.{AsksWell}
 use Rattle.ellen_tree_laws.specs.declared.states.TreeSearch.{TreeSearch}
-use Rattle.ellen_tree_laws.specs.Words.{update_at, is_versioned, may_list}
-use Rattle.ellen_tree_laws.specs.Shape.{Shape, flags_at}
+use Rattle.ellen_tree_laws.specs.Words.{update_at, is_versioned}
+use Rattle.ellen_tree_laws.specs.Shape.{Shape}
 use Rattle.ellen_tree_laws.specs.Form.{tree_form}
 use Rattle.ellen_tree_laws.proofs.Plain.{offered_entries}
 use Rattle.ellen_tree_laws.proofs.Asks.{search_asks_well, wrap_asks_well, update_versioned}
@@ -143,9 +142,9 @@ pub passed_on : {world after : World} (place word : ℕ) → is_word world place
 passed_on {world} {after} place word is l passed = elim (l.rises place is) [
   | inl same ↦ omega (arith, passed, ap versioned_version same)
   | inr changed ↦ elim changed [
-      | inl cleared ↦ omega (arith, passed, ap versioned_version cleared, version-cleared (world.words place))
-      | inr higher ↦ omega (arith, passed, higher)
-    ]
+    | inl cleared ↦ omega (arith, passed, ap versioned_version cleared, version-cleared (world.words place))
+    | inr higher ↦ omega (arith, passed, higher)
+  ]
 ]
 
 -- a word that was seen with its bit clear still stands or is passed
@@ -156,8 +155,8 @@ seen_later world after place word is l seen clear = by_old (seen clear)
     by_old (inl stands) = elim (l.rises place is) [
       | inl same ↦ inl (same ∙ stands)
       | inr changed ↦ elim changed [
-          | inl cleared ↦ inl (cleared ∙ ap cleared_word stands ∙ cleared-clear word clear)
-          | inr higher ↦ inr (omega (arith, higher, ap versioned_version stands))
-        ]
+        | inl cleared ↦ inl (cleared ∙ ap cleared_word stands ∙ cleared-clear word clear)
+        | inr higher ↦ inr (omega (arith, higher, ap versioned_version stands))
+      ]
     ]
     by_old (inr passed) = inr (passed_on place word is l passed)

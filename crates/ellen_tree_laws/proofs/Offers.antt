@@ -1,15 +1,14 @@
 -- The lists that ready searches name are good offers: one entry at an update word that was seen clean, and stores
 -- into different fields of the block.
-use Rattle.std.proofs.Common.{◌≡◌, ◌≢◌, ℕ, ◌+◌, ◌*◌, ◌^◌, ◌<◌, ◌≤◌, Bool, true, false, not, eqb, ltb, ◌||◌, ◌&&◌, List, [], ◌∷◌, length, refl, sym, ap, subst, ◌∙◌, inl, inr, ◌⊎◌, arith}
-use Rattle.std.specs.Prelude.{if◌then◌else◌, All, AllPairs, Some, nat_lt, nat_le}
-use Rattle.std.proofs.lemmas.Bool.{true≢false, eqb-true, eq-eqb, ne_eqb, ltb-true, and_parts, or_cases}
+use Rattle.std.proofs.Common.{◌≡◌, ◌≢◌, ℕ, ◌+◌, ◌*◌, ◌^◌, ◌<◌, ◌≤◌, Bool, true, false, not, eqb, ltb, ◌||◌, ◌&&◌, List, [], ◌∷◌, refl, sym, ap, subst, ◌∙◌, inl, inr, ◌⊎◌, arith}
+use Rattle.std.specs.Prelude.{if◌then◌else◌, All, AllPairs, nat_lt, nat_le}
+use Rattle.std.proofs.lemmas.Bool.{true≢false, eq-eqb, ne_eqb, ltb-true, and_parts, or_cases}
 use Rattle.std.proofs.lemmas.List.Elements.{All-nil, All-cons}
 use Rattle.std.proofs.lemmas.List.Kept.{AllPairs-cons}
 use Rattle.lin_report.specs.declared.calls.Op.{Op}
 use Rattle.lin_report.specs.declared.calls.Client.TheVariants as client
 use Rattle.lin_report.specs.declared.calls.TheConstants.{SET, REM, GET}
-use Rattle.lin_report.specs.Commands.{KEY_LIMIT, VALUE_LIMIT, IsCommandOf}
-use Rattle.word_fields.specs.Versioned.{versioned_value}
+use Rattle.lin_report.specs.Commands.{KEY_LIMIT, IsCommandOf}
 use Rattle.node_arena.specs.declared.places.TheConstants.{FIRST_WORDS}
 use Rattle.node_arena.specs.MemoryMap.{block_place, field_at, reference_to}
 use Rattle.node_arena.proofs.PlaceLemmas.{field_at-block_place, same_field, node_place-reference_to}
@@ -21,11 +20,12 @@ use Rattle.ellen_tree_laws.specs.declared.states.TreeSearch.{TreeSearch}
 use Rattle.ellen_tree_laws.specs.declared.states.TreeSearch.TheVariants.{AtUpdate, AtKey, AtChild, AtLeaf, Again, AtValue, SetReady, RemReady, Helps}
 use Rattle.ellen_tree_laws.specs.declared.states.Passed.{Passed}
 use Rattle.ellen_tree_laws.specs.Words.{child_at, child_field, update_at, leaf_key_at, leaf_value_at, is_versioned, may_list}
-use Rattle.ellen_tree_laws.specs.Search.{IsReady, block_for, flag_entry, greater, leaf_of, leaf_on, offered, set_stores, rem_stores}
+use Rattle.ellen_tree_laws.specs.Search.{IsReady, block_for, flag_entry, greater, leaf_of, leaf_on, offered, set_stores}
 use Rattle.ellen_tree_laws.specs.Shape.{Shape, IsLeaf, TOP}
 use Rattle.ellen_tree_laws.specs.Knowledge.{Knows, HasPassed, IsClear}
 use Rattle.ellen_tree_laws.specs.Form.{tree_form}
-use Rattle.ellen_tree_laws.proofs.Asks.{field_word, update_versioned, update_listed}
+use Rattle.ellen_tree_laws.proofs.Fields.{field_word}
+use Rattle.ellen_tree_laws.proofs.Asks.{update_versioned, update_listed}
 use Rattle.ellen_tree_laws.proofs.Ways.{field_small}
 
 -- ---- stores by their fields
@@ -148,11 +148,19 @@ module _ (world : World) (shape : Shape world) where
     apart = alone (flag_entry above (block_for op block) DELETING);
     stores = all_good block fields (
       (omega arith, omega arith, place_small last.node 21 (node_small since key last has_last) (omega arith), inl (inr (omega arith))),
-      ((omega arith, omega arith, has_last.fits.0, inl (inr (omega arith))),
-      ((omega arith, omega arith, place_small above.node (child_field above.left) (node_small since key above has_above) (field_small above.left), inl (inr (omega arith))),
-      ((omega arith, omega arith, has_above.fits.1, inl (inr (omega arith))),
-      ((omega arith, omega arith, place_small last.node (child_field (not last.left)) (node_small since key last has_last) (field_small (not last.left)), inl (inr (omega arith))),
-      tt))))
+      (
+        (omega arith, omega arith, has_last.fits.0, inl (inr (omega arith))),
+        (
+          (omega arith, omega arith, place_small above.node (child_field above.left) (node_small since key above has_above) (field_small above.left), inl (inr (omega arith))),
+          (
+            (omega arith, omega arith, has_above.fits.1, inl (inr (omega arith))),
+            (
+              (omega arith, omega arith, place_small last.node (child_field (not last.left)) (node_small since key last has_last) (field_small (not last.left)), inl (inr (omega arith))),
+              tt,
+            ),
+          ),
+        ),
+      ),
     );
     distinct = all_apart block fields refl;
     count = omega arith;
@@ -190,16 +198,34 @@ module _ (world : World) (shape : Shape world) where
     apart = alone (flag_entry last (block_for op block) INSERTING);
     stores = subst (All (IsGoodStore tree_form block)) (sym by_field) (all_good block fields (
       (omega arith, omega arith, omega (arith, key_small), inl (inl (omega arith))),
-      ((omega arith, omega arith, omega (arith, value_small), inl (inl (omega arith))),
-      ((omega arith, omega arith, omega (arith, old_key), inl (inr (omega arith))),
-      ((omega arith, omega arith, omega (arith, old_value), inl (inr (omega arith))),
-      ((omega arith, omega arith, greater_small op.key key key_small old_key, inl (inl (omega arith))),
-      ((omega arith, omega arith, omega (arith, leaf_small (nat_lt op.key key) block small), inr (leaf_small (nat_lt op.key key) block small)),
-      ((omega arith, omega arith, omega (arith, leaf_small (not (nat_lt op.key key)) block small), inr (leaf_small (not (nat_lt op.key key)) block small)),
-      ((omega arith, omega arith, omega arith, inr (omega arith)),
-      ((omega arith, omega arith, place_small last.node (child_field last.left) (node_small since op.key last has) (field_small last.left), inl (inr (omega arith))),
-      ((omega arith, omega arith, has.fits.1, inl (inr (omega arith))),
-      tt)))))))))
+      (
+        (omega arith, omega arith, omega (arith, value_small), inl (inl (omega arith))),
+        (
+          (omega arith, omega arith, omega (arith, old_key), inl (inr (omega arith))),
+          (
+            (omega arith, omega arith, omega (arith, old_value), inl (inr (omega arith))),
+            (
+              (omega arith, omega arith, greater_small op.key key key_small old_key, inl (inl (omega arith))),
+              (
+                (omega arith, omega arith, omega (arith, leaf_small (nat_lt op.key key) block small), inr (leaf_small (nat_lt op.key key) block small)),
+                (
+                  (omega arith, omega arith, omega (arith, leaf_small (not (nat_lt op.key key)) block small), inr (leaf_small (not (nat_lt op.key key)) block small)),
+                  (
+                    (omega arith, omega arith, omega arith, inr (omega arith)),
+                    (
+                      (omega arith, omega arith, place_small last.node (child_field last.left) (node_small since op.key last has) (field_small last.left), inl (inr (omega arith))),
+                      (
+                        (omega arith, omega arith, has.fits.1, inl (inr (omega arith))),
+                        tt,
+                      ),
+                    ),
+                  ),
+                ),
+              ),
+            ),
+          ),
+        ),
+      ),
     ));
     distinct = subst (AllPairs (λ (a b : ℕ × ℕ). a.0 ≢ b.0)) (sym by_field) (all_apart block fields refl);
     count = omega arith;
@@ -211,8 +237,10 @@ module _ (world : World) (shape : Shape world) where
 
       by_field : set_stores last op key value block ≡ placed block fields
       by_field = rw (
-        node_place-reference_to block 1 0 (omega arith) (omega arith), node_place-reference_to block 1 1 (omega arith) (omega arith),
-        node_place-reference_to block 3 0 (omega arith) (omega arith), node_place-reference_to block 3 1 (omega arith) (omega arith)
+        node_place-reference_to block 1 0 (omega arith) (omega arith),
+        node_place-reference_to block 1 1 (omega arith) (omega arith),
+        node_place-reference_to block 3 0 (omega arith) (omega arith),
+        node_place-reference_to block 3 1 (omega arith) (omega arith),
       ) refl
 
   -- ---- any ready search

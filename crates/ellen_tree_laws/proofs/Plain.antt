@@ -260,3 +260,16 @@ offered_clean world list (AtLeaf o above last) since offered' = absurd offered'.
 offered_clean world list (Again o last is) since offered' = absurd offered'.ready
 offered_clean world list (AtValue last key) since offered' = absurd offered'.ready
 offered_clean world list (Helps help) since offered' = absurd offered'.ready
+
+-- at a node
+pub offered_used : (world : World) (list : Listed) (search : TreeSearch) (since : ℕ) → Shape world → (offered' : IsOffered tree_form world list search since) → world.used (offered_entries world list search since offered').0 ≡ true
+unfolding offered_entries
+offered_used world list (SetReady last key value) since shape offered' = (shape.stored last.node offered'.knows.learnt.0.passed.is).used
+offered_used world list (RemReady above last) since shape offered' = (shape.stored above.node offered'.knows.learnt.2.0.is).used
+offered_used world list (AtUpdate o above node) since shape offered' = absurd offered'.ready
+offered_used world list (AtKey o above node update) since shape offered' = absurd offered'.ready
+offered_used world list (AtChild o above node update key) since shape offered' = absurd offered'.ready
+offered_used world list (AtLeaf o above last) since shape offered' = absurd offered'.ready
+offered_used world list (Again o last is) since shape offered' = absurd offered'.ready
+offered_used world list (AtValue last key) since shape offered' = absurd offered'.ready
+offered_used world list (Helps help) since shape offered' = absurd offered'.ready

@@ -1,17 +1,17 @@
 -- What every allowed step leaves of marked nodes and of flags.
-use Rattle.std.proofs.Common.{◌≡◌, ◌≢◌, ℕ, ◌+◌, ◌*◌, ◌^◌, ◌<◌, Bool, true, false, eqb, List, [], ◌∷◌, Option, refl, sym, ap, subst, ◌∙◌, inl, inr, ◌⊎◌, arith}
+use Rattle.std.proofs.Common.{◌≡◌, ℕ, ◌+◌, ◌*◌, ◌^◌, ◌<◌, Bool, true, false, List, [], ◌∷◌, Option, refl, sym, ap, subst, ◌∙◌, inl, inr, ◌⊎◌, arith}
 use Rattle.std.specs.Prelude.{if◌then◌else◌, slice_get, Some, None}
 use Rattle.std.proofs.lemmas.Bool.{true≢false, eq-eqb, cases_eq}
-use Rattle.word_fields.specs.Versioned.{versioned_value, versioned_version, cleared_word}
+use Rattle.word_fields.specs.Versioned.{versioned_value, cleared_word}
 use Rattle.word_fields.proofs.VersionedLemmas.{value-cleared}
 use Rattle.lin_report.specs.declared.calls.Op.{Op}
 use Rattle.step_memory.specs.declared.steps.Request.{Request}
 use Rattle.step_memory.specs.declared.steps.Request.TheVariants.{Load, Store, Exchange, Add}
 use Rattle.step_memory.specs.declared.steps.Seen.{Seen}
 use Rattle.normal_traits.specs.declared.lists.Entry.{Entry}
-use Rattle.normal_traits.specs.World.{Listed, Maker, Won, World, Among, is_word}
+use Rattle.normal_traits.specs.World.{Listed, Maker, Won, World, is_word}
 use Rattle.normal_traits.specs.World.Maker.{By, Beside}
-use Rattle.normal_traits.specs.Steps.{with_word, put_word, listed_if, IsExchanged, IsOffered, Requested, IsStep, exchanged}
+use Rattle.normal_traits.specs.Steps.{with_word, listed_if, IsExchanged, IsOffered, Requested, IsStep, exchanged}
 use Rattle.normal_traits.specs.Steps.Requested.{loaded, lost, won}
 use Rattle.normal_traits.specs.Steps.IsStep.{nothing, elsewhere, clears, searches, wraps, first, first_of_block, second}
 use Rattle.tree_help.specs.declared.states.TheConstants.{CLEAN, MARKED}
@@ -20,7 +20,7 @@ use Rattle.ellen_tree_laws.specs.declared.states.TreeSearch.{TreeSearch}
 use Rattle.ellen_tree_laws.specs.declared.states.TreeSearch.TheVariants.{AtUpdate, AtKey, AtChild, AtLeaf, Again, AtValue, SetReady, RemReady, Helps}
 use Rattle.ellen_tree_laws.specs.Words.{child_at, update_at, is_update}
 use Rattle.ellen_tree_laws.specs.Search.{Asks, asked}
-use Rattle.ellen_tree_laws.specs.Shape.{Shape, Flagged, flags_at, flag_won, flag_state, noted}
+use Rattle.ellen_tree_laws.specs.Shape.{Shape, Flagged, flags_at, noted}
 use Rattle.ellen_tree_laws.specs.Knowledge.{Knows}
 use Rattle.ellen_tree_laws.specs.Form.{tree_form}
 use Rattle.ellen_tree_laws.proofs.Plain.{offered_entries, offered_clean}

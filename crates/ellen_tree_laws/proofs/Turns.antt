@@ -1,10 +1,10 @@
 -- What no allowed step does: a marked node's update word and child words are not exchanged, a mark is set from the
 -- noted word alone, and a list's flag is set by its entry alone.
-use Rattle.std.proofs.Common.{◌≡◌, ◌≢◌, ℕ, ◌+◌, ◌*◌, ◌^◌, ◌<◌, Bool, true, false, eqb, List, [], ◌∷◌, Option, refl, sym, ap, subst, ◌∙◌, inl, inr, ◌⊎◌, arith}
-use Rattle.std.specs.Prelude.{if◌then◌else◌, slice_get, Some, None}
-use Rattle.std.proofs.lemmas.Bool.{true≢false, cases_eq}
-use Rattle.word_fields.specs.Versioned.{versioned_value, versioned_version, cleared_word}
-use Rattle.word_fields.proofs.VersionedLemmas.{value-changed, value-cleared}
+use Rattle.std.proofs.Common.{◌≡◌, ◌≢◌, ℕ, ◌+◌, ◌*◌, ◌^◌, ◌<◌, Bool, true, false, sym, ap, subst, ◌∙◌, inl, inr, ◌⊎◌, arith}
+use Rattle.std.specs.Prelude.{if◌then◌else◌}
+use Rattle.std.proofs.lemmas.Bool.{true≢false}
+use Rattle.word_fields.specs.Versioned.{versioned_value, versioned_version}
+use Rattle.word_fields.proofs.VersionedLemmas.{value-changed}
 use Rattle.lin_report.specs.declared.calls.Op.{Op}
 use Rattle.lin_report.specs.declared.calls.Reply.TheVariants.{Yes}
 use Rattle.step_memory.specs.declared.steps.Request.{Request}
@@ -22,7 +22,7 @@ use Rattle.tree_help.specs.declared.states.HelpMark.TheVariants as mark
 use Rattle.tree_help.specs.declared.states.TheConstants.{CLEAN, INSERTING, DELETING, MARKED}
 use Rattle.tree_help.specs.Updates.{state_of}
 use Rattle.tree_help.specs.Helps.{flag_block, insert_asked, delete_asked, mark_asked, help_asked}
-use Rattle.ellen_tree_laws.specs.Words.{child_at, update_at, is_update, is_set, is_rem}
+use Rattle.ellen_tree_laws.specs.Words.{child_at, update_at, is_update, is_set}
 use Rattle.ellen_tree_laws.specs.Search.{flag_of}
 use Rattle.ellen_tree_laws.specs.Shape.{Shape, Flagged, Inserts, InsertWaits, Changed, IsUp, flags_at, flag_state, noted}
 use Rattle.ellen_tree_laws.specs.Knowledge.{Follows, FollowsInsert, FollowsDelete, FollowsMark, IsFlag}
@@ -125,8 +125,8 @@ module _ (world : World) (shape : Shape world) (list : Listed) where
         unmarked = λ updates. absurd (true≢false (sym updates ∙ child));
         marks = λ updates. absurd (true≢false (sym updates ∙ child));
         held = λ node left e stands.
-          let s = swing_stands world list follows.3.0 at shape is.flagged follows.0.1 will.marked.update will.marked.marked follows.1 (stands ∙ follows.2) in
-          subst (λ n. state_of (world.words (update_at n)) ≢ MARKED) (child_same is.flagged.node node r.left left (sym place ∙ e)).0 (up_unmarked is.flagged.node is.flagged.from (shape.flaggers list is.flagged).small s.2.up);
+            let s = swing_stands world list follows.3.0 at shape is.flagged follows.0.1 will.marked.update will.marked.marked follows.1 (stands ∙ follows.2) in
+            subst (λ n. state_of (world.words (update_at n)) ≢ MARKED) (child_same is.flagged.node node r.left left (sym place ∙ e)).0 (up_unmarked is.flagged.node is.flagged.from (shape.flaggers list is.flagged).small s.2.up);
       }
   delete_fair (delete.Unflag flag true) follows = unflags_fair flag follows.0
   delete_fair (delete.Unflag flag false) follows = unflags_fair flag follows.0

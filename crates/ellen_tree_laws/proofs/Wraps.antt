@@ -33,7 +33,7 @@ use Rattle.node_arena.specs.declared.places.TheConstants.{FIRST_WORDS}
 use Rattle.std.specs.Prelude.{nat_le}
 use Rattle.ellen_tree_laws.proofs.Journal.{took_of, flagged_of}
 use Rattle.node_arena.proofs.PlaceLemmas.{field_at-block_place, same_field}
-use Rattle.ellen_tree_laws.proofs.Plain.{offered_entries}
+use Rattle.ellen_tree_laws.proofs.Plain.{offered_entries, offered_used}
 
 -- ---- the flag's word
 
@@ -61,9 +61,9 @@ own_block world list flag shape is =
 
 -- ---- its beginning
 
-begun_at : (world : World) (list : Listed) (node from stop : ℕ) → list.block < 2 ^ 17 → may_list list.call.op ≡ true → list.entries ≡ flags_at node from list ∷ [] → Stopped world list stop
+begun_at : (world : World) (list : Listed) (node from stop : ℕ) → list.block < 2 ^ 17 → world.used node ≡ true → may_list list.call.op ≡ true → list.entries ≡ flags_at node from list ∷ [] → Stopped world list stop
     → (0 < stop → Flagged world list) → WrappedWell tree_form world list stop (begin_wrap_of list.call.op list.entries stop) (wrap_begun_of list.call.op list.entries stop)
-begun_at world list node from stop small may entries stopped took = by_stop (stop == 0) refl
+begun_at world list node from stop small used may entries stopped took = by_stop (stop == 0) refl
   where
     lost_now : stop ≡ 0 → Dead list world
     lost_now none =
@@ -75,6 +75,7 @@ begun_at world list node from stop small may entries stopped took = by_stop (sto
             subst (λ (e : Entry). versioned_version e.from < versioned_version (world.words e.target))
                 (ap (entry_or failed.entry) (sym failed.listed ∙ ap (λ (es : List Entry). slice_get es 0) entries)) failed.passed,
             λ flagged. failed.lost (took_of world list flagged),
+            (node, refl, used),
           );
         }
       where
@@ -112,7 +113,7 @@ pub wrap_begun : (world : World) (list : Listed) (search : TreeSearch) (since st
     → WrappedWell tree_form world list stop (begin_wrap_of list.call.op list.entries stop) (wrap_begun_of list.call.op list.entries stop)
 wrap_begun world list search since stop shape offered stopped =
     let first = offered_entries world list search since offered in
-    begun_at world list first.0 first.1 stop offered.small first.3 first.2 stopped (λ some. flagged_of world list 0 shape (stopped.took 0 some))
+    begun_at world list first.0 first.1 stop offered.small (offered_used world list search since shape offered) first.3 first.2 stopped (λ some. flagged_of world list 0 shape (stopped.took 0 some))
 
 -- ---- the mark is looked at, and the flag is taken away
 

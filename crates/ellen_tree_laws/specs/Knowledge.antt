@@ -173,7 +173,7 @@ pub record Knows (search : TreeSearch) (op : Op) (world : World) (since : ℕ) :
 pub record Dead (list : Listed) (world : World) : Type 0 where
   pub entry : Entry
   pub entries : list.entries ≡ entry ∷ []
-  pub fate : (IsPassed world entry × (¬ Flagged world list)) ⊎ (Flagged world list × IsGone world list)
+  pub fate : (IsPassed world entry × (¬ Flagged world list) × ((node : ℕ) × (entry.target ≡ update_at node) × (world.used node ≡ true))) ⊎ (Flagged world list × IsGone world list)
 
 -- ---- why a search gave up
 

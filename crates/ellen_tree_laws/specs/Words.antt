@@ -1,6 +1,6 @@
 -- The places of the tree. An internal node is node 2 of its block and is named by the block; the root is that
 -- of block 0. Each other node is a leaf.
-use Rattle.std.specs.Prelude.{ℕ, ◌+◌, ◌*◌, ◌/◌, ◌%◌, ◌==◌, nat_le, ◌||◌, ◌&&◌, Bool, true, false}
+use Rattle.std.specs.Prelude.{ℕ, ◌%◌, ◌==◌, nat_le, ◌||◌, ◌&&◌, Bool, true, false}
 use Rattle.lin_report.specs.declared.calls.Op.{Op}
 use Rattle.lin_report.specs.declared.calls.TheConstants.{SET, REM}
 use Rattle.node_arena.specs.declared.places.TheConstants.{FIRST_WORDS, NODE_KEY, NODE_VALUE}
