@@ -117,7 +117,7 @@ module _ (world : World) (shape : Shape world) where
         )
     insert_asks (insert.Unflag flag) follows = unflags_well flag follows.0
 
-    delete_asks : (it : HelpDelete) → FollowsDelete it world list → AsksWell tree_form world (delete_asked it)
+    pub delete_asks : (it : HelpDelete) → FollowsDelete it world list → AsksWell tree_form world (delete_asked it)
     delete_asks (delete.MarkPlace flag) follows = note_word flag 0 (omega arith) follows.0
     delete_asks (delete.MarkWord flag at) follows = note_word flag 1 (omega arith) follows.0.0
     delete_asks (delete.Mark flag at from) follows =

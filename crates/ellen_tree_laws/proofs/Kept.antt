@@ -128,7 +128,7 @@ module _ (world after : World) (shape : Shape world) (l : Later world after) (s 
   insert_later (insert.Link flag at from) f = ((flag_later flag f.0.0, f.0.1), f.1 ∙ sym (noted_later f.0.0.flagged 0 (omega arith)), f.2 ∙ sym (noted_later f.0.0.flagged 1 (omega arith)))
   insert_later (insert.Unflag flag) f = (flag_later flag f.0, changed_later f.1)
 
-  delete_later : (it : HelpDelete) → FollowsDelete it world list → FollowsDelete it after list
+  pub delete_later : (it : HelpDelete) → FollowsDelete it world list → FollowsDelete it after list
   delete_later (delete.MarkPlace flag) f = (flag_later flag f.0, f.1)
   delete_later (delete.MarkWord flag at) f = ((flag_later flag f.0.0, f.0.1), f.1 ∙ sym (noted_later f.0.0.flagged 0 (omega arith)))
   delete_later (delete.Mark flag at from) f = ((flag_later flag f.0.0, f.0.1), f.1 ∙ sym (noted_later f.0.0.flagged 0 (omega arith)), f.2 ∙ sym (noted_later f.0.0.flagged 1 (omega arith)))

@@ -79,7 +79,7 @@ exchange_later world at from to after seen is (lost place from' to' differs) = s
 exchange_later world at from to after seen is (won place from' to' stood raised) =
     exchanged_later world Beside _ (record { target = at; from = from; to = to }) to is (omega (arith, raised, ap versioned_version stood))
 
-requested_later : (world after : World) (seen : Seen) (request : Request) → AsksWell tree_form world request → Requested tree_form request world after seen → Later world after
+pub requested_later : (world after : World) (seen : Seen) (request : Request) → AsksWell tree_form world request → Requested tree_form request world after seen → Later world after
 requested_later world after seen (Load at) asks r = load_later world at after seen r
 requested_later world after seen (Exchange at from to) asks r = exchange_later world at from to after seen asks.1 r
 requested_later world after seen (Store at value) asks r = absurd asks

@@ -77,7 +77,7 @@ asked_spares : (world : World) (at from to : ℕ) (after : World) (seen : Seen) 
 asked_spares world at from to after seen fair (lost place from' to' differs) = same_spares world
 asked_spares world at from to after seen fair (won place from' to' stood raised) = exchange_spares world Beside _ (record { target = at; from = from; to = to }) to fair stood refl
 
-requested_spares : (world after : World) (seen : Seen) (request : Request) → AsksFair world request → Requested tree_form request world after seen → Spares world after
+pub requested_spares : (world after : World) (seen : Seen) (request : Request) → AsksFair world request → Requested tree_form request world after seen → Spares world after
 requested_spares world after seen (Load at) fair r = load_spares world at after seen r
 requested_spares world after seen (Exchange at from to) fair r = asked_spares world at from to after seen fair r
 requested_spares world after seen (Store at value) fair r = absurd fair

@@ -97,7 +97,7 @@ module _ (world : World) (shape : Shape world) (list : Listed) where
       ])
   insert_fair (insert.Unflag flag) follows = unflags_fair flag follows.0
 
-  delete_fair : (it : HelpDelete) → FollowsDelete it world list → AsksFair world (delete_asked it)
+  pub delete_fair : (it : HelpDelete) → FollowsDelete it world list → AsksFair world (delete_asked it)
   delete_fair (delete.MarkPlace flag) follows = tt
   delete_fair (delete.MarkWord flag at) follows = tt
   delete_fair (delete.Mark flag at from) follows =

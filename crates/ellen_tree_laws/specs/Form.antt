@@ -4,9 +4,9 @@ use Rattle.lin_report.specs.declared.calls.Client.TheVariants as client
 use Rattle.normal_traits.specs.NormalForm.{NormalForm}
 use Rattle.ellen_tree_laws.specs.Words.{is_versioned, is_update, may_list}
 use Rattle.tree_help.specs.declared.states.Help.{Help}
-use Rattle.tree_help.specs.Helps.{Fits, help_asked, help_fed}
+use Rattle.tree_help.specs.Helps.{help_asked, help_fed}
 use Rattle.ellen_tree_laws.specs.declared.states.TreeSearch.{TreeSearch}
-use Rattle.ellen_tree_laws.specs.Search.{begun, asked, fed, offered, Asks, IsReady, begin_wrap_of, wrap_begun_of, wrapped_by}
+use Rattle.ellen_tree_laws.specs.Search.{begun, asked, fed, offered, Asks, IsReady, begin_wrap_of, wrap_begun_of, wrapped_by, WrapsUp}
 use Rattle.ellen_tree_laws.specs.Shape.{Shape, adds_beside, cause_of}
 use Rattle.ellen_tree_laws.specs.Knowledge.{Knows, Keeps, IsForced, Follows, Dead}
 
@@ -26,7 +26,7 @@ tree_form = record {
   feed_wrap_of = λ help seen. (help_fed help seen).0;
   asks = Asks;
   is_ready = IsReady;
-  wraps = Fits;
+  wraps = WrapsUp;
   keeps = Keeps;
   is_forced = IsForced;
   may_list = may_list;

@@ -203,3 +203,8 @@ abbrev pub wrapped_by : Helping → Wrapped
 wrapped_by Running = wrapped.Going
 wrapped_by Finished = wrapped.Done (Plain Yes)
 wrapped_by BackedOut = wrapped.Restart
+
+-- a wrap-up helps the flag of its own list, so it looks for none
+abbrev pub WrapsUp : Help → Type 0
+WrapsUp (helps.Mark it) = ⊥
+WrapsUp _ = Unit {0}
