@@ -1,7 +1,7 @@
 //! The wrap-up of a list that stopped: the help of its own flag.
 ghost use Rattle.std.specs.Prelude.{◌≡◌, ℕ};
-ghost use Rattle.tree_help.specs.Helps.{Fits, help_fed};
-ghost use Rattle.ellen_tree_laws.specs.Search.{begin_wrap_of, flag_of, sets_flag, wrap_begun_of, wrapped_by};
+ghost use Rattle.tree_help.specs.Helps.{help_fed};
+ghost use Rattle.ellen_tree_laws.specs.Search.{WrapsUp, begin_wrap_of, flag_of, sets_flag, wrap_begun_of, wrapped_by};
 
 use crate::offers::may_list;
 use lin_report::calls::{REM, SET};
@@ -36,7 +36,7 @@ fn flags(op: Op, flag: Flag) -> bool
 /// A wrap-up that begins.
 pub fn begun_wrap(op: Op, list: &List) -> Help
     ensures help { (stop : ℕ) → result ≡ begin_wrap_of op list.now.items stop }
-    ensures fits { Fits result }
+    ensures wraps { WrapsUp result }
 {
     let flag = flag_of(list);
     if op.code == SET {
@@ -66,10 +66,10 @@ pub fn wrap_begun(op: Op, list: &List, stop: u32) -> Wrapped
 
 /// Takes in what a step of the wrap-up saw: done where its change was made, again where it was given up.
 pub fn wrap_fed(help: &mut Help, seen: Seen) -> Wrapped
-    requires { Fits help.old }
+    requires { WrapsUp help.old }
     ensures help { help.new ≡ (help_fed help.old seen).0 }
     ensures wrapped { result ≡ wrapped_by (help_fed help.old seen).1 }
-    ensures fits { Fits help.new }
+    ensures wraps { WrapsUp help.new }
 {
     match help.feed(seen) {
         Helping::Running => Wrapped::Going,

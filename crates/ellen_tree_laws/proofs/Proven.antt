@@ -9,7 +9,7 @@ use Rattle.node_arena.specs.MemoryMap.{block_place}
 use Rattle.normal_traits.specs.declared.form.Found.TheVariants as found
 use Rattle.normal_traits.specs.declared.lists.Entry.{Entry}
 use Rattle.normal_traits.specs.World.{Listed, Won, Change, World, Among, Took, Stopped, Observes, held_after}
-use Rattle.normal_traits.specs.Steps.{IsOffered, IsFresh, IsStep}
+use Rattle.normal_traits.specs.Steps.{IsOffered, IsFresh, IsStep, Requested}
 use Rattle.normal_traits.specs.Laws.{WrappedWell, MayContend, AsksWell, IsGoodOffer}
 use Rattle.ellen_tree_laws.specs.declared.states.TreeSearch.{TreeSearch}
 use Rattle.ellen_tree_laws.specs.Form.{tree_form}
@@ -18,6 +18,7 @@ use Rattle.ellen_tree_laws.proofs.Opens as opening
 use Rattle.ellen_tree_laws.proofs.Asks as asking
 use Rattle.ellen_tree_laws.proofs.Offers as offering
 use Rattle.ellen_tree_laws.proofs.Kept as keeping
+use Rattle.ellen_tree_laws.proofs.WrapFed as ending
 use Rattle.tree_help.specs.declared.states.Help.{Help}
 use Rattle.ellen_tree_laws.proofs.Plain as plain
 use Rattle.ellen_tree_laws.proofs.Wraps as wraps
@@ -42,6 +43,8 @@ pub record ProvenLaws : Type 0 where
   pub search_asks_well : (world : World) (search : TreeSearch) (op : Op) (since : ℕ) → IsCommandOf tree_form.client op → tree_form.shape world → tree_form.asks search → tree_form.knows search op world since → AsksWell tree_form world (tree_form.request_of search)
   pub wrap_asks_well : (world : World) (help : Help) (list : Listed) (stop : ℕ) → tree_form.shape world → tree_form.wraps help → tree_form.follows help list stop world → AsksWell tree_form world (tree_form.wrap_request_of help)
   pub offers : (world : World) (search : TreeSearch) (op : Op) (since block : ℕ) → IsCommandOf tree_form.client op → tree_form.shape world → tree_form.knows search op world since → tree_form.is_ready search → block < 2 ^ 17 → IsGoodOffer tree_form world block (tree_form.offer_of search op block)
+  pub wrap_fed : (world after : World) (seen : Seen) (help : Help) (list : Listed) (stop : ℕ) → IsCommandOf tree_form.client list.call.op → tree_form.shape world → tree_form.wraps help → tree_form.follows help list stop world → Requested tree_form (tree_form.wrap_request_of help) world after seen
+      → WrappedWell tree_form after list stop (tree_form.feed_wrap_of help seen) (tree_form.wrap_found_of help seen)
   pub follows_kept : (world after : World) (help : Help) (list : Listed) (stop : ℕ) → tree_form.shape world → tree_form.follows help list stop world → IsStep tree_form world after → tree_form.follows help list stop after
   pub dead_kept : (world after : World) (list : Listed) → tree_form.shape world → tree_form.dead list world → IsStep tree_form world after → tree_form.dead list after
   pub beside : (world : World) (list : Listed) (entry : Entry) → tree_form.shape world → tree_form.adds_beside world entry ≡ Some list → (0 < list.block) × Took world list 0
@@ -66,6 +69,7 @@ proven = record {
   search_asks_well = λ world search op since command shape asks knows. asking.search_asks_well world shape search op since asks knows;
   wrap_asks_well = λ world help list stop shape fits follows. asking.wrap_asks_well world shape list help follows;
   offers = λ world search op since block command shape knows ready small. offering.offers world shape search op since block command knows ready small;
+  wrap_fed = λ world after seen help list stop command shape wraps' follows requested. ending.wrap_fed world shape list stop help after seen wraps' follows requested;
   follows_kept = λ world after help list stop shape follows step. keeping.follows_kept world after help list shape follows step;
   dead_kept = λ world after list shape dead step. keeping.dead_kept world after list shape dead step;
   beside = λ world list entry shape e. plain.beside world list entry shape e;

@@ -90,11 +90,21 @@ module _ (world : World) (shape : Shape world) (list : Listed) (stop : ℕ) wher
       let r = removes world list shape f.0.0.flagged f.0.1 in
       let l = requested_later world _ _ request (delete_asks world shape list (delete.Mark flag at from) f) (won at' from' to' stood raised) in
       let s = requested_spares world _ _ request (delete_fair world shape list (delete.Mark flag at from) f) (won at' from' to' stood raised) in
-      let g = delete_later world _ shape l s list (delete.Mark flag at from) f in
-      (tt, (g.0, g.1, (r.gone, sym g.1 ∙ f.1 ∙ r.update, inl (
-        ap (λ b. if b then updated from (flag_block flag) MARKED else world.words (update_at r.gone)) (eq-eqb (update_at r.gone) at (sym (f.1 ∙ r.update)))
-        ∙ ap (λ b. updated from b MARKED) (own_block world list flag shape f.0.0) ∙ ap (λ w. updated w list.block MARKED) g.2
-      ))))
+      let g = delete_later world _ shape l s list (delete.Mark flag at from) f in (
+        tt,
+        (
+          g.0,
+          g.1,
+          (
+            r.gone,
+            sym g.1 ∙ f.1 ∙ r.update,
+            inl (
+                ap (λ b. if b then updated from (flag_block flag) MARKED else world.words (update_at r.gone)) (eq-eqb (update_at r.gone) at (sym (f.1 ∙ r.update)))
+                ∙ ap (λ b. updated from b MARKED) (own_block world list flag shape f.0.0) ∙ ap (λ w. updated w list.block MARKED) g.2
+                ),
+          ),
+        ),
+      )
 
   delete_well : (it : HelpDelete) (after : World) (seen : Seen) → FollowsDelete it world list → Requested tree_form (delete_asked it) world after seen → IsWell after (helps.Delete it) seen
   delete_well (delete.MarkPlace flag) after seen f (loaded at') =
