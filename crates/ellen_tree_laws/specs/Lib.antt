@@ -3,3 +3,4 @@ pub mod Search
 pub mod Shape
 pub mod Knowledge
 pub mod Form
+pub mod PartLaws
