@@ -1,0 +1,10 @@
+//! Ellen's leaf-oriented search tree in normalized form: a map whose keys stand in the leaves.
+#![tactic(auto)]
+
+pub use ellen_tree_laws::{Passed, TreeSearch};
+
+mod deciding;
+pub mod offers;
+pub mod search;
+mod words;
+pub mod wrap;

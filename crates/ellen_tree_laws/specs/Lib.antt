@@ -1,0 +1,6 @@
+pub mod Words
+pub mod Search
+pub mod Shape
+pub mod Knowledge
+pub mod Form
+pub mod PartLaws
