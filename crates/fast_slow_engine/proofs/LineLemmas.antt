@@ -6,7 +6,7 @@ use Rattle.normal_traits.specs.NormalForm.{NormalForm}
 use Rattle.fast_slow_engine.specs.declared.setup.Turn.{Turn}
 use Rattle.fast_slow_engine.specs.declared.setup.Turn.TheVariants.{Going, Returned}
 use Rattle.fast_slow_engine.specs.declared.phases.Phase.{Phase}
-use Rattle.fast_slow_engine.specs.declared.phases.Phase.TheVariants.{Idle, Begin, Look, Generate, Apply, Wrap, Value, End}
+use Rattle.fast_slow_engine.specs.declared.phases.Phase.TheVariants.{Idle, Begin, Look, Generate, Apply, Wrap, Announce, Enter, Drive, Help, Collect, Value, End}
 use Rattle.fast_slow_engine.specs.Mechs.{Mech}
 use Rattle.fast_slow_engine.specs.PhaseTable.{mech_fed, mech_turn, pending_in, rests, turn_in}
 use Rattle.fast_slow_engine.specs.Runs.{returned}
@@ -21,6 +21,11 @@ module _ {S W : Type 0} where
   own_in (Generate search' at) seen mech line e = absurd (search rules)
   own_in (Apply run stores at) seen mech line e = absurd (search rules)
   own_in (Wrap wrap) seen mech line e = absurd (search rules)
+  own_in (Announce at) seen mech line e = absurd (search rules)
+  own_in (Enter owner) seen mech line e = absurd (search rules)
+  own_in Drive seen mech line e = absurd (search rules)
+  own_in (Help drives help) seen mech line e = absurd (search rules)
+  own_in Collect seen mech line e = absurd (search rules)
   own_in (Value reference) seen mech line e = absurd (search rules)
   own_in (End reply) seen mech line e = subst (IsLineOf mech) (ap (line_in line) e) (record { seat = refl; number = refl; op = refl })
     where
@@ -38,6 +43,11 @@ module _ {S W : Type 0} where
   none_in (Generate search' at) mech idle = absurd (search rules)
   none_in (Apply run stores at) mech idle = absurd (search rules)
   none_in (Wrap wrap) mech idle = absurd (search rules)
+  none_in (Announce at) mech idle = absurd (search rules)
+  none_in (Enter owner) mech idle = absurd (search rules)
+  none_in Drive mech idle = absurd (search rules)
+  none_in (Help drives help) mech idle = absurd (search rules)
+  none_in Collect mech idle = absurd (search rules)
   none_in (Value reference) mech idle = absurd (search rules)
   none_in (End reply) mech idle = absurd (search rules)
 

@@ -1,3 +1,7 @@
+pub mod Hands
+pub mod HelpWords
+pub mod OfferStores
+pub mod HelpTable
 pub mod Mechs
 pub mod PhaseTable
 pub mod Runs

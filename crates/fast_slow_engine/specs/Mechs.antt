@@ -1,7 +1,8 @@
 -- A machine as plain data, and which states a machine can be in.
-use Rattle.std.specs.Prelude.{◌≡◌, ℕ, ◌+◌, ◌^◌, ◌<◌, IsTrue, length, Option, Some, None}
+use Rattle.std.specs.Prelude.{◌≡◌, ℕ, ◌+◌, ◌^◌, ◌<◌, ◌≤◌, IsTrue, length, Option, Some, None}
 use Rattle.lin_report.specs.declared.calls.Op.{Op}
 use Rattle.lin_report.specs.declared.calls.Client.{Client}
+use Rattle.lin_report.specs.declared.calls.Path.{Path}
 use Rattle.lin_report.specs.Commands.{is_command}
 use Rattle.normal_traits.specs.NormalForm.{NormalForm}
 use Rattle.cas_executor.specs.FastRuns.{IsRunning}
@@ -12,6 +13,8 @@ use Rattle.fast_slow_engine.specs.declared.phases.Phase.TheVariants as phase
 use Rattle.fast_slow_engine.specs.declared.phases.Generating.{Generating}
 use Rattle.fast_slow_engine.specs.declared.phases.Generating.TheVariants.{Search, LookForBlock, Claim}
 use Rattle.fast_slow_engine.specs.declared.phases.Applying.TheVariants.{Fill, Execute}
+use Rattle.fast_slow_engine.specs.Hands.{block_of}
+use Rattle.fast_slow_engine.specs.HelpTable.{CanHelp}
 
 -- a seat with the call that it makes: which call of its seat, its operation and begin tick, its failures,
 -- the block in hand, and the phase
@@ -23,12 +26,8 @@ pub record Mech (S W : Type 0) : Type 0 where
   pub begin : ℕ
   pub failures : ℕ
   pub hand : Option ℕ
+  pub path : Path
   pub phase : Phase S W
-
--- the number of the block in hand, 0 for none
-abbrev pub block_of : Option ℕ → ℕ
-block_of None = 0
-block_of (Some block) = block
 
 -- what must hold in a phase, so that its step can be made
 abbrev pub IsReadyIn : {S W : Type 0} → NormalForm S W → Phase S W → Type 0
@@ -38,19 +37,24 @@ IsReadyIn form phase.Look = Unit {0}
 IsReadyIn form (phase.Generate search Search) = form.asks search
 IsReadyIn form (phase.Generate search LookForBlock) = form.is_ready search
 IsReadyIn form (phase.Generate search Claim) = form.is_ready search
-IsReadyIn form (phase.Apply run stores (Fill made)) = IsRunning run × (made < length stores.items + 3)
+IsReadyIn form (phase.Apply run stores (Fill made)) = IsRunning run × (made < length stores.items)
 IsReadyIn form (phase.Apply run stores Execute) = IsRunning run
 IsReadyIn form (phase.Wrap wrap) = form.wraps wrap
+IsReadyIn form (phase.Announce at) = Unit {0}
+IsReadyIn form (phase.Enter owner) = Unit {0}
+IsReadyIn form phase.Drive = Unit {0}
+IsReadyIn form (phase.Help drives help) = CanHelp form help
+IsReadyIn form phase.Collect = Unit {0}
 IsReadyIn form (phase.Value reference) = reference < 2 ^ 20
 IsReadyIn form (phase.End reply) = Unit {0}
 
 -- a machine of a call and a phase
 abbrev pub mech_of : {S W : Type 0} → Call → Phase S W → Mech S W
-mech_of call phase = record { setup = call.setup; seat = call.seat; number = call.number; op = call.op; begin = call.begin; failures = call.contention.failures; hand = call.hand; phase = phase }
+mech_of call phase = record { setup = call.setup; seat = call.seat; number = call.number; op = call.op; begin = call.begin; failures = call.contention.failures; hand = call.hand; path = call.path; phase = phase }
 
 -- the seat, number and block of a call are in their ranges, and its failures have the limit of the run
 pub record IsInRange (call : Call) : Type 0 where
-  pub few_seats : call.seat < 8
+  pub one_seat : call.seat < call.setup.seats
   pub few_calls : call.number < 65536
   pub few_blocks : block_of call.hand < 2 ^ 17
   pub same_limit : call.contention.limit ≡ call.setup.limit
@@ -58,6 +62,7 @@ pub record IsInRange (call : Call) : Type 0 where
 -- a call of a command of the client
 pub record IsCallOf (client : Client) (call : Call) : Type 0 where
   pub range : IsInRange call
+  pub some : 1 ≤ call.number
   pub command : IsTrue (is_command client call.op)
 
 -- a machine may be in this state: a call that runs is a command
@@ -75,9 +80,19 @@ abbrev pub IsAt : {S W : Type 0} → Generating → Phase S W → Type 0
 IsAt step (phase.Generate search at) = at ≡ step
 IsAt step _ = ⊥
 
+-- the phase helps a head
+abbrev pub Helps : {S W : Type 0} → Phase S W → Type 0
+Helps (phase.Help drives help) = Unit {0}
+Helps _ = ⊥
+
+-- the phase enters the queue word
+abbrev pub Enters : {S W : Type 0} → Phase S W → Type 0
+Enters (phase.Enter owner) = Unit {0}
+Enters _ = ⊥
+
 -- the phase fills a block
 abbrev pub Fills : {S W : Type 0} → Phase S W → Type 0
-Fills (phase.Apply run stores (Fill made)) = made < length stores.items + 3
+Fills (phase.Apply run stores (Fill made)) = made < length stores.items
 Fills _ = ⊥
 
 -- the phase executes a list

@@ -1,5 +1,5 @@
 -- The phase table: the next request of a machine, and what it becomes by what the request saw.
-use Rattle.std.specs.Prelude.{ℕ, ◌+◌, ◌-◌, ◌%◌, ◌^◌, ◌==◌, ◌&&◌, nat_lt, min, if◌then◌else◌, Bool, true, false, List, length, slice_get, Option, Some, None}
+use Rattle.std.specs.Prelude.{ℕ, ◌+◌, ◌%◌, ◌^◌, ◌==◌, ◌&&◌, ◌||◌, not, nat_lt, min, if◌then◌else◌, Bool, true, false, List, [], length, slice_get, Option, Some, None}
 use Rattle.lin_report.specs.declared.calls.Op.{Op}
 use Rattle.lin_report.specs.declared.calls.Outcome.{Outcome}
 use Rattle.lin_report.specs.declared.calls.Outcome.TheVariants.{Plain, ValueOf}
@@ -7,7 +7,7 @@ use Rattle.lin_report.specs.declared.calls.Reply.{Reply}
 use Rattle.lin_report.specs.declared.calls.Reply.TheVariants as reply
 use Rattle.lin_report.specs.declared.calls.Receipt.{Receipt}
 use Rattle.lin_report.specs.declared.calls.PendingCall.{PendingCall}
-use Rattle.lin_report.specs.declared.calls.Path.TheVariants.{Fast}
+use Rattle.lin_report.specs.declared.calls.Path.TheVariants.{Fast, Slow}
 use Rattle.lin_report.specs.declared.events.Event.{Event}
 use Rattle.lin_report.specs.declared.events.EventKind.{EventKind}
 use Rattle.lin_report.specs.declared.events.EventKind.TheVariants as kind
@@ -15,9 +15,14 @@ use Rattle.step_memory.specs.declared.steps.Request.{Request}
 use Rattle.step_memory.specs.declared.steps.Request.TheVariants.{Load, Store, Add}
 use Rattle.step_memory.specs.declared.steps.Seen.{Seen}
 use Rattle.word_fields.specs.Announced.{op_word, value_word}
-use Rattle.word_fields.specs.Owners.{owner_word}
-use Rattle.node_arena.specs.declared.places.TheConstants.{TICKS, QUEUE, CLAIMS, OWNER_FIELD, OP_FIELD, VALUE_FIELD, NODE_VALUE}
-use Rattle.node_arena.specs.MemoryMap.{block_place, node_place}
+use Rattle.node_arena.specs.declared.places.TheConstants.{TICKS, QUEUE, CLAIMS, NODE_VALUE}
+use Rattle.word_fields.specs.declared.records.Phase.TheVariants as record_phase
+use Rattle.word_fields.specs.Records.{record_word}
+use Rattle.node_arena.specs.MemoryMap.{node_place, op_place, value_place, record_place}
+use Rattle.help_queue.specs.declared.enter.Entering.{Entering}
+use Rattle.help_queue.specs.declared.enter.Entering.TheVariants as entering_to
+use Rattle.help_queue.specs.Gathers.{holds}
+use Rattle.help_queue.specs.Enters.{Owner, enter_new, enter_request, enter_fed, entering, outcome_or_done}
 use Rattle.arrayvec.specs.ArrayVec.{ArrayVec}
 use Rattle.normal_traits.specs.declared.lists.Entry.{Entry}
 use Rattle.normal_traits.specs.declared.form.Found.{Found}
@@ -29,7 +34,13 @@ use Rattle.cas_executor.specs.declared.fast_run.Execution.{Execution}
 use Rattle.cas_executor.specs.declared.fast_run.Execution.TheVariants.{Running, Stopped}
 use Rattle.cas_executor.specs.FastRuns.{FastWalk, fast_request, fast_execution, fast_fed}
 use Rattle.fast_slow_engine.specs.declared.phases.Phase.{Phase}
-use Rattle.fast_slow_engine.specs.declared.phases.Phase.TheVariants.{Idle, Begin, Look, Generate, Apply, Wrap, Value, End}
+use Rattle.fast_slow_engine.specs.declared.phases.Phase.TheVariants.{Idle, Begin, Look, Generate, Apply, Wrap, Announce, Enter, Drive, Help, Collect, Value, End}
+use Rattle.fast_slow_engine.specs.declared.phases.Announcing.{Announcing}
+use Rattle.fast_slow_engine.specs.declared.phases.Announcing.TheVariants as announcing
+use Rattle.fast_slow_engine.specs.declared.help.Help as helper
+use Rattle.fast_slow_engine.specs.declared.help.Helping.TheVariants as helping
+use Rattle.help_queue.specs.Heads.{head_of}
+use Rattle.fast_slow_engine.specs.HelpTable.{help_request, help_fed, helping_hand, helping_ends, helps_listed}
 use Rattle.fast_slow_engine.specs.declared.phases.Generating.{Generating}
 use Rattle.fast_slow_engine.specs.declared.phases.Generating.TheVariants.{Search, LookForBlock, Claim}
 use Rattle.fast_slow_engine.specs.declared.phases.Applying.{Applying}
@@ -37,7 +48,9 @@ use Rattle.fast_slow_engine.specs.declared.phases.Applying.TheVariants.{Fill, Ex
 use Rattle.fast_slow_engine.specs.declared.setup.Setup.{Setup}
 use Rattle.fast_slow_engine.specs.declared.setup.Turn.{Turn}
 use Rattle.fast_slow_engine.specs.declared.setup.Turn.TheVariants.{Going, Returned}
-use Rattle.fast_slow_engine.specs.Mechs.{Mech, block_of}
+use Rattle.fast_slow_engine.specs.Hands.{block_of, holds_none}
+use Rattle.fast_slow_engine.specs.OfferStores.{own_stores, stored_by}
+use Rattle.fast_slow_engine.specs.Mechs.{Mech}
 
 -- changes of one part of a machine
 abbrev pub in_phase : {S W : Type 0} → Phase S W → Mech S W → Mech S W
@@ -46,36 +59,48 @@ in_phase phase mech = record mech { phase = phase }
 abbrev pub with_hand : {S W : Type 0} → Option ℕ → Mech S W → Mech S W
 with_hand hand mech = record mech { hand = hand }
 
-abbrev pub holds_none : Option ℕ → Bool
-holds_none None = true
-holds_none (Some block) = false
-
--- a store of an offer
-abbrev pub store_of : Option (ℕ × ℕ) → Request
-store_of None = Load 0
-store_of (Some store) = Store store.0 store.1
-
--- the stores that fill a block: owner, op word, value word, then those of the offer
-abbrev pub fill_request : ℕ → ℕ → ℕ → Op → List (ℕ × ℕ) → ℕ → Request
-fill_request block seat number op stores made =
-    if made == 0 then Store (block_place block OWNER_FIELD) (owner_word seat number)
-    else if made == 1 then Store (block_place block OP_FIELD) (op_word op.code number op.key)
-    else if made == 2 then Store (block_place block VALUE_FIELD) (value_word number op.value)
-    else store_of (slice_get stores (made - 3))
-
 -- the line of a call that ends at this tick
 abbrev pub receipt_of : {S W : Type 0} → Mech S W → Reply → ℕ → Receipt
-receipt_of mech reply end = record { seat = mech.seat; number = mech.number; op = mech.op; reply = reply; begin = mech.begin; end = end; path = Fast }
+receipt_of mech reply end = record { seat = mech.seat; number = mech.number; op = mech.op; reply = reply; begin = mech.begin; end = end; path = mech.path }
 
 -- an outcome is told: a reply as it is, a value by the load of its node; references are below 2^20
 abbrev pub told : {S W : Type 0} → Outcome → Mech S W → Mech S W
 told (Plain reply) mech = in_phase (End reply) mech
 told (ValueOf reference) mech = in_phase (Value (reference % 2 ^ 20)) mech
 
+-- a word of the announcement was stored; the call is on the slow path from the store of its record on
+abbrev pub announced : {S W : Type 0} → Announcing → Mech S W → Mech S W
+announced announcing.Value mech = in_phase (Announce announcing.Op) mech
+announced announcing.Op mech = in_phase (Announce announcing.Record) mech
+announced announcing.Record mech = in_phase (Enter (enter_new mech.seat mech.setup.seats)) (record mech { path = Slow })
+
+abbrev pub entered : {S W : Type 0} → Entering → Owner → Mech S W → Mech S W
+entered entering_to.Running owner mech = in_phase (Enter owner) mech
+entered entering_to.Entered owner mech = in_phase Drive mech
+entered (entering_to.Finished outcome) owner mech = told outcome mech
+
+-- the stores that announce a call
+abbrev pub announce_request : {S W : Type 0} → Announcing → Mech S W → Request
+announce_request announcing.Value mech = Store (value_place mech.seat) (value_word mech.number mech.op.value)
+announce_request announcing.Op mech = Store (op_place mech.seat) (op_word mech.op.code mech.number mech.op.key)
+announce_request announcing.Record mech = Store (record_place mech.seat) (record_word record_phase.Generate mech.number 0 0)
+
+-- whether the call tries once more on its own: below its limit of failures, and always where no call is published
+abbrev pub may_search : {S W : Type 0} → Mech S W → Bool
+may_search mech = not mech.setup.publishes || nat_lt mech.failures mech.setup.limit
+
+-- the head that a seat helps before its own search; none where no call is published
+abbrev pub head_seen : Setup → ℕ → Option ℕ
+head_seen setup word = if setup.publishes then head_of word else None
+
+-- the stores of a list that the seat executes itself; an operation that needs no block makes none
+abbrev pub stores_for : {S W : Type 0} → Bool → List (ℕ × ℕ) → Mech S W → List (ℕ × ℕ)
+stores_for needs stores mech = if needs then own_stores (block_of mech.hand) mech.seat mech.number mech.op stores else []
+
 module _ {S W : Type 0} (form : NormalForm S W) where
-  -- a new search begins
+  -- a new search begins; a call at its limit of failures is announced
   abbrev pub tried : Mech S W → Mech S W
-  tried mech = in_phase (Generate (form.begin_of mech.op) Search) mech
+  tried mech = if may_search mech then in_phase (Generate (form.begin_of mech.op) Search) mech else in_phase (Announce announcing.Value) mech
 
   -- a failure is counted, up to the limit, and a new search begins
   abbrev pub failed : Mech S W → Mech S W
@@ -85,7 +110,7 @@ module _ {S W : Type 0} (form : NormalForm S W) where
   abbrev pub offered : S → Mech S W → Mech S W
   offered search mech =
       let offer = form.offer_of search mech.op (if form.needs_block mech.op then block_of mech.hand else 0) in
-      in_phase (Apply (record { entries = offer.entries; next = 0 }) (record { items = offer.stores }) (if form.needs_block mech.op then Fill 0 else Execute)) mech
+      in_phase (Apply (record { entries = offer.entries; next = 0 }) (record { items = stores_for (form.needs_block mech.op) offer.stores mech }) (if form.needs_block mech.op then Fill 0 else Execute)) mech
 
   -- the same for the search of a phase
   abbrev pub offered_in : Phase S W → Mech S W → Mech S W
@@ -142,16 +167,41 @@ module _ {S W : Type 0} (form : NormalForm S W) where
 
   abbrev pub applied : FastWalk → ArrayVec (ℕ × ℕ) → Applying → Seen → Mech S W → Mech S W
   applied run stores (Fill made) seen mech =
-      in_phase (Apply run stores (if made + 1 == length stores.items + 3 then Execute else Fill (made + 1))) mech
+      in_phase (Apply run stores (if made + 1 == length stores.items then Execute else Fill (made + 1))) mech
   applied run stores Execute seen mech = executed (fast_execution run seen) (fast_fed run seen) stores mech
+
+  -- ---- publishing and helping
+
+  -- what follows when helping ends: the drive of a published call, or a search
+  abbrev pub helped : Bool → Mech S W → Mech S W
+  helped drives mech = if drives then in_phase Drive mech else tried mech
+
+  -- helping the head begins; where there is none among the seats, helping is over
+  abbrev pub head_helped : Option ℕ → Bool → Mech S W → Mech S W
+  head_helped None drives mech = helped drives mech
+  head_helped (Some head) drives mech =
+      if nat_lt head mech.setup.seats then in_phase (Help drives (record { head = head; seats = mech.setup.seats; at = helping.Record None })) mech else helped drives mech
+
+  abbrev pub help_stepped : Bool → helper.Help S W → Seen → Mech S W → Mech S W
+  help_stepped drives help seen mech =
+      let after = with_hand (helping_hand help.at mech.hand mech.setup.cap seen) mech in
+      if helping_ends form help.at help.head seen then helped drives after else in_phase (Help drives (help_fed form help mech.hand mech.setup.cap seen)) after
+
+  abbrev pub driven : Seen → Mech S W → Mech S W
+  driven seen mech = if holds seen.before mech.seat then head_helped (head_of seen.before) true mech else in_phase Collect mech
 
   abbrev pub stepped : Phase S W → Seen → Mech S W → Mech S W
   stepped Idle seen mech = mech
   stepped Begin seen mech = in_phase Look (record mech { begin = seen.before })
-  stepped Look seen mech = tried mech
+  stepped Look seen mech = head_helped (head_seen mech.setup seen.before) false mech
   stepped (Generate search at) seen mech = generated search at seen mech
   stepped (Apply run stores at) seen mech = applied run stores at seen mech
   stepped (Wrap wrap) seen mech = wrapped_up (form.wrap_found_of wrap seen) (form.feed_wrap_of wrap seen) mech
+  stepped (Announce at) seen mech = announced at mech
+  stepped (Enter owner) seen mech = entered (entering owner seen) (enter_fed owner seen) mech
+  stepped Drive seen mech = driven seen mech
+  stepped (Help drives help) seen mech = help_stepped drives help seen mech
+  stepped Collect seen mech = told (outcome_or_done seen.before) mech
   stepped (Value reference) seen mech = in_phase (End (reply.Value (seen.before % 2 ^ 32))) mech
   stepped (End reply) seen mech = in_phase Idle mech
 
@@ -166,9 +216,14 @@ module _ {S W : Type 0} (form : NormalForm S W) where
   request_in (Generate search Search) mech = form.request_of search
   request_in (Generate search LookForBlock) mech = Load CLAIMS
   request_in (Generate search Claim) mech = Add CLAIMS 1
-  request_in (Apply run stores (Fill made)) mech = fill_request (block_of mech.hand) mech.seat mech.number mech.op stores.items made
+  request_in (Apply run stores (Fill made)) mech = stored_by (slice_get stores.items made)
   request_in (Apply run stores Execute) mech = fast_request run
   request_in (Wrap wrap) mech = form.wrap_request_of wrap
+  request_in (Announce at) mech = announce_request at mech
+  request_in (Enter owner) mech = enter_request owner
+  request_in Drive mech = Load QUEUE
+  request_in (Help drives help) mech = help_request form help
+  request_in Collect mech = Load (record_place mech.seat)
   request_in (Value reference) mech = Load (node_place reference NODE_VALUE)
   request_in (End reply) mech = Add TICKS 1
 
@@ -178,7 +233,7 @@ module _ {S W : Type 0} (form : NormalForm S W) where
 
 -- a store into the block was made
 abbrev pub filled : {S W : Type 0} → Phase S W → Phase S W
-filled (Apply run stores (Fill made)) = Apply run stores (if made + 1 == length stores.items + 3 then Execute else Fill (made + 1))
+filled (Apply run stores (Fill made)) = Apply run stores (if made + 1 == length stores.items then Execute else Fill (made + 1))
 filled phase = phase
 
 -- whether the machine has no call
@@ -194,6 +249,7 @@ ends _ = false
 -- whether the next request is the exchange of an entry of a list
 abbrev pub lists : {S W : Type 0} → Phase S W → Bool
 lists (Apply run stores Execute) = true
+lists (Help drives help) = helps_listed help.at
 lists _ = false
 
 -- what the step comes to: it returns where it draws the end tick
@@ -206,7 +262,7 @@ mech_turn mech seen = turn_in mech.phase seen mech
 
 -- a call that has begun
 abbrev pub pending_call : {S W : Type 0} → Mech S W → PendingCall
-pending_call mech = record { seat = mech.seat; number = mech.number; op = mech.op; begin = mech.begin; path = Fast }
+pending_call mech = record { seat = mech.seat; number = mech.number; op = mech.op; begin = mech.begin; path = mech.path }
 
 abbrev pub pending_in : {S W : Type 0} → Phase S W → Mech S W → Option PendingCall
 pending_in Idle mech = None
@@ -219,11 +275,11 @@ mech_pending mech = pending_in mech.phase mech
 
 -- a new seat
 abbrev pub mech_new : {S W : Type 0} → ℕ → Setup → Mech S W
-mech_new seat setup = record { setup = setup; seat = seat; number = 0; op = record { code = 0; key = 0; value = 0 }; begin = 0; failures = 0; hand = None; phase = Idle }
+mech_new seat setup = record { setup = setup; seat = seat; number = 0; op = record { code = 0; key = 0; value = 0 }; begin = 0; failures = 0; hand = None; path = Fast; phase = Idle }
 
 -- the next call begins
 abbrev pub mech_started : {S W : Type 0} → Op → Mech S W → Mech S W
-mech_started op mech = record mech { number = mech.number + 1; op = op; failures = 0; phase = Begin }
+mech_started op mech = record mech { number = mech.number + 1; op = op; failures = 0; path = Fast; phase = Begin }
 
 abbrev pub event_of : {S W : Type 0} → EventKind → Mech S W → Event
 event_of kind mech = record { kind = kind; seat = mech.seat; number = mech.number }

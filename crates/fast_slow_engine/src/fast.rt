@@ -1,23 +1,23 @@
 //! The steps of a call on its fast path.
-ghost use Rattle.std.specs.Prelude.{◌≡◌, ◌+◌, ◌<◌, ◌≤◌, ◌↔◌, ◌^◌, ◌%◌, IsTrue, true, false, Some, None};
+ghost use Rattle.std.specs.Prelude.{◌≡◌, ◌+◌, ◌<◌, ◌≤◌, ◌↔◌, ◌^◌, ◌%◌, IsTrue, true, false, Some, None, length};
 ghost use Rattle.fast_slow_engine.specs.declared.phases.Phase.{Phase};
 ghost use Rattle.fast_slow_engine.specs.declared.phases.Generating.{Generating};
 ghost use Rattle.normal_traits.specs.declared.form.Wrapped.{Wrapped};
-ghost use Rattle.fast_slow_engine.specs.Mechs.{Applies, CanOffer, Executes, Fills, Generates, WrapsUp, IsAt, IsCallOf, IsReadyIn, block_of, mech_of};
+ghost use Rattle.fast_slow_engine.specs.Hands.{block_of};
+ghost use Rattle.fast_slow_engine.specs.Mechs.{Applies, CanOffer, Executes, Fills, Generates, WrapsUp, IsAt, IsCallOf, IsInRange, IsReadyIn, mech_of};
+ghost use Rattle.fast_slow_engine.specs.OfferStores.{own_stores};
 ghost use Rattle.fast_slow_engine.specs.PhaseTable.{ends, rests, told, tried, failed, offered, offered_in, filled, readied_in, searched, spent, stopped, wrapped_up, generated, applied, stepped};
 
 use crate::call::Call;
-use crate::phases::{Applying, Generating, Phase};
+use crate::phases::{Announcing, Applying, Generating, Phase, Stores};
+use crate::stores::{push_all, store_call};
 use cas_executor::{Execution, FastRun};
 use lin_report::{Outcome, Reply};
 use normal_traits::{Found, Normalized, Wrapped};
 use step_memory::Seen;
 
-/// How many words of a block are stored before those of an offer: owner, op word and value word.
-const NOTES: usize = 3;
-
 /// Ends the call with an outcome: a reply is told as it is, the value of a node is loaded first.
-fn tell<S: Drop, W: Drop>(outcome: Outcome, call: &Call, phase: &mut Phase<S, W>)
+pub fn tell<S: Drop, W: Drop>(outcome: Outcome, call: &Call, phase: &mut Phase<S, W>)
     ensures machine { mech_of call.now phase.new ≡ told outcome (mech_of call.now phase.old) }
 {
     *phase = match outcome {
@@ -26,15 +26,19 @@ fn tell<S: Drop, W: Drop>(outcome: Outcome, call: &Call, phase: &mut Phase<S, W>
     };
 }
 
-/// Begins a new search.
-fn search_again<C: Normalized>(call: &Call, phase: &mut Phase<C::Search, C::Wrap>)
+/// Begins a new search. At the limit of failures the call is announced.
+pub fn try_again<C: Normalized>(call: &Call, phase: &mut Phase<C::Search, C::Wrap>)
     requires { IsCallOf C.form.client call.now }
     ensures machine { mech_of call.now phase.new ≡ tried C.form (mech_of call.now phase.old) }
     ensures ready { IsReadyIn C.form phase.new }
 {
-    *phase = Phase::Generate {
-        search: C::begin(call.op),
-        at: Generating::Search,
+    *phase = if !call.setup.publishes || call.contention.may_try() {
+        Phase::Generate {
+            search: C::begin(call.op),
+            at: Generating::Search,
+        }
+    } else {
+        Phase::Announce(Announcing::Value)
     };
 }
 
@@ -46,7 +50,21 @@ fn fail<C: Normalized>(call: &mut Call, phase: &mut Phase<C::Search, C::Wrap>)
     ensures ready { IsReadyIn C.form phase.new }
 {
     call.contention.count();
-    search_again::<C>(call, phase);
+    try_again::<C>(call, phase);
+}
+
+/// The stores that fill a block for a list that the seat executes itself.
+fn filling(call: &Call, block: u32, stores: &[(u32, u64)]) -> Stores
+    requires range { IsInRange call.now }
+    requires block { block < 2 ^ 17 }
+    requires code { call.now.op.code < 16 }
+    requires key { call.now.op.key < 1048576 }
+    requires few { length stores.now ≤ 20 }
+    ensures { result.items ≡ own_stores block call.now.seat call.now.number call.now.op stores.now }
+{
+    let mut filling = store_call(block, call.seat, call.number as u16, call.op);
+    push_all(&mut filling, stores);
+    filling
 }
 
 /// Names the list of a generator that is ready, with the block in hand where the operation needs one. The
@@ -63,14 +81,15 @@ fn offer<C: Normalized>(call: &Call, phase: &mut Phase<C::Search, C::Wrap>)
     let needs = C::needs_block(call.op);
     let block = if needs { call.hand.unwrap_or(0) } else { 0 };
     let offer = C::offer(search, call.op, block);
+    let (stores, at) = if needs {
+        (filling(call, block, &offer.stores), Applying::Fill(0))
+    } else {
+        (Stores::new(), Applying::Execute)
+    };
     *phase = Phase::Apply {
         run: FastRun::new(offer.list),
-        stores: offer.stores,
-        at: if needs {
-            Applying::Fill(0)
-        } else {
-            Applying::Execute
-        },
+        stores,
+        at,
     };
 }
 
@@ -164,7 +183,7 @@ fn fill<S: Drop, W: Drop>(phase: &mut Phase<S, W>)
     let Applying::Fill(made) = at else {
         unreachable!()
     };
-    if *made as usize + 1 == stores.len() + NOTES {
+    if *made as usize + 1 == stores.len() {
         *at = Applying::Execute;
     } else {
         *made += 1;
@@ -224,7 +243,7 @@ fn execute<C: Normalized>(call: &mut Call, phase: &mut Phase<C::Search, C::Wrap>
 }
 
 /// A step of the wrap-up.
-fn wrap_up<C: Normalized>(call: &mut Call, phase: &mut Phase<C::Search, C::Wrap>, seen: Seen)
+pub fn wrap_up<C: Normalized>(call: &mut Call, phase: &mut Phase<C::Search, C::Wrap>, seen: Seen)
     requires call { IsCallOf C.form.client call.old }
     requires wraps { WrapsUp phase.old }
     requires ready { IsReadyIn C.form phase.old }
@@ -243,7 +262,7 @@ fn wrap_up<C: Normalized>(call: &mut Call, phase: &mut Phase<C::Search, C::Wrap>
 }
 
 /// A step of a search with its claim.
-fn generate<C: Normalized>(call: &mut Call, phase: &mut Phase<C::Search, C::Wrap>, seen: Seen)
+pub fn generate<C: Normalized>(call: &mut Call, phase: &mut Phase<C::Search, C::Wrap>, seen: Seen)
     requires call { IsCallOf C.form.client call.old }
     requires generates { Generates phase.old }
     requires ready { IsReadyIn C.form phase.old }
@@ -262,7 +281,7 @@ fn generate<C: Normalized>(call: &mut Call, phase: &mut Phase<C::Search, C::Wrap
 }
 
 /// A step of an offer.
-fn apply<C: Normalized>(call: &mut Call, phase: &mut Phase<C::Search, C::Wrap>, seen: Seen)
+pub fn apply<C: Normalized>(call: &mut Call, phase: &mut Phase<C::Search, C::Wrap>, seen: Seen)
     requires call { IsCallOf C.form.client call.old }
     requires applies { Applies phase.old }
     requires ready { IsReadyIn C.form phase.old }
@@ -276,29 +295,5 @@ fn apply<C: Normalized>(call: &mut Call, phase: &mut Phase<C::Search, C::Wrap>, 
     match *at {
         Applying::Fill(_) => fill(phase),
         Applying::Execute => execute::<C>(call, phase, seen),
-    }
-}
-
-/// A step of a call that goes on after it: each but the drawing of the end tick.
-pub fn go_on<C: Normalized>(call: &mut Call, phase: &mut Phase<C::Search, C::Wrap>, seen: Seen)
-    requires call { IsCallOf C.form.client call.old }
-    requires runs { rests phase.old ≡ false }
-    requires goes_on { ends phase.old ≡ false }
-    requires ready { IsReadyIn C.form phase.old }
-    ensures machine { mech_of call.new phase.new ≡ stepped C.form phase.old seen (mech_of call.old phase.old) }
-    ensures call { IsCallOf C.form.client call.new }
-    ensures ready { IsReadyIn C.form phase.new }
-{
-    match phase {
-        Phase::Begin => {
-            call.begin = seen.before;
-            *phase = Phase::Look;
-        }
-        Phase::Look => search_again::<C>(call, phase),
-        Phase::Generate { .. } => generate::<C>(call, phase, seen),
-        Phase::Apply { .. } => apply::<C>(call, phase, seen),
-        Phase::Wrap(_) => wrap_up::<C>(call, phase, seen),
-        Phase::Value(_) => *phase = Phase::End(Reply::Value((seen.before % (1 << 32)) as u32)),
-        Phase::Idle | Phase::End(_) => unreachable!(),
     }
 }

@@ -1,14 +1,22 @@
 //! The engine: what a seat does, one atomic step after the other, for any structure in normalized form.
 #![tactic(auto)]
 
+pub use help::{Help, Helping, Work, WorkTurn};
 pub use machine::Machine;
-pub use phases::{Applying, Generating, Phase};
+pub use phases::{Announcing, Applying, Generating, Phase};
 pub use setup::{Setup, Turn};
 
 mod call;
 mod fast;
+pub mod help;
+mod helping;
 pub mod lines;
 pub mod machine;
 pub mod phases;
 mod requests;
 pub mod setup;
+mod slow;
+mod steps;
+mod stores;
+mod work;
+mod work_steps;

@@ -4,11 +4,11 @@ ghost use Rattle.lin_report.specs.declared.calls.Receipt.{Receipt};
 ghost use Rattle.fast_slow_engine.specs.declared.setup.Turn.{Turn};
 
 use crate::call::Call;
-use crate::fast::go_on;
 use crate::phases::{Applying, Phase};
 use crate::requests::request_of;
 use crate::setup::{Setup, Turn};
-use lin_report::{Event, EventKind, Op, PendingCall};
+use crate::steps::go_on;
+use lin_report::{Event, EventKind, Op, Path, PendingCall};
 use normal_traits::{Contention, Normalized};
 use std::marker::Model;
 use step_memory::{Request, Seen};
@@ -52,6 +52,7 @@ impl<C: Normalized> Machine<C> {
                 begin: 0,
                 contention: Contention::new(setup.limit),
                 hand: None,
+                path: Path::Fast,
             },
             phase: Phase::Idle,
         }
@@ -92,6 +93,7 @@ impl<C: Normalized> Machine<C> {
     {
         match &self.phase {
             Phase::Apply { at, .. } => *at == Applying::Execute,
+            Phase::Help { help, .. } => help.next_is_listed(),
             _ => false,
         }
     }

@@ -1,11 +1,14 @@
 //! The phases of a call.
 
+use crate::help::Help;
 use arrayvec::ArrayVec;
 use cas_executor::FastRun;
+use help_queue::Enter;
 use lin_report::Reply;
 
-/// The stores of an offer, each a place and a word.
-pub type Stores = ArrayVec<(u32, u64), 20>;
+/// The stores of an offer, each a place and a word: what the block tells of its call, the list where others
+/// execute it, then the client's.
+pub type Stores = ArrayVec<(u32, u64), 30>;
 
 /// What the next step of a call is for. `S` is the state of a generator and `W` that of a wrap-up.
 #[derive(Drop)]
@@ -29,6 +32,19 @@ pub enum Phase<S, W> {
     },
     /// Reads how far the list got.
     Wrap(W),
+    /// Announces the call: its next step is a store into one of the seat's words.
+    Announce(Announcing),
+    /// Enters the seat into the queue word.
+    Enter(Enter),
+    /// Loads the queue word, until it no longer holds the seat.
+    Drive,
+    /// Helps the call of a head, before the own search or while the own call is driven.
+    Help {
+        drives: bool,
+        help: Help<S, W>,
+    },
+    /// Loads the own record, which has the outcome.
+    Collect,
     /// Loads the value of the node that this reference names.
     Value(u32),
     /// Draws the end tick, with this reply.
@@ -49,8 +65,19 @@ pub enum Generating {
 /// How far an offer has come.
 #[derive(Clone, Copy, Debug, PartialEq, Eq)]
 pub enum Applying {
-    /// The block is filled. So many stores were made: owner, op word, value word, then those of the offer.
+    /// The block is filled. So many stores were made.
     Fill(u32),
     /// The list is executed.
     Execute,
+}
+
+/// The word of a seat that is stored next.
+#[derive(Clone, Copy, Debug, PartialEq, Eq)]
+pub enum Announcing {
+    /// The value word of the call.
+    Value,
+    /// Its op word.
+    Op,
+    /// Its record word.
+    Record,
 }

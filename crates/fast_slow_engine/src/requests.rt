@@ -1,53 +1,47 @@
 //! The next request of each phase.
-ghost use Rattle.std.specs.Prelude.{◌≡◌, ◌+◌, ◌<◌, ◌≤◌, length, false};
-ghost use Rattle.fast_slow_engine.specs.Mechs.{IsCallOf, IsInRange, IsReadyIn, block_of, mech_of};
-ghost use Rattle.fast_slow_engine.specs.PhaseTable.{fill_request, request_in, rests};
+ghost use Rattle.std.specs.Prelude.{◌≡◌, ◌+◌, ◌<◌, ◌≤◌, false};
+ghost use Rattle.fast_slow_engine.specs.Mechs.{IsCallOf, IsInRange, IsReadyIn, mech_of};
+ghost use Rattle.fast_slow_engine.specs.PhaseTable.{announce_request, request_in, rests};
+ghost use Rattle.fast_slow_engine.specs.declared.phases.Phase.{Phase};
+ghost use Rattle.fast_slow_engine.specs.HelpTable.{CanHelp, help_request};
 
 use crate::call::Call;
-use crate::phases::{Applying, Generating, Phase, Stores};
-use node_arena::places::{CLAIMS, NODE_VALUE, OP_FIELD, OWNER_FIELD, QUEUE, TICKS, VALUE_FIELD};
-use node_arena::{node_place, place_of};
+use crate::help::{Help, Helping};
+use crate::phases::{Announcing, Applying, Generating, Phase};
+use crate::work::work_request;
+use node_arena::places::{CLAIMS, NODE_VALUE, QUEUE, TICKS};
+use node_arena::{node_place, record_place};
 use normal_traits::Normalized;
+use op_record::{announce_op, announce_value};
 use step_memory::Request;
-use word_fields::owners::pack_owner;
-use word_fields::{OpWord, ValueWord};
 
-/// The next store into the block in hand, where so many were made.
-fn fill(call: &Call, stores: &Stores, made: u32) -> Request
+/// The next store that announces a call.
+fn announce<S, W>(call: &Call, at: Announcing, phase: &Phase<S, W>) -> Request
     requires range { IsInRange call.now }
+    requires some { 1 ≤ call.now.number }
     requires code { call.now.op.code < 16 }
     requires key { call.now.op.key < 1048576 }
-    requires more { made < length stores.now.items + 3 }
-    ensures { result ≡ fill_request (block_of call.now.hand) call.now.seat call.now.number call.now.op stores.now.items made }
+    ensures { result ≡ announce_request at (mech_of call.now phase.now) }
 {
-    let block = call.hand.unwrap_or(0);
     let number = call.number as u16;
-    match made {
-        0 => Request::Store {
-            at: place_of(block, OWNER_FIELD),
-            value: pack_owner(call.seat, number),
+    match at {
+        Announcing::Value => announce_value(call.seat, number, call.op.value),
+        Announcing::Op => announce_op(call.seat, number, call.op),
+        Announcing::Record => op_record::announce(call.seat, number),
+    }
+}
+
+/// The next request of a helper.
+fn help_request<C: Normalized>(help: &Help<C::Search, C::Wrap>) -> Request
+    requires { CanHelp C.form help.now }
+    ensures { result ≡ help_request C.form help.now }
+{
+    match &help.at {
+        Helping::Record(_) => Request::Load {
+            at: record_place(help.head),
         },
-        1 => Request::Store {
-            at: place_of(block, OP_FIELD),
-            value: OpWord {
-                code: call.op.code,
-                number,
-                key: call.op.key,
-            }
-            .pack(),
-        },
-        2 => Request::Store {
-            at: place_of(block, VALUE_FIELD),
-            value: ValueWord {
-                number,
-                value: call.op.value,
-            }
-            .pack(),
-        },
-        _ => {
-            let (at, value) = stores[made as usize - 3];
-            Request::Store { at, value }
-        }
+        Helping::Known { record, work } => work_request::<C>(work, help.head, *record),
+        Helping::Remove(remove) => remove.request(),
     }
 }
 
@@ -69,10 +63,20 @@ pub fn request_of<C: Normalized>(call: &Call, phase: &Phase<C::Search, C::Wrap>)
             Generating::Claim => Request::Add { at: CLAIMS, by: 1 },
         },
         Phase::Apply { run, stores, at } => match at {
-            Applying::Fill(made) => fill(call, stores, *made),
+            Applying::Fill(made) => {
+                let (at, value) = stores[*made as usize];
+                Request::Store { at, value }
+            }
             Applying::Execute => run.request(),
         },
         Phase::Wrap(wrap) => C::wrap_request(wrap),
+        Phase::Announce(at) => announce(call, *at, phase),
+        Phase::Enter(enter) => enter.request(),
+        Phase::Drive => Request::Load { at: QUEUE },
+        Phase::Help { help, .. } => help_request::<C>(help),
+        Phase::Collect => Request::Load {
+            at: record_place(call.seat),
+        },
         Phase::Value(reference) => Request::Load {
             at: node_place(*reference, NODE_VALUE),
         },

@@ -11,6 +11,7 @@ pub use report::{report_room, write_report, write_summary};
 pub use set_object::SetObject;
 
 pub mod calls;
+pub mod commands;
 pub mod events;
 pub mod laws;
 pub mod map_object;

@@ -47,6 +47,24 @@ pub fn pack_wrapping(block: u32, stop: u32) -> u32
     PayloadStop::put(PayloadBlock::put(0, u64::from(block)), u64::from(stop)) as u32
 }
 
+/// The block of a payload.
+#[tactic(auto, unfolding(crate::specs::Payloads::payload_block))]
+pub fn block_of(payload: u32) -> u32
+    ensures block { result ≡ payload_block payload }
+    ensures in_range { result < 2 ^ 17 }
+{
+    PayloadBlock::get(u64::from(payload)) as u32
+}
+
+/// The stop of a payload.
+#[tactic(auto, unfolding(crate::specs::Payloads::payload_stop))]
+pub fn stop_of(payload: u32) -> u32
+    ensures stop { result ≡ payload_stop payload }
+    ensures in_range { result < 2 ^ 2 }
+{
+    PayloadStop::get(u64::from(payload)) as u32
+}
+
 /// Whether a reply of this kind has a value or a reference.
 fn has_value(kind: u64) -> bool
     ensures { result ≡ Payloads.has_value kind }

@@ -1,0 +1,76 @@
+//! The stores of an offer: what its block tells of its call and, where others execute it, of its list.
+ghost use Rattle.std.specs.Prelude.{◌≡◌, ◌+◌, ◌<◌, ◌≤◌, ◌^◌, ◌++◌, length, slice_get};
+ghost use Rattle.fast_slow_engine.specs.OfferStores.{call_stores, entry_stores, note_stores};
+
+use crate::phases::Stores;
+use lin_report::Op;
+use node_arena::place_of;
+use node_arena::places::{
+    ENTRY_FIELD, ENTRY_FIELDS, LENGTH_FIELD, OP_FIELD, OWNER_FIELD, VALUE_FIELD,
+};
+use normal_traits::List;
+use word_fields::owners::pack_owner;
+use word_fields::{OpWord, ValueWord};
+
+/// What a block tells of its call: owner, op word and value word.
+pub fn store_call(block: u32, seat: u32, number: u16, op: Op) -> Stores
+    requires block { block < 2 ^ 17 }
+    requires seat { seat < 8 }
+    requires code { op.code < 16 }
+    requires key { op.key < 1048576 }
+    ensures { result.items ≡ call_stores block seat number op }
+{
+    let mut stores = Stores::new();
+    stores.push((place_of(block, OWNER_FIELD), pack_owner(seat, number)));
+    let op_word = OpWord {
+        code: op.code,
+        number,
+        key: op.key,
+    };
+    stores.push((place_of(block, OP_FIELD), op_word.pack()));
+    let value_word = ValueWord {
+        number,
+        value: op.value,
+    };
+    stores.push((place_of(block, VALUE_FIELD), value_word.pack()));
+    stores
+}
+
+/// The same with the length of the list.
+pub fn store_notes(block: u32, seat: u32, number: u16, op: Op, length: u32) -> Stores
+    requires block { block < 2 ^ 17 }
+    requires seat { seat < 8 }
+    requires code { op.code < 16 }
+    requires key { op.key < 1048576 }
+    ensures { result.items ≡ note_stores block seat number op length }
+{
+    let mut stores = store_call(block, seat, number, op);
+    stores.push((place_of(block, LENGTH_FIELD), u64::from(length)));
+    stores
+}
+
+/// Puts the three words of entry j last, where there is one.
+pub fn store_entry(stores: &mut Stores, block: u32, j: u32, list: &List)
+    requires block { block < 2 ^ 17 }
+    requires entry { j < 2 }
+    requires room { length stores.old.items + 3 ≤ 30 }
+    ensures { stores.new.items ≡ stores.old.items ++ entry_stores block j (slice_get list.now.items j) }
+{
+    let Some(entry) = list.get(j as usize) else {
+        return;
+    };
+    let field = ENTRY_FIELD + ENTRY_FIELDS * j;
+    stores.push((place_of(block, field), u64::from(entry.target)));
+    stores.push((place_of(block, field + 1), entry.from));
+    stores.push((place_of(block, field + 2), entry.to));
+}
+
+/// Puts the stores of a client last.
+pub fn push_all(stores: &mut Stores, more: &[(u32, u64)])
+    requires { length stores.old.items + length more.now ≤ 30 }
+    ensures { stores.new.items ≡ stores.old.items ++ more.now }
+{
+    for store in more {
+        stores.push(*store);
+    }
+}
