@@ -256,6 +256,13 @@ abbrev pub Generates : {S W : Type 0} → Work S W → Type 0
 Generates (work.Generate op search at) = Unit {0}
 Generates _ = ⊥
 
+-- the work looks at the head, or loads the call's operation
+abbrev pub LooksUp : {S W : Type 0} → Work S W → Type 0
+LooksUp work.Head = Unit {0}
+LooksUp work.Op = Unit {0}
+LooksUp (work.Value op) = Unit {0}
+LooksUp _ = ⊥
+
 abbrev pub IsAtStep : {S W : Type 0} → Generating → Work S W → Type 0
 IsAtStep step (work.Generate op search at) = at ≡ step
 IsAtStep step _ = ⊥

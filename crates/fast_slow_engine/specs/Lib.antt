@@ -2,6 +2,7 @@ pub mod Hands
 pub mod HelpWords
 pub mod OfferStores
 pub mod HelpTable
+pub mod Doings
 pub mod Mechs
 pub mod PhaseTable
 pub mod Runs

@@ -3,13 +3,15 @@ ghost use Rattle.std.specs.Prelude.{◌≡◌, ◌+◌, ◌<◌, ◌≤◌, ◌�
 ghost use Rattle.fast_slow_engine.specs.declared.phases.Phase.{Phase};
 ghost use Rattle.fast_slow_engine.specs.declared.phases.Generating.{Generating};
 ghost use Rattle.normal_traits.specs.declared.form.Wrapped.{Wrapped};
+ghost use Rattle.fast_slow_engine.specs.Doings.{phase_of};
 ghost use Rattle.fast_slow_engine.specs.Hands.{block_of};
 ghost use Rattle.fast_slow_engine.specs.Mechs.{Applies, CanOffer, Executes, Fills, Generates, WrapsUp, IsAt, IsCallOf, IsInRange, IsReadyIn, mech_of};
 ghost use Rattle.fast_slow_engine.specs.OfferStores.{own_stores};
 ghost use Rattle.fast_slow_engine.specs.PhaseTable.{ends, rests, told, tried, failed, offered, offered_in, filled, readied_in, searched, spent, stopped, wrapped_up, generated, applied, stepped};
 
 use crate::call::Call;
-use crate::phases::{Announcing, Applying, Generating, Phase, Stores};
+use crate::doing::{Doing, Room};
+use crate::phases::{Announcing, Applying, Generating, Stores};
 use crate::stores::{push_all, store_call};
 use cas_executor::{Execution, FastRun};
 use lin_report::{Outcome, Reply};
@@ -17,117 +19,117 @@ use normal_traits::{Found, Normalized, Wrapped};
 use step_memory::Seen;
 
 /// Ends the call with an outcome: a reply is told as it is, the value of a node is loaded first.
-pub fn tell<S: Drop, W: Drop>(outcome: Outcome, call: &Call, phase: &mut Phase<S, W>)
-    ensures machine { mech_of call.now phase.new ≡ told outcome (mech_of call.now phase.old) }
+pub fn tell<S: Drop, W: Drop>(outcome: Outcome, call: &Call, room: &mut Room<S, W>)
+    ensures machine { mech_of call.now (phase_of room.new) ≡ told outcome (mech_of call.now (phase_of room.old)) }
 {
-    *phase = match outcome {
-        Outcome::Plain(reply) => Phase::End(reply),
-        Outcome::ValueOf(reference) => Phase::Value(reference % (1 << 20)),
+    room.doing = match outcome {
+        Outcome::Plain(reply) => Doing::End(reply),
+        Outcome::ValueOf(reference) => Doing::Value(reference % (1 << 20)),
     };
 }
 
 /// Begins a new search. At the limit of failures the call is announced.
-pub fn try_again<C: Normalized>(call: &Call, phase: &mut Phase<C::Search, C::Wrap>)
+pub fn try_again<C: Normalized>(call: &Call, room: &mut Room<C::Search, C::Wrap>)
     requires { IsCallOf C.form.client call.now }
-    ensures machine { mech_of call.now phase.new ≡ tried C.form (mech_of call.now phase.old) }
-    ensures ready { IsReadyIn C.form phase.new }
+    ensures machine { mech_of call.now (phase_of room.new) ≡ tried C.form (mech_of call.now (phase_of room.old)) }
+    ensures ready { IsReadyIn C.form (phase_of room.new) }
 {
-    *phase = if !call.setup.publishes || call.contention.may_try() {
-        Phase::Generate {
+    room.doing = if !call.setup.publishes || call.contention.may_try() {
+        Doing::Generate {
             search: C::begin(call.op),
             at: Generating::Search,
         }
     } else {
-        Phase::Announce(Announcing::Value)
+        Doing::Announce(Announcing::Value)
     };
 }
 
 /// Counts a failure and begins a new search.
-fn fail<C: Normalized>(call: &mut Call, phase: &mut Phase<C::Search, C::Wrap>)
+fn fail<C: Normalized>(call: &mut Call, room: &mut Room<C::Search, C::Wrap>)
     requires { IsCallOf C.form.client call.old }
-    ensures machine { mech_of call.new phase.new ≡ failed C.form (mech_of call.old phase.old) }
+    ensures machine { mech_of call.new (phase_of room.new) ≡ failed C.form (mech_of call.old (phase_of room.old)) }
     ensures call { IsCallOf C.form.client call.new }
-    ensures ready { IsReadyIn C.form phase.new }
+    ensures ready { IsReadyIn C.form (phase_of room.new) }
 {
     call.contention.count();
-    try_again::<C>(call, phase);
+    try_again::<C>(call, room);
 }
 
-/// The stores that fill a block for a list that the seat executes itself.
-fn filling(call: &Call, block: u32, stores: &[(u32, u64)]) -> Stores
+/// Puts into the room the stores that fill a block for a list that the seat executes itself.
+fn fill_for(call: &Call, block: u32, offered: &[(u32, u64)], stores: &mut Stores)
     requires range { IsInRange call.now }
     requires block { block < 2 ^ 17 }
     requires code { call.now.op.code < 16 }
     requires key { call.now.op.key < 1048576 }
-    requires few { length stores.now ≤ 20 }
-    ensures { result.items ≡ own_stores block call.now.seat call.now.number call.now.op stores.now }
+    requires few { length offered.now ≤ 20 }
+    ensures { stores.new.items ≡ own_stores block call.now.seat call.now.number call.now.op offered.now }
 {
-    let mut filling = store_call(block, call.seat, call.number as u16, call.op);
-    push_all(&mut filling, stores);
-    filling
+    store_call(stores, block, call.seat, call.number as u16, call.op);
+    push_all(stores, offered);
 }
 
 /// Names the list of a generator that is ready, with the block in hand where the operation needs one. The
 /// block is filled first.
-fn offer<C: Normalized>(call: &Call, phase: &mut Phase<C::Search, C::Wrap>)
+fn offer<C: Normalized>(call: &Call, room: &mut Room<C::Search, C::Wrap>)
     requires call { IsCallOf C.form.client call.now }
-    requires ready { CanOffer C.form phase.old }
-    ensures machine { mech_of call.now phase.new ≡ offered_in C.form phase.old (mech_of call.now phase.old) }
-    ensures ready { IsReadyIn C.form phase.new }
+    requires ready { CanOffer C.form (phase_of room.old) }
+    ensures machine { mech_of call.now (phase_of room.new) ≡ offered_in C.form (phase_of room.old) (mech_of call.now (phase_of room.old)) }
+    ensures ready { IsReadyIn C.form (phase_of room.new) }
 {
-    let Phase::Generate { search, .. } = phase else {
+    let Doing::Generate { search, .. } = &room.doing else {
         unreachable!()
     };
     let needs = C::needs_block(call.op);
     let block = if needs { call.hand.unwrap_or(0) } else { 0 };
     let offer = C::offer(search, call.op, block);
-    let (stores, at) = if needs {
-        (filling(call, block, &offer.stores), Applying::Fill(0))
+    let at = if needs {
+        fill_for(call, block, &offer.stores, &mut room.stores);
+        Applying::Fill(0)
     } else {
-        (Stores::new(), Applying::Execute)
+        room.stores.clear();
+        Applying::Execute
     };
-    *phase = Phase::Apply {
+    room.doing = Doing::Apply {
         run: FastRun::new(offer.list),
-        stores,
         at,
     };
 }
 
 /// Goes on with a generator that can name its list: to the claim of a block where one is needed and none
 /// is in hand.
-fn ready<C: Normalized>(call: &Call, phase: &mut Phase<C::Search, C::Wrap>)
+fn ready<C: Normalized>(call: &Call, room: &mut Room<C::Search, C::Wrap>)
     requires call { IsCallOf C.form.client call.now }
-    requires ready { CanOffer C.form phase.old }
-    ensures machine { mech_of call.now phase.new ≡ readied_in C.form phase.old (mech_of call.now phase.old) }
-    ensures ready { IsReadyIn C.form phase.new }
+    requires ready { CanOffer C.form (phase_of room.old) }
+    ensures machine { mech_of call.now (phase_of room.new) ≡ readied_in C.form (phase_of room.old) (mech_of call.now (phase_of room.old)) }
+    ensures ready { IsReadyIn C.form (phase_of room.new) }
 {
     if C::needs_block(call.op) && call.hand.is_none() {
-        let Phase::Generate { at, .. } = phase else {
+        let Doing::Generate { at, .. } = &mut room.doing else {
             unreachable!()
         };
         *at = Generating::LookForBlock;
     } else {
-        offer::<C>(call, phase);
+        offer::<C>(call, room);
     }
 }
 
 /// A step of the generator.
-fn search<C: Normalized>(call: &mut Call, phase: &mut Phase<C::Search, C::Wrap>, seen: Seen)
+fn search<C: Normalized>(call: &mut Call, room: &mut Room<C::Search, C::Wrap>, seen: Seen)
     requires call { IsCallOf C.form.client call.old }
-    requires searches { IsAt Generating.Search phase.old }
-    requires ready { IsReadyIn C.form phase.old }
-    ensures machine { mech_of call.new phase.new ≡ stepped C.form phase.old seen (mech_of call.old phase.old) }
+    requires searches { IsAt Generating.Search (phase_of room.old) }
+    requires ready { IsReadyIn C.form (phase_of room.old) }
+    ensures machine { mech_of call.new (phase_of room.new) ≡ stepped C.form (phase_of room.old) seen (mech_of call.old (phase_of room.old)) }
     ensures call { IsCallOf C.form.client call.new }
-    ensures ready { IsReadyIn C.form phase.new }
+    ensures ready { IsReadyIn C.form (phase_of room.new) }
 {
-    let Phase::Generate { search, .. } = phase else {
+    let Doing::Generate { search, .. } = &mut room.doing else {
         unreachable!()
     };
     match C::feed(search, seen) {
         Found::Going => {}
-        Found::Ready => ready::<C>(call, phase),
-        Found::Answer(outcome) => tell(outcome, call, phase),
-        Found::Contended => fail::<C>(call, phase),
+        Found::Ready => ready::<C>(call, room),
+        Found::Answer(outcome) => tell(outcome, call, room),
+        Found::Contended => fail::<C>(call, room),
     }
 }
 
@@ -139,51 +141,51 @@ fn none_is_left(call: &Call, claimed: u64) -> bool
 }
 
 /// Looks whether a block is left to claim.
-fn look_for_block<C: Normalized>(call: &Call, phase: &mut Phase<C::Search, C::Wrap>, seen: Seen)
-    requires looks { IsAt Generating.LookForBlock phase.old }
-    requires ready { IsReadyIn C.form phase.old }
-    ensures machine { mech_of call.now phase.new ≡ stepped C.form phase.old seen (mech_of call.now phase.old) }
-    ensures ready { IsReadyIn C.form phase.new }
+fn look_for_block<C: Normalized>(call: &Call, room: &mut Room<C::Search, C::Wrap>, seen: Seen)
+    requires looks { IsAt Generating.LookForBlock (phase_of room.old) }
+    requires ready { IsReadyIn C.form (phase_of room.old) }
+    ensures machine { mech_of call.now (phase_of room.new) ≡ stepped C.form (phase_of room.old) seen (mech_of call.now (phase_of room.old)) }
+    ensures ready { IsReadyIn C.form (phase_of room.new) }
 {
     if none_is_left(call, seen.before) {
-        *phase = Phase::End(Reply::Exhausted);
+        room.doing = Doing::End(Reply::Exhausted);
         return;
     }
-    let Phase::Generate { at, .. } = phase else {
+    let Doing::Generate { at, .. } = &mut room.doing else {
         unreachable!()
     };
     *at = Generating::Claim;
 }
 
 /// Takes the block that was claimed, where there was one.
-fn claim<C: Normalized>(call: &mut Call, phase: &mut Phase<C::Search, C::Wrap>, seen: Seen)
+fn claim<C: Normalized>(call: &mut Call, room: &mut Room<C::Search, C::Wrap>, seen: Seen)
     requires call { IsCallOf C.form.client call.old }
-    requires claims { IsAt Generating.Claim phase.old }
-    requires ready { IsReadyIn C.form phase.old }
-    ensures machine { mech_of call.new phase.new ≡ stepped C.form phase.old seen (mech_of call.old phase.old) }
+    requires claims { IsAt Generating.Claim (phase_of room.old) }
+    requires ready { IsReadyIn C.form (phase_of room.old) }
+    ensures machine { mech_of call.new (phase_of room.new) ≡ stepped C.form (phase_of room.old) seen (mech_of call.old (phase_of room.old)) }
     ensures call { IsCallOf C.form.client call.new }
-    ensures ready { IsReadyIn C.form phase.new }
+    ensures ready { IsReadyIn C.form (phase_of room.new) }
 {
     if none_is_left(call, seen.before) {
-        *phase = Phase::End(Reply::Exhausted);
+        room.doing = Doing::End(Reply::Exhausted);
         return;
     }
     call.hand = Some(seen.before as u32 + 1);
-    offer::<C>(call, phase);
+    offer::<C>(call, room);
 }
 
 /// A store into the block in hand was made.
-fn fill<S: Drop, W: Drop>(phase: &mut Phase<S, W>)
-    requires { Fills phase.old }
-    ensures machine { phase.new ≡ filled phase.old }
+fn fill<S: Drop, W: Drop>(room: &mut Room<S, W>)
+    requires { Fills (phase_of room.old) }
+    ensures machine { phase_of room.new ≡ filled (phase_of room.old) }
 {
-    let Phase::Apply { stores, at, .. } = phase else {
+    let Doing::Apply { at, .. } = &mut room.doing else {
         unreachable!()
     };
     let Applying::Fill(made) = at else {
         unreachable!()
     };
-    if *made as usize + 1 == stores.len() {
+    if *made as usize + 1 == room.stores.len() {
         *at = Applying::Execute;
     } else {
         *made += 1;
@@ -195,18 +197,18 @@ fn wrapped<C: Normalized>(
     wrapped: Wrapped,
     wrap: C::Wrap,
     call: &mut Call,
-    phase: &mut Phase<C::Search, C::Wrap>,
+    room: &mut Room<C::Search, C::Wrap>,
 )
     requires call { IsCallOf C.form.client call.old }
     requires goes { wrapped ≡ Wrapped.Going → C.form.wraps wrap }
-    ensures machine { (before : Phase C.Search C.Wrap) → mech_of call.new phase.new ≡ wrapped_up C.form wrapped wrap (mech_of call.old before) }
+    ensures machine { (before : Phase C.Search C.Wrap) → mech_of call.new (phase_of room.new) ≡ wrapped_up C.form wrapped wrap (mech_of call.old before) }
     ensures call { IsCallOf C.form.client call.new }
-    ensures ready { IsReadyIn C.form phase.new }
+    ensures ready { IsReadyIn C.form (phase_of room.new) }
 {
     match wrapped {
-        Wrapped::Going => *phase = Phase::Wrap(wrap),
-        Wrapped::Done(outcome) => tell(outcome, call, phase),
-        Wrapped::Restart => fail::<C>(call, phase),
+        Wrapped::Going => room.doing = Doing::Wrap(wrap),
+        Wrapped::Done(outcome) => tell(outcome, call, room),
+        Wrapped::Restart => fail::<C>(call, room),
     }
 }
 
@@ -223,15 +225,15 @@ fn spend<C: Normalized>(call: &mut Call, stop: u32)
 }
 
 /// The exchange of an entry was made.
-fn execute<C: Normalized>(call: &mut Call, phase: &mut Phase<C::Search, C::Wrap>, seen: Seen)
+fn execute<C: Normalized>(call: &mut Call, room: &mut Room<C::Search, C::Wrap>, seen: Seen)
     requires call { IsCallOf C.form.client call.old }
-    requires executes { Executes phase.old }
-    requires ready { IsReadyIn C.form phase.old }
-    ensures machine { mech_of call.new phase.new ≡ stepped C.form phase.old seen (mech_of call.old phase.old) }
+    requires executes { Executes (phase_of room.old) }
+    requires ready { IsReadyIn C.form (phase_of room.old) }
+    ensures machine { mech_of call.new (phase_of room.new) ≡ stepped C.form (phase_of room.old) seen (mech_of call.old (phase_of room.old)) }
     ensures call { IsCallOf C.form.client call.new }
-    ensures ready { IsReadyIn C.form phase.new }
+    ensures ready { IsReadyIn C.form (phase_of room.new) }
 {
-    let Phase::Apply { run, .. } = phase else {
+    let Doing::Apply { run, .. } = &mut room.doing else {
         unreachable!()
     };
     let Execution::Stopped(stop) = run.feed(seen) else {
@@ -239,61 +241,61 @@ fn execute<C: Normalized>(call: &mut Call, phase: &mut Phase<C::Search, C::Wrap>
     };
     spend::<C>(call, stop);
     let (wrap, begun) = C::begin_wrap(call.op, run.list(), stop);
-    wrapped::<C>(begun, wrap, call, phase);
+    wrapped::<C>(begun, wrap, call, room);
 }
 
 /// A step of the wrap-up.
-pub fn wrap_up<C: Normalized>(call: &mut Call, phase: &mut Phase<C::Search, C::Wrap>, seen: Seen)
+pub fn wrap_up<C: Normalized>(call: &mut Call, room: &mut Room<C::Search, C::Wrap>, seen: Seen)
     requires call { IsCallOf C.form.client call.old }
-    requires wraps { WrapsUp phase.old }
-    requires ready { IsReadyIn C.form phase.old }
-    ensures machine { mech_of call.new phase.new ≡ stepped C.form phase.old seen (mech_of call.old phase.old) }
+    requires wraps { WrapsUp (phase_of room.old) }
+    requires ready { IsReadyIn C.form (phase_of room.old) }
+    ensures machine { mech_of call.new (phase_of room.new) ≡ stepped C.form (phase_of room.old) seen (mech_of call.old (phase_of room.old)) }
     ensures call { IsCallOf C.form.client call.new }
-    ensures ready { IsReadyIn C.form phase.new }
+    ensures ready { IsReadyIn C.form (phase_of room.new) }
 {
-    let Phase::Wrap(wrap) = phase else {
+    let Doing::Wrap(wrap) = &mut room.doing else {
         unreachable!()
     };
     match C::feed_wrap(wrap, seen) {
         Wrapped::Going => {}
-        Wrapped::Done(outcome) => tell(outcome, call, phase),
-        Wrapped::Restart => fail::<C>(call, phase),
+        Wrapped::Done(outcome) => tell(outcome, call, room),
+        Wrapped::Restart => fail::<C>(call, room),
     }
 }
 
 /// A step of a search with its claim.
-pub fn generate<C: Normalized>(call: &mut Call, phase: &mut Phase<C::Search, C::Wrap>, seen: Seen)
+pub fn generate<C: Normalized>(call: &mut Call, room: &mut Room<C::Search, C::Wrap>, seen: Seen)
     requires call { IsCallOf C.form.client call.old }
-    requires generates { Generates phase.old }
-    requires ready { IsReadyIn C.form phase.old }
-    ensures machine { mech_of call.new phase.new ≡ stepped C.form phase.old seen (mech_of call.old phase.old) }
+    requires generates { Generates (phase_of room.old) }
+    requires ready { IsReadyIn C.form (phase_of room.old) }
+    ensures machine { mech_of call.new (phase_of room.new) ≡ stepped C.form (phase_of room.old) seen (mech_of call.old (phase_of room.old)) }
     ensures call { IsCallOf C.form.client call.new }
-    ensures ready { IsReadyIn C.form phase.new }
+    ensures ready { IsReadyIn C.form (phase_of room.new) }
 {
-    let Phase::Generate { at, .. } = phase else {
+    let Doing::Generate { at, .. } = &mut room.doing else {
         unreachable!()
     };
     match *at {
-        Generating::Search => search::<C>(call, phase, seen),
-        Generating::LookForBlock => look_for_block::<C>(call, phase, seen),
-        Generating::Claim => claim::<C>(call, phase, seen),
+        Generating::Search => search::<C>(call, room, seen),
+        Generating::LookForBlock => look_for_block::<C>(call, room, seen),
+        Generating::Claim => claim::<C>(call, room, seen),
     }
 }
 
 /// A step of an offer.
-pub fn apply<C: Normalized>(call: &mut Call, phase: &mut Phase<C::Search, C::Wrap>, seen: Seen)
+pub fn apply<C: Normalized>(call: &mut Call, room: &mut Room<C::Search, C::Wrap>, seen: Seen)
     requires call { IsCallOf C.form.client call.old }
-    requires applies { Applies phase.old }
-    requires ready { IsReadyIn C.form phase.old }
-    ensures machine { mech_of call.new phase.new ≡ stepped C.form phase.old seen (mech_of call.old phase.old) }
+    requires applies { Applies (phase_of room.old) }
+    requires ready { IsReadyIn C.form (phase_of room.old) }
+    ensures machine { mech_of call.new (phase_of room.new) ≡ stepped C.form (phase_of room.old) seen (mech_of call.old (phase_of room.old)) }
     ensures call { IsCallOf C.form.client call.new }
-    ensures ready { IsReadyIn C.form phase.new }
+    ensures ready { IsReadyIn C.form (phase_of room.new) }
 {
-    let Phase::Apply { at, .. } = phase else {
+    let Doing::Apply { at, .. } = &mut room.doing else {
         unreachable!()
     };
     match *at {
-        Applying::Fill(_) => fill(phase),
-        Applying::Execute => execute::<C>(call, phase, seen),
+        Applying::Fill(_) => fill(room),
+        Applying::Execute => execute::<C>(call, room, seen),
     }
 }

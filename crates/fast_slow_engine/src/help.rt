@@ -1,7 +1,4 @@
 //! Helping the call of a head, whoever made it.
-ghost use Rattle.std.specs.Prelude.{◌≡◌};
-ghost use Rattle.fast_slow_engine.specs.HelpTable.{helps_listed};
-
 use crate::phases::{Generating, Stores};
 use cas_executor::{BlockRead, SlowRun};
 use help_queue::Remove;
@@ -58,19 +55,4 @@ pub enum WorkTurn {
     Again,
     /// The seat isn't the head with this call.
     Over,
-}
-
-impl<S: Drop, W: Drop> Help<S, W> {
-    /// Whether the next step is the exchange of an entry of a list.
-    pub fn next_is_listed(&self) -> bool
-        ensures { result ≡ helps_listed self.now.at }
-    {
-        match &self.at {
-            Helping::Known {
-                work: Work::Execute(run),
-                ..
-            } => run.next_is_listed(),
-            _ => false,
-        }
-    }
 }

@@ -4,7 +4,8 @@ ghost use Rattle.lin_report.specs.declared.calls.Receipt.{Receipt};
 ghost use Rattle.fast_slow_engine.specs.declared.setup.Turn.{Turn};
 
 use crate::call::Call;
-use crate::phases::{Applying, Phase};
+use crate::doing::{Doing, Room};
+use crate::phases::{Applying, Stores};
 use crate::requests::request_of;
 use crate::setup::{Setup, Turn};
 use crate::steps::go_on;
@@ -17,17 +18,18 @@ use step_memory::{Request, Seen};
 #[derive(Drop)]
 pub struct Machine<C: Normalized> {
     call: Call,
-    phase: Phase<C::Search, C::Wrap>,
+    room: Room<C::Search, C::Wrap>,
 }
 
 impl<C: Normalized> Model for Machine<C> {
+    ghost use Rattle.fast_slow_engine.specs.Doings.{phase_of};
     ghost use Rattle.fast_slow_engine.specs.Mechs.{Mech, IsMachine, mech_of};
 
     ghost Value = { Mech C.Search C.Wrap };
 
-    ghost view = { λ m. mech_of m.call m.phase };
+    ghost view = { λ m. mech_of m.call (phase_of m.room) };
 
-    ghost invariant = { λ m. IsMachine C.form m.call m.phase };
+    ghost invariant = { λ m. IsMachine C.form m.call (phase_of m.room) };
 }
 
 impl<C: Normalized> Machine<C> {
@@ -54,7 +56,10 @@ impl<C: Normalized> Machine<C> {
                 hand: None,
                 path: Path::Fast,
             },
-            phase: Phase::Idle,
+            room: Room {
+                doing: Doing::Idle,
+                stores: Stores::new(),
+            },
         }
     }
 
@@ -62,8 +67,8 @@ impl<C: Normalized> Machine<C> {
     pub fn is_idle(&self) -> bool
         ensures { result ≡ rests self.now.phase }
     {
-        match &self.phase {
-            Phase::Idle => true,
+        match &self.room.doing {
+            Doing::Idle => true,
             _ => false,
         }
     }
@@ -76,7 +81,7 @@ impl<C: Normalized> Machine<C> {
         ensures machine { self.new ≡ mech_started op self.old }
     {
         self.call.begin_next(op);
-        self.phase = Phase::Begin;
+        self.room.doing = Doing::Begin;
     }
 
     /// The next step of the call that runs.
@@ -84,16 +89,16 @@ impl<C: Normalized> Machine<C> {
         requires runs { rests self.now.phase ≡ false }
         ensures request { result ≡ mech_request C.form self.now }
     {
-        request_of::<C>(&self.call, &self.phase)
+        request_of::<C>(&self.call, &self.room)
     }
 
     /// Whether the next step is the exchange of an entry of a list.
     pub fn next_is_listed(&self) -> bool
         ensures { result ≡ lists self.now.phase }
     {
-        match &self.phase {
-            Phase::Apply { at, .. } => *at == Applying::Execute,
-            Phase::Help { help, .. } => help.next_is_listed(),
+        match &self.room.doing {
+            Doing::Apply { at, .. } => *at == Applying::Execute,
+            Doing::Help { aid, .. } => aid.next_is_listed(),
             _ => false,
         }
     }
@@ -106,11 +111,11 @@ impl<C: Normalized> Machine<C> {
         ensures turn { result ≡ mech_turn self.old seen }
         ensures returns { IsTrue (rests self.new.phase) ↔ ((receipt : Receipt) × (result ≡ Turn.Returned receipt)) }
     {
-        if let Phase::End(reply) = self.phase {
-            self.phase = Phase::Idle;
+        if let Doing::End(reply) = self.room.doing {
+            self.room.doing = Doing::Idle;
             return Turn::Returned(self.call.receipt(reply, seen.before));
         }
-        go_on::<C>(&mut self.call, &mut self.phase, seen);
+        go_on::<C>(&mut self.call, &mut self.room, seen);
         Turn::Going
     }
 
@@ -118,8 +123,8 @@ impl<C: Normalized> Machine<C> {
     pub fn pending(&self) -> Option<PendingCall>
         ensures { result ≡ mech_pending self.now }
     {
-        match &self.phase {
-            Phase::Idle | Phase::Begin => None,
+        match &self.room.doing {
+            Doing::Idle | Doing::Begin => None,
             _ => Some(self.call.pending()),
         }
     }
@@ -135,9 +140,9 @@ impl<C: Normalized> Machine<C> {
     pub fn next_event(&self) -> Option<Event>
         ensures { result ≡ mech_event self.now }
     {
-        let kind = match &self.phase {
-            Phase::Begin => EventKind::Begin,
-            Phase::End(_) => EventKind::Return,
+        let kind = match &self.room.doing {
+            Doing::Begin => EventKind::Begin,
+            Doing::End(_) => EventKind::Return,
             _ => return None,
         };
         Some(Event {

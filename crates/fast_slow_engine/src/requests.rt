@@ -1,27 +1,28 @@
 //! The next request of each phase.
 ghost use Rattle.std.specs.Prelude.{◌≡◌, ◌+◌, ◌<◌, ◌≤◌, false};
+ghost use Rattle.fast_slow_engine.specs.Doings.{help_of, phase_of, work_of};
 ghost use Rattle.fast_slow_engine.specs.Mechs.{IsCallOf, IsInRange, IsReadyIn, mech_of};
 ghost use Rattle.fast_slow_engine.specs.PhaseTable.{announce_request, request_in, rests};
 ghost use Rattle.fast_slow_engine.specs.declared.phases.Phase.{Phase};
-ghost use Rattle.fast_slow_engine.specs.HelpTable.{CanHelp, help_request};
+ghost use Rattle.fast_slow_engine.specs.HelpTable.{CanHelp, CanWork, help_request, work_request};
 
 use crate::call::Call;
-use crate::help::{Help, Helping};
-use crate::phases::{Announcing, Applying, Generating, Phase};
-use crate::work::work_request;
+use crate::doing::{Aid, Aiding, Doing, Room, Task};
+use crate::phases::{Announcing, Applying, Generating, Stores};
 use node_arena::places::{CLAIMS, NODE_VALUE, QUEUE, TICKS};
-use node_arena::{node_place, record_place};
+use node_arena::{node_place, op_place, record_place, value_place};
 use normal_traits::Normalized;
 use op_record::{announce_op, announce_value};
 use step_memory::Request;
+use word_fields::RecordWord;
 
 /// The next store that announces a call.
-fn announce<S, W>(call: &Call, at: Announcing, phase: &Phase<S, W>) -> Request
+fn announce<S, W>(call: &Call, at: Announcing, room: &Room<S, W>) -> Request
     requires range { IsInRange call.now }
     requires some { 1 ≤ call.now.number }
     requires code { call.now.op.code < 16 }
     requires key { call.now.op.key < 1048576 }
-    ensures { result ≡ announce_request at (mech_of call.now phase.now) }
+    ensures { result ≡ announce_request at (mech_of call.now (phase_of room.now)) }
 {
     let number = call.number as u16;
     match at {
@@ -31,53 +32,90 @@ fn announce<S, W>(call: &Call, at: Announcing, phase: &Phase<S, W>) -> Request
     }
 }
 
-/// The next request of a helper.
-fn help_request<C: Normalized>(help: &Help<C::Search, C::Wrap>) -> Request
-    requires { CanHelp C.form help.now }
-    ensures { result ≡ help_request C.form help.now }
+/// The next request of the work.
+fn work_request<C: Normalized>(
+    task: &Task<C::Search, C::Wrap>,
+    stores: &Stores,
+    head: u32,
+    word: u64,
+) -> Request
+    requires head { head < 8 }
+    requires can { CanWork C.form (work_of task.now stores.now) }
+    ensures { result ≡ work_request C.form (work_of task.now stores.now) head word }
 {
-    match &help.at {
-        Helping::Record(_) => Request::Load {
-            at: record_place(help.head),
+    match task {
+        Task::Head => Request::Load { at: QUEUE },
+        Task::Op => Request::Load { at: op_place(head) },
+        Task::Value(_) => Request::Load {
+            at: value_place(head),
         },
-        Helping::Known { record, work } => work_request::<C>(work, help.head, *record),
-        Helping::Remove(remove) => remove.request(),
+        Task::Generate { search, at, .. } => match at {
+            Generating::Search => C::request(search),
+            Generating::LookForBlock => Request::Load { at: CLAIMS },
+            Generating::Claim => Request::Add { at: CLAIMS, by: 1 },
+        },
+        Task::Fill(made) => {
+            let (at, value) = stores[*made as usize];
+            Request::Store { at, value }
+        }
+        Task::Advance(to) => Request::Exchange {
+            at: record_place(head),
+            from: RecordWord::unpack(word).pack(),
+            to: *to,
+        },
+        Task::Read(read) => read.request(),
+        Task::Execute(run) => run.request(),
+        Task::Wrap(wrap) => C::wrap_request(wrap),
+    }
+}
+
+/// The next request of a helper.
+fn help_request<C: Normalized>(aid: &Aid<C::Search, C::Wrap>, stores: &Stores) -> Request
+    requires { CanHelp C.form (help_of aid.now stores.now) }
+    ensures { result ≡ help_request C.form (help_of aid.now stores.now) }
+{
+    match &aid.at {
+        Aiding::Record(_) => Request::Load {
+            at: record_place(aid.head),
+        },
+        Aiding::Known { record, task } => work_request::<C>(task, stores, aid.head, *record),
+        Aiding::Remove(remove) => remove.request(),
     }
 }
 
 /// The next request of a phase in which a call runs.
 #[tactic(auto, using(crate::proofs::Commands::code_fits, crate::proofs::Commands::key_fits))]
-pub fn request_of<C: Normalized>(call: &Call, phase: &Phase<C::Search, C::Wrap>) -> Request
+pub fn request_of<C: Normalized>(call: &Call, room: &Room<C::Search, C::Wrap>) -> Request
     requires call { IsCallOf C.form.client call.now }
-    requires runs { rests phase.now ≡ false }
-    requires ready { IsReadyIn C.form phase.now }
-    ensures { result ≡ request_in C.form phase.now (mech_of call.now phase.now) }
+    requires runs { rests (phase_of room.now) ≡ false }
+    requires ready { IsReadyIn C.form (phase_of room.now) }
+    ensures { result ≡ request_in C.form (phase_of room.now) (mech_of call.now (phase_of room.now)) }
 {
-    match phase {
-        Phase::Idle => unreachable!(),
-        Phase::Begin | Phase::End(_) => Request::Add { at: TICKS, by: 1 },
-        Phase::Look => Request::Load { at: QUEUE },
-        Phase::Generate { search, at } => match at {
+    match &room.doing {
+        Doing::Idle => unreachable!(),
+        Doing::Begin | Doing::End(_) => Request::Add { at: TICKS, by: 1 },
+        Doing::Look => Request::Load { at: QUEUE },
+        Doing::Generate { search, at } => match at {
             Generating::Search => C::request(search),
             Generating::LookForBlock => Request::Load { at: CLAIMS },
             Generating::Claim => Request::Add { at: CLAIMS, by: 1 },
         },
-        Phase::Apply { run, stores, at } => match at {
+        Doing::Apply { run, at } => match at {
             Applying::Fill(made) => {
-                let (at, value) = stores[*made as usize];
+                let (at, value) = room.stores[*made as usize];
                 Request::Store { at, value }
             }
             Applying::Execute => run.request(),
         },
-        Phase::Wrap(wrap) => C::wrap_request(wrap),
-        Phase::Announce(at) => announce(call, *at, phase),
-        Phase::Enter(enter) => enter.request(),
-        Phase::Drive => Request::Load { at: QUEUE },
-        Phase::Help { help, .. } => help_request::<C>(help),
-        Phase::Collect => Request::Load {
+        Doing::Wrap(wrap) => C::wrap_request(wrap),
+        Doing::Announce(at) => announce(call, *at, room),
+        Doing::Enter(enter) => enter.request(),
+        Doing::Drive => Request::Load { at: QUEUE },
+        Doing::Help { aid, .. } => help_request::<C>(aid, &room.stores),
+        Doing::Collect => Request::Load {
             at: record_place(call.seat),
         },
-        Phase::Value(reference) => Request::Load {
+        Doing::Value(reference) => Request::Load {
             at: node_place(*reference, NODE_VALUE),
         },
     }

@@ -12,15 +12,15 @@ use normal_traits::List;
 use word_fields::owners::pack_owner;
 use word_fields::{OpWord, ValueWord};
 
-/// What a block tells of its call: owner, op word and value word.
-pub fn store_call(block: u32, seat: u32, number: u16, op: Op) -> Stores
+/// Begins with what a block tells of its call: owner, op word and value word.
+pub fn store_call(stores: &mut Stores, block: u32, seat: u32, number: u16, op: Op)
     requires block { block < 2 ^ 17 }
     requires seat { seat < 8 }
     requires code { op.code < 16 }
     requires key { op.key < 1048576 }
-    ensures { result.items ≡ call_stores block seat number op }
+    ensures { stores.new.items ≡ call_stores block seat number op }
 {
-    let mut stores = Stores::new();
+    stores.clear();
     stores.push((place_of(block, OWNER_FIELD), pack_owner(seat, number)));
     let op_word = OpWord {
         code: op.code,
@@ -33,20 +33,18 @@ pub fn store_call(block: u32, seat: u32, number: u16, op: Op) -> Stores
         value: op.value,
     };
     stores.push((place_of(block, VALUE_FIELD), value_word.pack()));
-    stores
 }
 
 /// The same with the length of the list.
-pub fn store_notes(block: u32, seat: u32, number: u16, op: Op, length: u32) -> Stores
+pub fn store_notes(stores: &mut Stores, block: u32, seat: u32, number: u16, op: Op, length: u32)
     requires block { block < 2 ^ 17 }
     requires seat { seat < 8 }
     requires code { op.code < 16 }
     requires key { op.key < 1048576 }
-    ensures { result.items ≡ note_stores block seat number op length }
+    ensures { stores.new.items ≡ note_stores block seat number op length }
 {
-    let mut stores = store_call(block, seat, number, op);
+    store_call(stores, block, seat, number, op);
     stores.push((place_of(block, LENGTH_FIELD), u64::from(length)));
-    stores
 }
 
 /// Puts the three words of entry j last, where there is one.

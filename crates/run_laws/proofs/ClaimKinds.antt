@@ -25,7 +25,8 @@ use Rattle.fast_slow_engine.specs.declared.phases.Generating.TheVariants.{Search
 use Rattle.fast_slow_engine.specs.declared.phases.Applying.{Applying}
 use Rattle.fast_slow_engine.specs.declared.phases.Applying.TheVariants.{Fill, Execute}
 use Rattle.fast_slow_engine.specs.Mechs.{Mech}
-use Rattle.fast_slow_engine.specs.PhaseTable.{applied, ends, executed, generated, holds_none, in_phase, offered, request_in, rests, searched, spent, stepped, told, with_hand, wrapped_up}
+use Rattle.fast_slow_engine.specs.Hands.{holds_none}
+use Rattle.fast_slow_engine.specs.PhaseTable.{applied, ends, executed, generated, in_phase, offered, request_in, rests, searched, spent, stepped, told, with_hand, wrapped_up}
 use Rattle.run_laws.specs.Ticks.{LeavesWord}
 use Rattle.run_laws.specs.Claims.{asks_for_block, claimed_in, claims_block}
 

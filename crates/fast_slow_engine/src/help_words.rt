@@ -1,16 +1,9 @@
-//! The work of a helper on the call of a head.
-ghost use Rattle.std.specs.Prelude.{◌≡◌, ◌+◌, ◌<◌, ◌≤◌, ◌↔◌, ◌^◌, ◌++◌, IsTrue, true, false, Some, None, length, slice_get, []};
-ghost use Rattle.cas_executor.specs.SlowRuns.{IsWalking};
-ghost use Rattle.fast_slow_engine.specs.HelpTable.{CanWork, work_request};
+//! The words to which a helper exchanges a record, and what it reads from loaded words.
+ghost use Rattle.std.specs.Prelude.{◌≡◌, ◌+◌, ◌<◌, ◌≤◌, ◌^◌, length};
 ghost use Rattle.fast_slow_engine.specs.HelpWords.{again_word, announced_op, executing_word, fitted, named_block, stop_of, told_word, wrapping_word};
-ghost use Rattle.fast_slow_engine.specs.OfferStores.{note_stores};
 
-use crate::help::Work;
-use crate::phases::Generating;
 use lin_report::{Op, Outcome, Reply};
-use node_arena::places::{CLAIMS, QUEUE};
-use node_arena::{op_place, record_place, value_place};
-use normal_traits::{List, Normalized};
+use normal_traits::List;
 use op_record::complete;
 use step_memory::Request;
 use word_fields::payloads::{self, pack_wrapping};
@@ -99,38 +92,6 @@ pub fn again_word(word: u64) -> u64
         payload: 0,
     }
     .pack()
-}
-
-/// The next request of the work.
-pub fn work_request<C: Normalized>(work: &Work<C::Search, C::Wrap>, head: u32, word: u64) -> Request
-    requires head { head < 8 }
-    requires can { CanWork C.form work.now }
-    ensures { result ≡ work_request C.form work.now head word }
-{
-    match work {
-        Work::Head => Request::Load { at: QUEUE },
-        Work::Op => Request::Load { at: op_place(head) },
-        Work::Value(_) => Request::Load {
-            at: value_place(head),
-        },
-        Work::Generate { search, at, .. } => match at {
-            Generating::Search => C::request(search),
-            Generating::LookForBlock => Request::Load { at: CLAIMS },
-            Generating::Claim => Request::Add { at: CLAIMS, by: 1 },
-        },
-        Work::Fill { stores, made } => {
-            let (at, value) = stores[*made as usize];
-            Request::Store { at, value }
-        }
-        Work::Advance(to) => Request::Exchange {
-            at: record_place(head),
-            from: RecordWord::unpack(word).pack(),
-            to: *to,
-        },
-        Work::Read(read) => read.request(),
-        Work::Execute(run) => run.request(),
-        Work::Wrap(wrap) => C::wrap_request(wrap),
-    }
 }
 
 /// The place at which the list of a word stopped: at most the length.
