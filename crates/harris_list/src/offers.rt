@@ -1,12 +1,14 @@
 //! The lists that ready searches name.
 ghost use Rattle.std.specs.Prelude.{◌≡◌, ◌<◌, ◌≤◌, ◌^◌};
 ghost use Rattle.list_laws.specs.Search.{IsReady, add_offer, del_offer, block_for, leading, offered};
+ghost use Rattle.harris_list.specs.Ways.{search_at};
 
+use crate::way::{Stage, Way};
 use crate::words::{key_place, leading, led, marking, next_place};
 use arrayvec::ArrayVec;
 use lin_report::Op;
 use lin_report::calls::ADD;
-use list_laws::{Left, ListSearch};
+use list_laws::Left;
 use node_arena::reference_to;
 use normal_traits::{Entry, Offer};
 
@@ -68,15 +70,15 @@ fn block_for(op: Op, block: u32) -> u32
 }
 
 /// What a ready search names.
-pub fn offered(search: ListSearch, op: Op, block: u32) -> Offer
-    requires ready { IsReady search }
+pub fn offered(way: &Way, op: Op, block: u32) -> Offer
+    requires ready { IsReady (search_at way.now) }
     requires block { block < 2 ^ 17 }
-    ensures list { result.list.items ≡ (offered search op block).entries }
-    ensures stores { result.stores.items ≡ (offered search op block).stores }
+    ensures list { result.list.items ≡ (offered (search_at way.now) op block).entries }
+    ensures stores { result.stores.items ≡ (offered (search_at way.now) op block).stores }
 {
-    match search {
-        ListSearch::AddReady { left, cur } => add_offer(left, cur, op.key, block_for(op, block)),
-        ListSearch::DelReady { left, cur, next } => del_offer(left, cur, next),
+    match way.stage {
+        Stage::AddReady => add_offer(way.left, way.cur, op.key, block_for(op, block)),
+        Stage::DelReady => del_offer(way.left, way.cur, way.next),
         _ => unreachable!(),
     }
 }
