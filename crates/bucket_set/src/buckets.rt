@@ -6,7 +6,7 @@ use harris_list::{HarrisList, Seeking};
 use lin_report::{Client, Op};
 use list_laws::ListWrap;
 use node_arena::places::FIRST_WORDS;
-use normal_traits::{Found, List, Normalized, Offer, Wrapped};
+use normal_traits::{Found, List, Normalized, Stores, Wrapped};
 use step_memory::{Request, Seen};
 
 /// The most buckets that there can be.
@@ -68,8 +68,12 @@ impl<const N: u32> Normalized for BucketSet<N> {
         HarrisList::feed(search, seen)
     }
 
-    fn offer(search: &Seeking, op: Op, block: u32) -> Offer {
-        HarrisList::offer(search, op, block)
+    fn list(search: &Seeking, op: Op, block: u32) -> List {
+        HarrisList::list(search, op, block)
+    }
+
+    fn stores(search: &Seeking, op: Op, block: u32, stores: &mut Stores) {
+        HarrisList::stores(search, op, block, stores);
     }
 
     fn begin_wrap(op: Op, list: &List, stop: u32) -> (ListWrap, Wrapped) {

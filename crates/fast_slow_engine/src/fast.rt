@@ -10,7 +10,7 @@ use crate::call::Call;
 use crate::phases::{Applying, Generating, Phase};
 use cas_executor::{Execution, FastRun};
 use lin_report::{Outcome, Reply};
-use normal_traits::{Found, Normalized, Wrapped};
+use normal_traits::{Found, Normalized, Stores, Wrapped};
 use step_memory::Seen;
 
 /// How many words of a block are stored before those of an offer: owner, op word and value word.
@@ -62,10 +62,12 @@ fn offer<C: Normalized>(call: &Call, phase: &mut Phase<C::Search, C::Wrap>)
     };
     let needs = C::needs_block(call.op);
     let block = if needs { call.hand.unwrap_or(0) } else { 0 };
-    let offer = C::offer(search, call.op, block);
+    let list = C::list(search, call.op, block);
+    let mut stores = Stores::new();
+    C::stores(search, call.op, block, &mut stores);
     *phase = Phase::Apply {
-        run: FastRun::new(offer.list),
-        stores: offer.stores,
+        run: FastRun::new(list),
+        stores,
         at: if needs {
             Applying::Fill(0)
         } else {

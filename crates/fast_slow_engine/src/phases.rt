@@ -1,11 +1,8 @@
 //! The phases of a call.
 
-use arrayvec::ArrayVec;
 use cas_executor::FastRun;
 use lin_report::Reply;
-
-/// The stores of an offer, each a place and a word.
-pub type Stores = ArrayVec<(u32, u64), 20>;
+use normal_traits::Stores;
 
 /// What the next step of a call is for. `S` is the state of a generator and `W` that of a wrap-up.
 #[derive(Drop)]

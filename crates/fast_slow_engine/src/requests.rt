@@ -4,10 +4,10 @@ ghost use Rattle.fast_slow_engine.specs.Mechs.{IsCallOf, IsInRange, IsReadyIn, b
 ghost use Rattle.fast_slow_engine.specs.PhaseTable.{fill_request, request_in, rests};
 
 use crate::call::Call;
-use crate::phases::{Applying, Generating, Phase, Stores};
+use crate::phases::{Applying, Generating, Phase};
 use node_arena::places::{CLAIMS, NODE_VALUE, OP_FIELD, OWNER_FIELD, QUEUE, TICKS, VALUE_FIELD};
 use node_arena::{node_place, place_of};
-use normal_traits::Normalized;
+use normal_traits::{Normalized, Stores};
 use step_memory::Request;
 use word_fields::owners::pack_owner;
 use word_fields::{OpWord, ValueWord};

@@ -5,7 +5,7 @@ use lin_report::calls::ADD;
 use lin_report::{Client, Op, Outcome, Reply};
 use list_laws::ListWrap;
 use list_laws::states::LIST_START;
-use normal_traits::{Found, List, Normalized, Offer, Wrapped};
+use normal_traits::{Found, List, Normalized, Stores, Wrapped};
 use step_memory::{Request, Seen};
 
 /// The list. It begins at place 46, the next word of node 1 of block 0.
@@ -44,8 +44,12 @@ impl Normalized for HarrisList {
         search.feed(seen)
     }
 
-    fn offer(search: &Seeking, op: Op, block: u32) -> Offer {
-        search.offered(op, block)
+    fn list(search: &Seeking, op: Op, block: u32) -> List {
+        search.list(op, block)
+    }
+
+    fn stores(search: &Seeking, op: Op, block: u32, stores: &mut Stores) {
+        search.stores(op, block, stores);
     }
 
     fn begin_wrap(_op: Op, _list: &List, stop: u32) -> (ListWrap, Wrapped) {

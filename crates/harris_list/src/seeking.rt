@@ -1,12 +1,12 @@
 //! A search of the list, as contracts see it.
-ghost use Rattle.std.specs.Prelude.{◌≡◌, ◌<◌, ◌^◌};
+ghost use Rattle.std.specs.Prelude.{◌≡◌, ◌+◌, ◌<◌, ◌≤◌, ◌^◌, ◌++◌, length};
 ghost use Rattle.list_laws.specs.Search.{Asks, IsReady, asked, begun_at, fed, offered};
 
-use crate::offers::offered;
+use crate::offers::{add_stores_of, list_of};
 use crate::search::{asked, begun_at, fed};
 use crate::way::Way;
 use lin_report::Op;
-use normal_traits::{Found, Offer};
+use normal_traits::{Found, List, Stores};
 use std::marker::Model;
 use step_memory::{Request, Seen};
 
@@ -54,13 +54,24 @@ impl Seeking {
         fed(&mut self.way, seen)
     }
 
-    /// What the search names, where it is ready.
-    pub fn offered(&self, op: Op, block: u32) -> Offer
+    /// The list that the search names, where it is ready.
+    pub fn list(&self, op: Op, block: u32) -> List
         requires ready { IsReady self.now }
         requires block { block < 2 ^ 17 }
-        ensures list { result.list.items ≡ (offered self.now op block).entries }
-        ensures stores { result.stores.items ≡ (offered self.now op block).stores }
+        ensures list { result.items ≡ (offered self.now op block).entries }
+        ensures some { 0 < length result.items }
     {
-        offered(&self.way, op, block)
+        list_of(&self.way, op, block)
+    }
+
+    /// Adds the stores that come before it.
+    pub fn stores(&self, op: Op, block: u32, stores: &mut Stores)
+        requires ready { IsReady self.now }
+        requires block { block < 2 ^ 17 }
+        requires room { length stores.old.items ≤ 10 }
+        ensures stores { stores.new.items ≡ stores.old.items ++ (offered self.now op block).stores }
+        ensures few { length stores.new.items ≤ length stores.old.items + 20 }
+    {
+        add_stores_of(&self.way, op, block, stores);
     }
 }
