@@ -2,11 +2,11 @@
 ghost use Rattle.std.specs.Prelude.{◌≡◌, ◌≤◌, ◌<◌};
 ghost use Rattle.bucket_set.specs.Buckets.{bucket_count, start_of};
 
-use harris_list::{HarrisList, begun_at};
+use harris_list::{HarrisList, Seeking};
 use lin_report::{Client, Op};
-use list_laws::{ListSearch, ListWrap};
+use list_laws::ListWrap;
 use node_arena::places::FIRST_WORDS;
-use normal_traits::{Found, List, Normalized, Offer, Wrapped};
+use normal_traits::{Found, List, Normalized, Stores, Wrapped};
 use step_memory::{Request, Seen};
 
 /// The most buckets that there can be.
@@ -42,7 +42,7 @@ impl<const N: u32> Normalized for BucketSet<N> {
     ghost use Rattle.bucket_set.specs.Buckets.{buckets};
     ghost use Rattle.bucket_set.specs.ProvedLaws.{bucket_laws};
 
-    type Search = ListSearch;
+    type Search = Seeking;
 
     type Wrap = ListWrap;
 
@@ -56,20 +56,24 @@ impl<const N: u32> Normalized for BucketSet<N> {
         HarrisList::needs_block(op)
     }
 
-    fn begin(op: Op) -> ListSearch {
-        begun_at(start_of(N, op.key), op)
+    fn begin(op: Op) -> Seeking {
+        Seeking::begun_at(start_of(N, op.key), op)
     }
 
-    fn request(search: &ListSearch) -> Request {
+    fn request(search: &Seeking) -> Request {
         HarrisList::request(search)
     }
 
-    fn feed(search: &mut ListSearch, seen: Seen) -> Found {
+    fn feed(search: &mut Seeking, seen: Seen) -> Found {
         HarrisList::feed(search, seen)
     }
 
-    fn offer(search: &ListSearch, op: Op, block: u32) -> Offer {
-        HarrisList::offer(search, op, block)
+    fn list(search: &Seeking, op: Op, block: u32) -> List {
+        HarrisList::list(search, op, block)
+    }
+
+    fn stores(search: &Seeking, op: Op, block: u32, stores: &mut Stores) {
+        HarrisList::stores(search, op, block, stores);
     }
 
     fn begin_wrap(op: Op, list: &List, stop: u32) -> (ListWrap, Wrapped) {

@@ -5,10 +5,11 @@ ghost use Rattle.arrayvec.specs.ArrayVec.{ArrayVec};
 ghost use Rattle.fast_slow_engine.specs.Doings.{helping_of};
 ghost use Rattle.fast_slow_engine.specs.HelpTable.{helps_listed};
 
-use crate::phases::{Announcing, Applying, Generating, Stores};
+use crate::phases::{Announcing, Applying, Generating};
 use cas_executor::{BlockRead, FastRun, SlowRun};
 use help_queue::{Enter, Remove};
 use lin_report::{Op, Reply};
+use normal_traits::Stores;
 
 /// What a machine is doing, and the room for the stores of its offer.
 #[derive(Drop)]

@@ -11,11 +11,11 @@ ghost use Rattle.fast_slow_engine.specs.PhaseTable.{ends, rests, told, tried, fa
 
 use crate::call::Call;
 use crate::doing::{Doing, Room};
-use crate::phases::{Announcing, Applying, Generating, Stores};
-use crate::stores::{push_all, store_call};
+use crate::phases::{Announcing, Applying, Generating};
+use crate::stores::store_call;
 use cas_executor::{Execution, FastRun};
 use lin_report::{Outcome, Reply};
-use normal_traits::{Found, Normalized, Wrapped};
+use normal_traits::{Found, Normalized, Stores, Wrapped};
 use step_memory::Seen;
 
 /// Ends the call with an outcome: a reply is told as it is, the value of a node is loaded first.
@@ -56,16 +56,14 @@ fn fail<C: Normalized>(call: &mut Call, room: &mut Room<C::Search, C::Wrap>)
 }
 
 /// Puts into the room the stores that fill a block for a list that the seat executes itself.
-fn fill_for(call: &Call, block: u32, offered: &[(u32, u64)], stores: &mut Stores)
-    requires range { IsInRange call.now }
+fn fill_for<C: Normalized>(call: &Call, search: &C::Search, block: u32, stores: &mut Stores)
+    requires call { IsCallOf C.form.client call.now }
+    requires ready { C.form.is_ready search.now }
     requires block { block < 2 ^ 17 }
-    requires code { call.now.op.code < 16 }
-    requires key { call.now.op.key < 1048576 }
-    requires few { length offered.now ≤ 20 }
-    ensures { stores.new.items ≡ own_stores block call.now.seat call.now.number call.now.op offered.now }
+    ensures filled { stores.new.items ≡ own_stores block call.now.seat call.now.number call.now.op (C.form.offer_of search.now call.now.op block).stores }
 {
     store_call(stores, block, call.seat, call.number as u16, call.op);
-    push_all(stores, offered);
+    C::stores(search, call.op, block, stores);
 }
 
 /// Names the list of a generator that is ready, with the block in hand where the operation needs one. The
@@ -81,16 +79,16 @@ fn offer<C: Normalized>(call: &Call, room: &mut Room<C::Search, C::Wrap>)
     };
     let needs = C::needs_block(call.op);
     let block = if needs { call.hand.unwrap_or(0) } else { 0 };
-    let offer = C::offer(search, call.op, block);
+    let list = C::list(search, call.op, block);
     let at = if needs {
-        fill_for(call, block, &offer.stores, &mut room.stores);
+        fill_for::<C>(call, search, block, &mut room.stores);
         Applying::Fill(0)
     } else {
         room.stores.clear();
         Applying::Execute
     };
     room.doing = Doing::Apply {
-        run: FastRun::new(offer.list),
+        run: FastRun::new(list),
         at,
     };
 }

@@ -1,8 +1,9 @@
 //! Helping the call of a head, whoever made it.
-use crate::phases::{Generating, Stores};
+use crate::phases::Generating;
 use cas_executor::{BlockRead, SlowRun};
 use help_queue::Remove;
 use lin_report::Op;
+use normal_traits::Stores;
 
 /// Helping the call of a seat, of so many.
 #[derive(Drop)]

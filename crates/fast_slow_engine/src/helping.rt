@@ -11,14 +11,14 @@ use crate::doing::{Aid, Aiding, Task};
 use crate::executing::{execute, read, wrap_up};
 use crate::help::WorkTurn;
 use crate::help_words::{announced_op, executing_word, named_block};
-use crate::phases::{Generating, Stores};
+use crate::phases::Generating;
 use crate::searching::search;
 use cas_executor::BlockRead;
 use help_queue::Removing;
 use help_queue::gather::leads;
 use help_queue::heads::{is_other, removal_of};
 use lin_report::commands::is_command;
-use normal_traits::Normalized;
+use normal_traits::{Normalized, Stores};
 use step_memory::Seen;
 use word_fields::{OpWord, Phase as RecordPhase, RecordWord, ValueWord};
 

@@ -5,12 +5,12 @@ ghost use Rattle.fast_slow_engine.specs.declared.setup.Turn.{Turn};
 
 use crate::call::Call;
 use crate::doing::{Doing, Room};
-use crate::phases::{Applying, Stores};
+use crate::phases::Applying;
 use crate::requests::request_of;
 use crate::setup::{Setup, Turn};
 use crate::steps::go_on;
 use lin_report::{Event, EventKind, Op, Path, PendingCall};
-use normal_traits::{Contention, Normalized};
+use normal_traits::{Contention, Normalized, Stores};
 use std::marker::Model;
 use step_memory::{Request, Seen};
 

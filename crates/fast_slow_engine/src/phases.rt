@@ -1,14 +1,10 @@
 //! The phases of a call.
 
 use crate::help::Help;
-use arrayvec::ArrayVec;
 use cas_executor::FastRun;
 use help_queue::Enter;
 use lin_report::Reply;
-
-/// The stores of an offer, each a place and a word: what the block tells of its call, the list where others
-/// execute it, then the client's.
-pub type Stores = ArrayVec<(u32, u64), 30>;
+use normal_traits::Stores;
 
 /// What the next step of a call is for. `S` is the state of a generator and `W` that of a wrap-up.
 #[derive(Drop)]

@@ -8,10 +8,10 @@ ghost use Rattle.fast_slow_engine.specs.HelpTable.{CanHelp, CanWork, help_reques
 
 use crate::call::Call;
 use crate::doing::{Aid, Aiding, Doing, Room, Task};
-use crate::phases::{Announcing, Applying, Generating, Stores};
+use crate::phases::{Announcing, Applying, Generating};
 use node_arena::places::{CLAIMS, NODE_VALUE, QUEUE, TICKS};
 use node_arena::{node_place, op_place, record_place, value_place};
-use normal_traits::Normalized;
+use normal_traits::{Normalized, Stores};
 use op_record::{announce_op, announce_value};
 use step_memory::Request;
 use word_fields::RecordWord;

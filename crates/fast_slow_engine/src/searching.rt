@@ -10,10 +10,10 @@ use crate::doing::Task;
 use crate::help::WorkTurn;
 use crate::help_words::told_word;
 use crate::helping::Helped;
-use crate::phases::{Generating, Stores};
-use crate::stores::{push_all, store_entry, store_notes};
+use crate::phases::Generating;
+use crate::stores::{store_entry, store_notes};
 use lin_report::{Outcome, Reply};
-use normal_traits::{Found, Normalized};
+use normal_traits::{Found, Normalized, Stores};
 use step_memory::Seen;
 use word_fields::RecordWord;
 
@@ -35,19 +35,13 @@ fn name<C: Normalized>(
     };
     let op = *op;
     let block = hand.unwrap_or(0);
-    let offer = C::offer(search, op, block);
+    let list = C::list(search, op, block);
     let number = RecordWord::unpack(helped.word).number;
-    store_notes(
-        stores,
-        block,
-        helped.head,
-        number,
-        op,
-        offer.list.len() as u32,
-    );
-    store_entry(stores, block, 0, &offer.list);
-    store_entry(stores, block, 1, &offer.list);
-    push_all(stores, &offer.stores);
+    let length = list.len() as u32;
+    store_notes(stores, block, helped.head, number, op, length);
+    store_entry(stores, block, 0, &list);
+    store_entry(stores, block, 1, &list);
+    C::stores(search, op, block, stores);
     *task = Task::Fill(0);
 }
 

@@ -2,13 +2,12 @@
 ghost use Rattle.std.specs.Prelude.{◌≡◌, ◌+◌, ◌<◌, ◌≤◌, ◌^◌, ◌++◌, length, slice_get};
 ghost use Rattle.fast_slow_engine.specs.OfferStores.{call_stores, entry_stores, note_stores};
 
-use crate::phases::Stores;
 use lin_report::Op;
 use node_arena::place_of;
 use node_arena::places::{
     ENTRY_FIELD, ENTRY_FIELDS, LENGTH_FIELD, OP_FIELD, OWNER_FIELD, VALUE_FIELD,
 };
-use normal_traits::List;
+use normal_traits::{List, Stores};
 use word_fields::owners::pack_owner;
 use word_fields::{OpWord, ValueWord};
 
@@ -61,14 +60,4 @@ pub fn store_entry(stores: &mut Stores, block: u32, j: u32, list: &List)
     stores.push((place_of(block, field), u64::from(entry.target)));
     stores.push((place_of(block, field + 1), entry.from));
     stores.push((place_of(block, field + 2), entry.to));
-}
-
-/// Puts the stores of a client last.
-pub fn push_all(stores: &mut Stores, more: &[(u32, u64)])
-    requires { length stores.old.items + length more.now ≤ 30 }
-    ensures { stores.new.items ≡ stores.old.items ++ more.now }
-{
-    for store in more {
-        stores.push(*store);
-    }
 }

@@ -2,11 +2,13 @@
 #![tactic(auto)]
 
 pub use list::HarrisList;
-pub use list_laws::{Aim, Left, ListSearch, ListWrap, Sought};
-pub use search::begun_at;
+pub use list_laws::{Aim, Left, ListWrap, Sought};
+pub use seeking::Seeking;
 
 mod deciding;
 pub mod list;
 mod offers;
-pub mod search;
+mod search;
+pub mod seeking;
+mod way;
 mod words;

@@ -1,12 +1,11 @@
 //! The list as a structure in normalized form.
 
-use crate::offers::offered;
-use crate::search::{asked, begun_at, fed};
+use crate::seeking::Seeking;
 use lin_report::calls::ADD;
 use lin_report::{Client, Op, Outcome, Reply};
+use list_laws::ListWrap;
 use list_laws::states::LIST_START;
-use list_laws::{ListSearch, ListWrap};
-use normal_traits::{Found, List, Normalized, Offer, Wrapped};
+use normal_traits::{Found, List, Normalized, Stores, Wrapped};
 use step_memory::{Request, Seen};
 
 /// The list. It begins at place 46, the next word of node 1 of block 0.
@@ -19,7 +18,7 @@ impl Normalized for HarrisList {
     ghost use Rattle.list_laws.specs.Form.{list_form};
     ghost use Rattle.harris_list.specs.ProvedLaws.{list_laws};
 
-    type Search = ListSearch;
+    type Search = Seeking;
 
     type Wrap = ListWrap;
 
@@ -33,22 +32,24 @@ impl Normalized for HarrisList {
         op.code == ADD
     }
 
-    fn begin(op: Op) -> ListSearch {
-        begun_at(LIST_START, op)
+    fn begin(op: Op) -> Seeking {
+        Seeking::begun_at(LIST_START, op)
     }
 
-    fn request(search: &ListSearch) -> Request {
-        asked(*search)
+    fn request(search: &Seeking) -> Request {
+        search.asked()
     }
 
-    fn feed(search: &mut ListSearch, seen: Seen) -> Found {
-        let (after, found) = fed(*search, seen);
-        *search = after;
-        found
+    fn feed(search: &mut Seeking, seen: Seen) -> Found {
+        search.feed(seen)
     }
 
-    fn offer(search: &ListSearch, op: Op, block: u32) -> Offer {
-        offered(*search, op, block)
+    fn list(search: &Seeking, op: Op, block: u32) -> List {
+        search.list(op, block)
+    }
+
+    fn stores(search: &Seeking, op: Op, block: u32, stores: &mut Stores) {
+        search.stores(op, block, stores);
     }
 
     fn begin_wrap(_op: Op, _list: &List, stop: u32) -> (ListWrap, Wrapped) {

@@ -1,12 +1,15 @@
 //! The steps of a search.
 ghost use Rattle.std.specs.Prelude.{◌≡◌, ◌<◌, ◌^◌};
-ghost use Rattle.list_laws.specs.Search.{Asks, IsReady, aim_of, begun_at, asked, fed, met_next, met_key};
+ghost use Rattle.list_laws.specs.Search.{Asks, IsReady, aim_of, begun_at, asked, fed};
+ghost use Rattle.harris_list.specs.declared.way.Stage.TheVariants as stage;
+ghost use Rattle.harris_list.specs.Ways.{search_at};
 
-use crate::deciding::{decided, finished, moved_on};
+use crate::deciding::{End, decide, finish, move_on};
+use crate::way::{Stage, Way};
 use crate::words::{is_marked, key_place, leading, led, next_place};
 use lin_report::Op;
 use lin_report::calls::{ADD, DEL};
-use list_laws::{Aim, Left, ListSearch, Sought};
+use list_laws::{Aim, Left, Sought};
 use normal_traits::Found;
 use step_memory::{Request, Seen};
 
@@ -21,133 +24,145 @@ fn aim_of(op: Op) -> Aim
     }
 }
 
-/// A search that begins at the place where a list begins.
-pub fn begun_at(start: u32, op: Op) -> ListSearch
-    ensures { result ≡ begun_at start op }
+/// The way of a search that begins at the place where a list begins.
+pub fn begun_at(start: u32, op: Op) -> Way
+    ensures { search_at result ≡ begun_at start op }
 {
-    let sought = Sought {
-        aim: aim_of(op),
-        key: op.key,
-    };
-    ListSearch::Start { sought, start }
+    Way {
+        sought: Sought {
+            aim: aim_of(op),
+            key: op.key,
+        },
+        left: Left {
+            place: start,
+            word: 0,
+        },
+        run: false,
+        cur: 0,
+        next: 0,
+        found: false,
+        stage: Stage::Start,
+    }
 }
 
 /// What a search asks for.
-pub fn asked(search: ListSearch) -> Request
-    requires { Asks search }
-    ensures { result ≡ asked search }
+pub fn asked(way: &Way) -> Request
+    requires { Asks (search_at way.now) }
+    ensures { result ≡ asked (search_at way.now) }
 {
-    match search {
-        ListSearch::Start { start, .. } => Request::Load { at: start },
-        ListSearch::Next { cur, .. } => Request::Load {
-            at: next_place(cur),
+    match way.stage {
+        Stage::Start => Request::Load { at: way.left.place },
+        Stage::Next => Request::Load {
+            at: next_place(way.cur),
         },
-        ListSearch::Key { cur, .. } => Request::Load { at: key_place(cur) },
-        ListSearch::Unlink { left, cur, .. } => Request::Exchange {
-            at: left.place,
-            from: left.word,
-            to: leading(left.word, cur),
+        Stage::Key => Request::Load {
+            at: key_place(way.cur),
         },
-        ListSearch::AddReady { .. } | ListSearch::DelReady { .. } => unreachable!(),
+        Stage::Unlink => Request::Exchange {
+            at: way.left.place,
+            from: way.left.word,
+            to: leading(way.left.word, way.cur),
+        },
+        Stage::AddReady | Stage::DelReady => unreachable!(),
     }
+}
+
+/// The beginning of the list was loaded.
+fn met_start(way: &mut Way, seen: Seen) -> Found
+    requires { way.old.stage ≡ stage.Start }
+    ensures search { (search_at way.new, result) ≡ fed (search_at way.old) seen }
+    ensures goes { result ≡ Found.Going → Asks (search_at way.new) }
+    ensures readies { result ≡ Found.Ready → IsReady (search_at way.new) }
+{
+    let left = Left {
+        place: way.left.place,
+        word: seen.before,
+    };
+    move_on(way, left, false, led(seen.before))
 }
 
 /// The next word of a node was loaded.
-fn met_next(
-    stay: ListSearch,
-    sought: Sought,
-    left: Left,
-    run: bool,
-    cur: u32,
-    next: u64,
-) -> (ListSearch, Found)
-    requires { cur < 2 ^ 23 }
-    ensures search { result ≡ met_next stay sought left run cur next }
-    ensures goes { result.1 ≡ Found.Going → Asks result.0 }
-    ensures readies { result.1 ≡ Found.Ready → IsReady result.0 }
+fn met_next(way: &mut Way, seen: Seen) -> Found
+    requires stage { way.old.stage ≡ stage.Next }
+    requires cur { way.old.cur < 2 ^ 23 }
+    ensures search { (search_at way.new, result) ≡ fed (search_at way.old) seen }
+    ensures goes { result ≡ Found.Going → Asks (search_at way.new) }
+    ensures readies { result ≡ Found.Ready → IsReady (search_at way.new) }
 {
+    let next = seen.before;
     if is_marked(next) {
-        return moved_on(stay, sought, left, true, led(next));
+        let left = way.left;
+        return move_on(way, left, true, led(next));
     }
-    let key = ListSearch::Key {
-        sought,
-        left,
-        run,
-        cur,
-        next,
-    };
-    (key, Found::Going)
+    way.next = next;
+    way.stage = Stage::Key;
+    Found::Going
 }
 
 /// The key of a node was loaded.
-fn met_key(
-    stay: ListSearch,
-    sought: Sought,
-    left: Left,
-    run: bool,
-    cur: u32,
-    next: u64,
-    key: u64,
-) -> (ListSearch, Found)
-    requires { cur < 2 ^ 23 }
-    ensures search { result ≡ met_key stay sought left run cur next key }
-    ensures goes { result.1 ≡ Found.Going → Asks result.0 }
-    ensures readies { result.1 ≡ Found.Ready → IsReady result.0 }
+fn met_key(way: &mut Way, seen: Seen) -> Found
+    requires stage { way.old.stage ≡ stage.Key }
+    requires cur { way.old.cur < 2 ^ 23 }
+    ensures search { (search_at way.new, result) ≡ fed (search_at way.old) seen }
+    ensures goes { result ≡ Found.Going → Asks (search_at way.new) }
+    ensures readies { result ≡ Found.Ready → IsReady (search_at way.new) }
 {
-    let wanted = u64::from(sought.key);
+    let key = seen.before;
+    let wanted = u64::from(way.sought.key);
+    let next = way.next;
     if key >= wanted {
-        return finished(stay, sought, left, run, cur, next, key == wanted);
+        let run = way.run;
+        let end = End {
+            left: way.left,
+            cur: way.cur,
+            next,
+            found: key == wanted,
+        };
+        return finish(way, run, end);
     }
     let left = Left {
-        place: next_place(cur),
+        place: next_place(way.cur),
         word: next,
     };
-    moved_on(stay, sought, left, false, led(next))
+    move_on(way, left, false, led(next))
 }
 
-/// What a search is after its step, and what it found.
-pub fn fed(search: ListSearch, seen: Seen) -> (ListSearch, Found)
-    requires { Asks search }
-    ensures search { result ≡ fed search seen }
-    ensures goes { result.1 ≡ Found.Going → Asks result.0 }
-    ensures readies { result.1 ≡ Found.Ready → IsReady result.0 }
+/// Marked nodes were to be unlinked.
+fn unlinked(way: &mut Way, seen: Seen) -> Found
+    requires stage { way.old.stage ≡ stage.Unlink }
+    requires cur { way.old.cur < 2 ^ 23 }
+    ensures search { (search_at way.new, result) ≡ fed (search_at way.old) seen }
+    ensures goes { result ≡ Found.Going → Asks (search_at way.new) }
+    ensures readies { result ≡ Found.Ready → IsReady (search_at way.new) }
 {
-    let before = seen.before;
-    match search {
-        ListSearch::Start { sought, start } => {
-            let left = Left {
-                place: start,
-                word: before,
-            };
-            moved_on(search, sought, left, false, led(before))
-        }
-        ListSearch::Next {
-            sought,
-            left,
-            run,
-            cur,
-        } => { met_next(search, sought, left, run, cur, before) }
-        ListSearch::Key {
-            sought,
-            left,
-            run,
-            cur,
-            next,
-        } => { met_key(search, sought, left, run, cur, next, before) }
-        ListSearch::Unlink { .. } if !seen.won => (search, Found::Contended),
-        ListSearch::Unlink {
-            sought,
-            left,
-            cur,
-            next,
-            found,
-        } => {
-            let left = Left {
-                place: left.place,
-                word: leading(left.word, cur),
-            };
-            decided(search, sought, left, cur, next, found)
-        }
-        ListSearch::AddReady { .. } | ListSearch::DelReady { .. } => unreachable!(),
+    if !seen.won {
+        return Found::Contended;
+    }
+    let left = Left {
+        place: way.left.place,
+        word: leading(way.left.word, way.cur),
+    };
+    let end = End {
+        left,
+        cur: way.cur,
+        next: way.next,
+        found: way.found,
+    };
+    decide(way, end)
+}
+
+/// Takes what the step saw, and says what was found.
+pub fn fed(way: &mut Way, seen: Seen) -> Found
+    requires { Asks (search_at way.old) }
+    ensures search { (search_at way.new, result) ≡ fed (search_at way.old) seen }
+    ensures goes { result ≡ Found.Going → Asks (search_at way.new) }
+    ensures readies { result ≡ Found.Ready → IsReady (search_at way.new) }
+{
+    match way.stage {
+        Stage::Start => met_start(way, seen),
+        Stage::Next => met_next(way, seen),
+        Stage::Key => met_key(way, seen),
+        Stage::Unlink => unlinked(way, seen),
+        Stage::AddReady | Stage::DelReady => unreachable!(),
     }
 }

@@ -5,6 +5,7 @@
 pub use queue::MsQueue;
 pub use queue_laws::{QueueSearch, QueueWrap};
 
+mod offers;
 pub mod queue;
 mod search;
 #[cfg(test)]

@@ -1,10 +1,11 @@
 //! The queue as a structure in normalized form.
 
-use crate::search::{asked, begun, fed, offered};
+use crate::offers::{add_stores_of, list_of};
+use crate::search::{asked, begun, fed};
 use crate::wrap::{wrap_asked, wrap_begun, wrap_fed};
 use lin_report::calls::PUT;
 use lin_report::{Client, Op};
-use normal_traits::{Found, List, Normalized, Offer, Wrapped};
+use normal_traits::{Found, List, Normalized, Stores, Wrapped};
 use queue_laws::{QueueSearch, QueueWrap};
 use step_memory::{Request, Seen};
 
@@ -45,8 +46,12 @@ impl Normalized for MsQueue {
         found
     }
 
-    fn offer(search: &QueueSearch, op: Op, block: u32) -> Offer {
-        offered(*search, op, block)
+    fn list(search: &QueueSearch, op: Op, block: u32) -> List {
+        list_of(*search, op, block)
+    }
+
+    fn stores(search: &QueueSearch, op: Op, block: u32, stores: &mut Stores) {
+        add_stores_of(*search, op, block, stores);
     }
 
     fn begin_wrap(op: Op, list: &List, stop: u32) -> (QueueWrap, Wrapped) {

@@ -1,17 +1,14 @@
-//! The steps of a search, and the list that it names.
-ghost use Rattle.std.specs.Prelude.{◌≡◌, ◌<◌, ◌≤◌, ◌^◌, true};
-ghost use Rattle.queue_laws.specs.Search.{begun, asked, fed, met_by_put, met_by_take, put_offer, take_offer, block_for, offered};
+//! The steps of a search.
+ghost use Rattle.std.specs.Prelude.{◌≡◌, true};
+ghost use Rattle.queue_laws.specs.Search.{begun, asked, fed, met_by_put, met_by_take};
 
 use crate::words::{is_modified, moved, next_place, node_of};
-use arrayvec::ArrayVec;
 use lin_report::calls::PUT;
 use lin_report::{Op, Outcome, Reply};
-use node_arena::places::{HEAD, NODE_NEXT, NODE_VALUE, TAIL};
-use node_arena::{node_place, reference_to};
-use normal_traits::{Entry, Found, Offer};
+use node_arena::places::{HEAD, TAIL};
+use normal_traits::Found;
 use queue_laws::QueueSearch;
 use step_memory::{Request, Seen};
-use word_fields::VersionedWord;
 
 /// A search that begins.
 pub fn begun(op: Op) -> QueueSearch
@@ -114,67 +111,5 @@ pub fn fed(search: QueueSearch, seen: Seen) -> (QueueSearch, Found)
         QueueSearch::TakeHelp { .. } if seen.won => (QueueSearch::TakeHead, Found::Going),
         QueueSearch::PutHelp { .. } | QueueSearch::TakeHelp { .. } => (search, Found::Contended),
         QueueSearch::PutReady { .. } | QueueSearch::TakeReady { .. } => (search, Found::Ready),
-    }
-}
-
-/// The offer of a put: node 1 of the block is linked behind the tail's node.
-fn put_offer(tail: u64, next: u64, value: u32, block: u32) -> Offer
-    requires { block < 2 ^ 17 }
-    ensures list { result.list.items ≡ (put_offer tail next value block).entries }
-    ensures stores { result.stores.items ≡ (put_offer tail next value block).stores }
-{
-    let node = reference_to(block, 1);
-    let mut list = ArrayVec::new();
-    list.push(Entry {
-        target: next_place(tail),
-        from: next,
-        to: VersionedWord::unpack(next).changed(node).pack(),
-    });
-    let mut stores = ArrayVec::new();
-    stores.push((node_place(node, NODE_VALUE), u64::from(value)));
-    stores.push((node_place(node, NODE_NEXT), 0));
-    Offer { list, stores }
-}
-
-/// The offer of a take: the head is moved to the node behind it.
-fn take_offer(head: u64, next: u64) -> Offer
-    ensures list { result.list.items ≡ (take_offer head next).entries }
-    ensures stores { result.stores.items ≡ (take_offer head next).stores }
-{
-    let mut list = ArrayVec::new();
-    list.push(Entry {
-        target: HEAD,
-        from: head,
-        to: moved(head, next),
-    });
-    Offer {
-        list,
-        stores: ArrayVec::new(),
-    }
-}
-
-/// The block that a list uses: a put's alone, for its node.
-fn block_for(op: Op, block: u32) -> u32
-    ensures block { result ≡ block_for op block }
-    ensures none_higher { result ≤ block }
-{
-    if op.code == PUT { block } else { 0 }
-}
-
-/// What a ready search names.
-pub fn offered(search: QueueSearch, op: Op, block: u32) -> Offer
-    requires { block < 2 ^ 17 }
-    ensures list { result.list.items ≡ (offered search op block).entries }
-    ensures stores { result.stores.items ≡ (offered search op block).stores }
-{
-    match search {
-        QueueSearch::PutReady { tail, next } => {
-            put_offer(tail, next, op.value, block_for(op, block))
-        }
-        QueueSearch::TakeReady { head, next } => take_offer(head, next),
-        _ => Offer {
-            list: ArrayVec::new(),
-            stores: ArrayVec::new(),
-        },
     }
 }

@@ -1,9 +1,10 @@
 //! Put and take, walked step by step over the words of a memory.
-use crate::search::{asked, begun, fed, offered};
+use crate::offers::{add_stores_of, list_of};
+use crate::search::{asked, begun, fed};
 use crate::wrap::{wrap_asked, wrap_begun, wrap_fed};
 use lin_report::{Client, Op, Outcome, Reply};
 use node_arena::opening_words;
-use normal_traits::{Found, Offer, Wrapped};
+use normal_traits::{Found, List, Stores, Wrapped};
 use queue_laws::{QueueSearch, QueueWrap};
 use std::alloc::Global;
 use std::test::Fail;
@@ -63,12 +64,12 @@ fn walk_wrap(
     Some(wrap)
 }
 
-/// Makes the stores of an offer and the exchange of its one entry.
-fn execute(cells: &mut Cells, offer: &Offer) -> bool {
-    for &(at, value) in offer.stores.as_slice() {
+/// Makes the stores before a list and the exchange of its one entry.
+fn execute(cells: &mut Cells, stores: &Stores, list: &List) -> bool {
+    for &(at, value) in stores.as_slice() {
         cells.apply(Request::Store { at, value });
     }
-    match offer.list.as_slice() {
+    match list.as_slice() {
         [entry] => cells
             .apply(exchange(entry.target, entry.from, entry.to))
             .won,
@@ -93,10 +94,12 @@ fn a_put_alone(rt: HostRuntime) -> Result<(), Fail> {
     let steps = [(load(21), 1, Found::Going), (load(46), 0, Found::Ready)];
     let ready = QueueSearch::PutReady { tail: 1, next: 0 };
     assert_eq!(rt; walk(&mut cells, begun(put), steps.as_slice()), Some(ready));
-    let offer = offered(ready, put, 1);
-    assert_eq!(rt; offer.stores.as_slice(), [(77, 7), (78, 0)].as_slice());
-    assert!(rt; execute(&mut cells, &offer));
-    let (wrap, going) = wrap_begun(put, &offer.list, 1);
+    let mut stores = Stores::new();
+    add_stores_of(ready, put, 1, &mut stores);
+    assert_eq!(rt; stores.as_slice(), [(77, 7), (78, 0)].as_slice());
+    let list = list_of(ready, put, 1);
+    assert!(rt; execute(&mut cells, &stores, &list));
+    let (wrap, going) = wrap_begun(put, &list, 1);
     assert_eq!(rt; going, Wrapped::Going);
     let steps = [
         (load(21), 1, Wrapped::Going),
@@ -129,12 +132,14 @@ fn two_takes_of_one_value(rt: HostRuntime) -> Result<(), Fail> {
         next: LINKED,
     };
     assert_eq!(rt; ready, Some(search));
-    let offer = offered(search, take, 0);
-    assert!(rt; offer.stores.is_empty() && execute(&mut cells, &offer));
+    let mut stores = Stores::new();
+    add_stores_of(search, take, 0, &mut stores);
+    let list = list_of(search, take, 0);
+    assert!(rt; stores.is_empty() && execute(&mut cells, &stores, &list));
     let value = Wrapped::Done(Outcome::ValueOf(5));
-    assert_eq!(rt; wrap_begun(take, &offer.list, 1), (QueueWrap::Over, value));
+    assert_eq!(rt; wrap_begun(take, &list, 1), (QueueWrap::Over, value));
     assert_eq!(rt;
-        wrap_begun(take, &offer.list, 0),
+        wrap_begun(take, &list, 0),
         (QueueWrap::Over, Wrapped::Restart)
     );
     let steps = [

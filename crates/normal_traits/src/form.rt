@@ -1,6 +1,6 @@
 //! A structure in normalized form.
 
-use crate::lists::{List, Offer};
+use crate::lists::{List, Stores};
 use lin_report::{Client, Op, Outcome};
 use step_memory::{Request, Seen};
 
@@ -32,7 +32,7 @@ pub enum Wrapped {
 /// A structure as a generator and a wrap-up. Each function's answer is a definition of its arguments
 /// alone, and the laws say what the steps amount to (`specs/Laws.antt`).
 pub trait Normalized {
-    ghost use Rattle.std.specs.Prelude.{◌≡◌, ◌<◌, ◌^◌, IsTrue, length};
+    ghost use Rattle.std.specs.Prelude.{◌≡◌, ◌+◌, ◌<◌, ◌≤◌, ◌^◌, ◌++◌, IsTrue, length};
     ghost use Rattle.lin_report.specs.Commands.{is_command};
     ghost use Rattle.lin_report.specs.declared.calls.Client.{Client};
     ghost use Rattle.normal_traits.specs.NormalForm.{NormalForm};
@@ -77,14 +77,22 @@ pub trait Normalized {
         ensures goes { result ≡ found.Going → form.asks search.new }
         ensures readies { result ≡ found.Ready → form.is_ready search.new };
 
-    /// The list of a ready generator, with the stores into the block that come before it.
-    fn offer(search: &Self::Search, op: Op, block: u32) -> Offer
+    /// The list that a ready generator names.
+    fn list(search: &Self::Search, op: Op, block: u32) -> List
         requires ready { form.is_ready search.now }
         requires command { IsTrue (is_command form.client op) }
         requires block { block < 2 ^ 17 }
-        ensures list { result.list.items ≡ (form.offer_of search.now op block).entries }
-        ensures some { 0 < length result.list.items }
-        ensures stores { result.stores.items ≡ (form.offer_of search.now op block).stores };
+        ensures list { result.items ≡ (form.offer_of search.now op block).entries }
+        ensures some { 0 < length result.items };
+
+    /// Adds the stores into the block that come before that list, at most twenty.
+    fn stores(search: &Self::Search, op: Op, block: u32, stores: &mut Stores)
+        requires ready { form.is_ready search.now }
+        requires command { IsTrue (is_command form.client op) }
+        requires block { block < 2 ^ 17 }
+        requires room { length stores.old.items ≤ 10 }
+        ensures stores { stores.new.items ≡ stores.old.items ++ (form.offer_of search.now op block).stores }
+        ensures few { length stores.new.items ≤ length stores.old.items + 20 };
 
     /// Starts the wrap-up of a list that stopped at this entry.
     fn begin_wrap(op: Op, list: &List, stop: u32) -> (Self::Wrap, Wrapped)

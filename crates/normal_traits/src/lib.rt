@@ -4,7 +4,7 @@
 
 pub use contention::Contention;
 pub use form::{Found, Normalized, Wrapped};
-pub use lists::{Entry, List, Offer};
+pub use lists::{Entry, List, Stores};
 
 pub mod contention;
 pub mod form;

@@ -13,10 +13,5 @@ pub struct Entry {
 /// One or two exchanges, made in order until the first that fails.
 pub type List = ArrayVec<Entry, 2>;
 
-/// What a generator names: a list, and the stores into a block that come before it, each a place and a
-/// word.
-#[derive(Drop)]
-pub struct Offer {
-    pub list: List,
-    pub stores: ArrayVec<(u32, u64), 20>,
-}
+/// The stores of an offer, each a place and a word, behind at most ten that are the engine's own.
+pub type Stores = ArrayVec<(u32, u64), 30>;

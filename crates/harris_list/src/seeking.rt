@@ -1,0 +1,77 @@
+//! A search of the list, as contracts see it.
+ghost use Rattle.std.specs.Prelude.{◌≡◌, ◌+◌, ◌<◌, ◌≤◌, ◌^◌, ◌++◌, length};
+ghost use Rattle.list_laws.specs.Search.{Asks, IsReady, asked, begun_at, fed, offered};
+
+use crate::offers::{add_stores_of, list_of};
+use crate::search::{asked, begun_at, fed};
+use crate::way::Way;
+use lin_report::Op;
+use normal_traits::{Found, List, Stores};
+use std::marker::Model;
+use step_memory::{Request, Seen};
+
+/// A search between two of its steps.
+#[derive(Drop)]
+pub struct Seeking {
+    way: Way,
+}
+
+impl Model for Seeking {
+    ghost use Rattle.list_laws.specs.declared.states.ListSearch.{ListSearch};
+
+    ghost Value = { ListSearch };
+
+    ghost use Rattle.harris_list.specs.Ways.{search_at};
+
+    ghost view = { λ seeking. search_at seeking.way };
+}
+
+impl Seeking {
+    /// A search that begins at the place where a list begins.
+    pub fn begun_at(start: u32, op: Op) -> Seeking
+        ensures { result ≡ begun_at start op }
+    {
+        Seeking {
+            way: begun_at(start, op),
+        }
+    }
+
+    /// What the search asks for.
+    pub fn asked(&self) -> Request
+        requires { Asks self.now }
+        ensures { result ≡ asked self.now }
+    {
+        asked(&self.way)
+    }
+
+    /// Takes what the step saw, and says what was found.
+    pub fn feed(&mut self, seen: Seen) -> Found
+        requires { Asks self.old }
+        ensures search { (self.new, result) ≡ fed self.old seen }
+        ensures goes { result ≡ Found.Going → Asks self.new }
+        ensures readies { result ≡ Found.Ready → IsReady self.new }
+    {
+        fed(&mut self.way, seen)
+    }
+
+    /// The list that the search names, where it is ready.
+    pub fn list(&self, op: Op, block: u32) -> List
+        requires ready { IsReady self.now }
+        requires block { block < 2 ^ 17 }
+        ensures list { result.items ≡ (offered self.now op block).entries }
+        ensures some { 0 < length result.items }
+    {
+        list_of(&self.way, op, block)
+    }
+
+    /// Adds the stores that come before it.
+    pub fn stores(&self, op: Op, block: u32, stores: &mut Stores)
+        requires ready { IsReady self.now }
+        requires block { block < 2 ^ 17 }
+        requires room { length stores.old.items ≤ 10 }
+        ensures stores { stores.new.items ≡ stores.old.items ++ (offered self.now op block).stores }
+        ensures few { length stores.new.items ≤ length stores.old.items + 20 }
+    {
+        add_stores_of(&self.way, op, block, stores);
+    }
+}
