@@ -11,7 +11,7 @@ use Rattle.normal_traits.specs.World.{Called, Change, Listed, World, Among}
 use Rattle.normal_traits.specs.NormalForm.{NormalForm}
 use Rattle.normal_traits.specs.Steps.{change_of}
 use Rattle.fast_slow_engine.specs.declared.phases.Phase.{Phase}
-use Rattle.fast_slow_engine.specs.declared.phases.Phase.TheVariants.{Idle, Begin, Look, Generate, Apply, Wrap, Value, End}
+use Rattle.fast_slow_engine.specs.declared.phases.Phase.TheVariants.{Idle, Begin, Look, Generate, Apply, Wrap, Announce, Enter, Drive, Help, Collect, Value, End}
 use Rattle.fast_slow_engine.specs.declared.setup.Setup.{Setup}
 use Rattle.fast_slow_engine.specs.Mechs.{Mech}
 use Rattle.fast_slow_engine.specs.PhaseTable.{mech_turn, stepped, ticks_left, turn_in}
@@ -44,10 +44,15 @@ module _ {S W : Type 0} (form : NormalForm S W) where
   step_goes : (phase : Phase S W) (mech : Mech S W) (seen : Seen) → ticks_left phase ≡ 1 → ((reply : Reply) × (phase ≡ End reply)) ⊎ (ticks_left (stepped form phase seen mech).phase ≡ 1)
   step_goes Idle mech seen one = absurd (omega (arith, one))
   step_goes Begin mech seen one = absurd (omega (arith, one))
-  step_goes Look mech seen one = inr refl
+  step_goes Look mech seen one = inr (let left = (draws form Look seen mech refl).ticks in omega (arith, left))
   step_goes (Generate s at) mech seen one = inr (let left = (draws form (Generate s at) seen mech refl).ticks in omega (arith, left))
   step_goes (Apply run stores at) mech seen one = inr (let left = (draws form (Apply run stores at) seen mech refl).ticks in omega (arith, left))
   step_goes (Wrap w) mech seen one = inr (let left = (draws form (Wrap w) seen mech refl).ticks in omega (arith, left))
+  step_goes (Announce stage) mech seen one = inr (let left = (draws form (Announce stage) seen mech refl).ticks in omega (arith, left))
+  step_goes (Enter owner) mech seen one = inr (let left = (draws form (Enter owner) seen mech refl).ticks in omega (arith, left))
+  step_goes Drive mech seen one = inr (let left = (draws form Drive seen mech refl).ticks in omega (arith, left))
+  step_goes (Help drives help) mech seen one = inr (let left = (draws form (Help drives help) seen mech refl).ticks in omega (arith, left))
+  step_goes Collect mech seen one = inr (let left = (draws form Collect seen mech refl).ticks in omega (arith, left))
   step_goes (Value reference) mech seen one = inr refl
   step_goes (End reply) mech seen one = inl (reply, refl)
 

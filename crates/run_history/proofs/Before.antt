@@ -65,6 +65,7 @@ module _ {S W : Type 0} where
     pub record Before (setup : Setup) (older : List Move) (move : Move) : Type 0 where
       pub are : AreMoves form setup older
       pub is : IsMove form (run_of form setup older) move
+      pub unpublished : setup.publishes ≡ false
       pub structured : IsStructured setup older
       pub kept : IsKept form setup older
 

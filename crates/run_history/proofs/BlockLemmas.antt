@@ -16,17 +16,19 @@ use Rattle.cas_executor.specs.declared.fast_run.Execution.{Execution}
 use Rattle.cas_executor.specs.declared.fast_run.Execution.TheVariants.{Running, Stopped}
 use Rattle.cas_executor.specs.FastRuns.{FastWalk, fast_execution, fast_fed}
 use Rattle.fast_slow_engine.specs.declared.phases.Phase.{Phase}
-use Rattle.fast_slow_engine.specs.declared.phases.Phase.TheVariants.{Idle, Begin, Look, Generate, Apply, Wrap, Value, End}
+use Rattle.fast_slow_engine.specs.declared.phases.Phase.TheVariants.{Idle, Begin, Look, Generate, Apply, Wrap, Announce, Enter, Drive, Help, Collect, Value, End}
 use Rattle.fast_slow_engine.specs.declared.phases.Generating.TheVariants.{Search, LookForBlock, Claim}
 use Rattle.fast_slow_engine.specs.declared.phases.Applying.TheVariants.{Fill, Execute}
-use Rattle.fast_slow_engine.specs.Mechs.{Mech, block_of}
-use Rattle.fast_slow_engine.specs.PhaseTable.{executed, holds_none, in_phase, mech_fed, mech_request, offered, searched, spent, stepped, told, with_hand, wrapped_up}
+use Rattle.fast_slow_engine.specs.Hands.{block_of, holds_none}
+use Rattle.fast_slow_engine.specs.Mechs.{Mech}
+use Rattle.fast_slow_engine.specs.PhaseTable.{executed, in_phase, mech_fed, mech_request, offered, searched, spent, stepped, stores_for, told, with_hand, wrapped_up}
 use Rattle.fast_slow_engine.specs.Runs.{RunState, begun, run_of}
 use Rattle.run_laws.proofs.Steps.{move_steps}
 use Rattle.run_laws.proofs.SeatLemmas.{new_mech}
 use Rattle.run_laws.proofs.Summaries.{each_moved}
 use Rattle.run_history.specs.Ghosts.{Held, SeatGhost, held_in, stopped_in, list_after, newly_held, offered_block, ghost_of}
 use Rattle.run_history.specs.Hands.{BlockIn, BlocksHeld, ExecutesWith, HasBlock}
+use Rattle.run_history.proofs.PlainSteps.{IsPlain, failed_plain, of_plain, slow_plain}
 use Rattle.run_history.proofs.GrowLemmas.{others_stay}
 use Rattle.run_history.proofs.TookLemmas.{own_held}
 
@@ -57,6 +59,11 @@ module _ {S W : Type 0} (form : NormalForm S W) where
   abbrev Blocks : Mech S W → Option (Held S) → Type 0
   Blocks mech list = BlockIn form mech.phase mech (held_in mech.phase list)
 
+  -- in a plain phase nothing is said of it
+  plain_blocks : (mech : Mech S W) (list : Option (Held S)) → IsPlain mech.phase → Blocks mech list
+  plain_blocks mech list is =
+      of_plain (λ (p : Phase S W). BlockIn form p mech (held_in p list)) tt tt tt (λ s. tt) (λ at. tt) (λ owner. tt) tt (λ drives help. tt) tt (λ reference. tt) (λ reply. tt) mech.phase is
+
   told_blocks : (outcome : Outcome) (mech : Mech S W) (list : Option (Held S)) → Blocks (told outcome mech) list
   told_blocks (Plain reply) mech list = tt
   told_blocks (ValueOf reference) mech list = tt
@@ -72,7 +79,7 @@ module _ {S W : Type 0} (form : NormalForm S W) where
   named_blocks identity since s mech has =
       let offer = form.offer_of s mech.op (offered_block form mech) in
       let needs = form.needs_block mech.op in
-      filling_blocks needs (record { entries = offer.entries; next = 0 }) (record { items = offer.stores }) (offered form s mech) (newly_held form identity s since (offered form s mech)) refl refl
+      filling_blocks needs (record { entries = offer.entries; next = 0 }) (record { items = stores_for needs offer.stores mech }) (offered form s mech) (newly_held form identity s since (offered form s mech)) refl refl
       (λ is. block_offered needs mech.hand (has is) is) (λ is. none_offered needs (block_of mech.hand) is)
 
   readied_blocks : (b : Bool) (identity since : ℕ) (s : S) (mech : Mech S W) → (form.needs_block mech.op && holds_none mech.hand) ≡ b
@@ -86,7 +93,7 @@ module _ {S W : Type 0} (form : NormalForm S W) where
   searched_blocks found.Going identity since s mech = tt
   searched_blocks found.Ready identity since s mech = readied_blocks (form.needs_block mech.op && holds_none mech.hand) identity since s mech refl
   searched_blocks (found.Answer outcome) identity since s mech = told_blocks outcome mech _
-  searched_blocks found.Contended identity since s mech = tt
+  searched_blocks found.Contended identity since s mech = plain_blocks (searched form found.Contended s mech) _ (failed_plain form mech)
 
   looked_blocks : (b : Bool) (s : S) (mech : Mech S W) (list : Mech S W → Option (Held S)) → (form.needs_block mech.op ≡ true) × (mech.hand ≡ None)
       → (let new = if b then in_phase (Generate s Claim) mech else in_phase (End Exhausted) mech in Blocks new (list new))
@@ -101,7 +108,7 @@ module _ {S W : Type 0} (form : NormalForm S W) where
   wrapped_blocks : (what : Wrapped) (w : W) (mech : Mech S W) (list : Option (Held S)) → Blocks (wrapped_up form what w mech) list
   wrapped_blocks wrapped.Going w mech list = tt
   wrapped_blocks (wrapped.Done outcome) w mech list = told_blocks outcome mech list
-  wrapped_blocks wrapped.Restart w mech list = tt
+  wrapped_blocks wrapped.Restart w mech list = plain_blocks (wrapped_up form wrapped.Restart w mech) list (failed_plain form mech)
 
   executed_blocks : (execution : Execution) (later : FastWalk) (stores : ArrayVec (ℕ × ℕ)) (mech : Mech S W) (held : Option (Held S)) → ExecutesWith form mech held
       → Blocks (executed form execution later stores mech) (stopped_in execution held)
@@ -123,13 +130,18 @@ module _ {S W : Type 0} (form : NormalForm S W) where
       → Blocks (stepped form phase seen mech) (list_after form identity phase seen own (stepped form phase seen mech))
   step_blocks Idle identity mech seen own at is = idle_blocks mech.phase mech own.held at
   step_blocks Begin identity mech seen own at is = tt
-  step_blocks Look identity mech seen own at is = tt
+  step_blocks Look identity mech seen own at is = plain_blocks (stepped form Look seen mech) own.held (slow_plain form Look seen mech tt)
   step_blocks (Generate s Search) identity mech seen own at is = searched_blocks (form.found_of s seen) identity own.since (form.feed_of s seen) mech
   step_blocks (Generate s LookForBlock) identity mech seen own at is = looked_blocks (nat_lt seen.before mech.setup.cap) s mech (λ new. Some (newly_held form identity s own.since new)) is
   step_blocks (Generate s Claim) identity mech seen own at is = claimed_blocks (nat_lt seen.before mech.setup.cap) identity own.since s _ mech
-  step_blocks (Apply run stores (Fill made)) identity mech seen own at is = fill_blocks (made + 1 == length stores.items + 3) run stores (made + 1) mech own.held is
+  step_blocks (Apply run stores (Fill made)) identity mech seen own at is = fill_blocks (made + 1 == length stores.items) run stores (made + 1) mech own.held is
   step_blocks (Apply run stores Execute) identity mech seen own at is = executed_blocks (fast_execution run seen) (fast_fed run seen) stores mech own.held is
   step_blocks (Wrap w) identity mech seen own at is = wrapped_blocks (form.wrap_found_of w seen) (form.feed_wrap_of w seen) mech own.held
+  step_blocks (Announce stage) identity mech seen own at is = plain_blocks (stepped form (Announce stage) seen mech) own.held (slow_plain form (Announce stage) seen mech tt)
+  step_blocks (Enter owner) identity mech seen own at is = plain_blocks (stepped form (Enter owner) seen mech) own.held (slow_plain form (Enter owner) seen mech tt)
+  step_blocks Drive identity mech seen own at is = plain_blocks (stepped form Drive seen mech) own.held (slow_plain form Drive seen mech tt)
+  step_blocks (Help drives help) identity mech seen own at is = plain_blocks (stepped form (Help drives help) seen mech) own.held (slow_plain form (Help drives help) seen mech tt)
+  step_blocks Collect identity mech seen own at is = plain_blocks (stepped form Collect seen mech) own.held (slow_plain form Collect seen mech tt)
   step_blocks (Value reference) identity mech seen own at is = tt
   step_blocks (End reply) identity mech seen own at is = tt
 

@@ -14,7 +14,7 @@ use Rattle.normal_traits.specs.NormalForm.{NormalForm}
 use Rattle.normal_traits.specs.Steps.{change_of, exchanged, listed_if, with_change}
 use Rattle.cas_executor.specs.FastRuns.{FastWalk}
 use Rattle.fast_slow_engine.specs.declared.phases.Phase.{Phase}
-use Rattle.fast_slow_engine.specs.declared.phases.Phase.TheVariants.{Idle, Begin, Look, Generate, Apply, Wrap, Value, End}
+use Rattle.fast_slow_engine.specs.declared.phases.Phase.TheVariants.{Idle, Begin, Look, Generate, Apply, Wrap, Announce, Enter, Drive, Help, Collect, Value, End}
 use Rattle.fast_slow_engine.specs.declared.phases.Generating.TheVariants.{Search, LookForBlock, Claim}
 use Rattle.fast_slow_engine.specs.declared.phases.Applying.TheVariants.{Fill, Execute}
 use Rattle.fast_slow_engine.specs.declared.setup.Setup.{Setup}
@@ -95,6 +95,11 @@ module _ {S W : Type 0} (form : NormalForm S W) where
   stepped_makes (Apply run stores (Fill made)) held seen world = nothing refl refl
   stepped_makes (Apply run stores Execute) held seen world = listed_makes held run seen world
   stepped_makes (Wrap w) held seen world = beside_makes (form.wrap_request_of w) seen held world
+  stepped_makes (Announce stage) held seen world = nothing refl refl
+  stepped_makes (Enter owner) held seen world = nothing refl refl
+  stepped_makes Drive held seen world = nothing refl refl
+  stepped_makes (Help drives help) held seen world = nothing refl refl
+  stepped_makes Collect held seen world = nothing refl refl
   stepped_makes (Value reference) held seen world = nothing refl refl
   stepped_makes (End reply) held seen world = nothing refl refl
 
@@ -151,6 +156,11 @@ module _ {S W : Type 0} (form : NormalForm S W) where
   held_called (Generate s at) mech held h is holds = none_some held h is holds
   held_called (Apply run stores at) mech held h is holds = (subst (OffersList form run stores mech) holds is).held_by.call
   held_called (Wrap w) mech held h is holds = (subst (WrapsList form mech) holds is).call
+  held_called (Announce stage) mech held h is holds = none_some held h is holds
+  held_called (Enter owner) mech held h is holds = none_some held h is holds
+  held_called Drive mech held h is holds = none_some held h is holds
+  held_called (Help drives help) mech held h is holds = none_some held h is holds
+  held_called Collect mech held h is holds = none_some held h is holds
   held_called (Value reference) mech held h is holds = none_some held h is holds
   held_called (End reply) mech held h is holds = none_some held h is holds
 
@@ -172,6 +182,11 @@ module _ {S W : Type 0} (form : NormalForm S W) where
   running_command (Generate s at) mech held h is holds command = command
   running_command (Apply run stores at) mech held h is holds command = command
   running_command (Wrap w) mech held h is holds command = command
+  running_command (Announce stage) mech held h is holds command = command
+  running_command (Enter owner) mech held h is holds command = command
+  running_command Drive mech held h is holds command = command
+  running_command (Help drives help) mech held h is holds command = command
+  running_command Collect mech held h is holds command = command
   running_command (Value reference) mech held h is holds command = command
   running_command (End reply) mech held h is holds command = command
 

@@ -8,7 +8,7 @@ use Rattle.step_memory.proofs.Words.{add_tells}
 use Rattle.normal_traits.specs.World.{World}
 use Rattle.normal_traits.specs.NormalForm.{NormalForm}
 use Rattle.fast_slow_engine.specs.declared.phases.Phase.{Phase}
-use Rattle.fast_slow_engine.specs.declared.phases.Phase.TheVariants.{Idle, Begin, Look, Generate, Apply, Wrap, Value, End}
+use Rattle.fast_slow_engine.specs.declared.phases.Phase.TheVariants.{Idle, Begin, Look, Generate, Apply, Wrap, Announce, Enter, Drive, Help, Collect, Value, End}
 use Rattle.fast_slow_engine.specs.declared.setup.Setup.{Setup}
 use Rattle.fast_slow_engine.specs.Mechs.{Mech}
 use Rattle.fast_slow_engine.specs.PhaseTable.{mech_request, request_in, rests, stepped, ticks_left}
@@ -97,6 +97,11 @@ module _ {S W : Type 0} (form : NormalForm S W) where
   quiet_step (Generate s at) mech held words world draws = absurd (search rules)
   quiet_step (Apply run stores at) mech held words world draws = absurd (search rules)
   quiet_step (Wrap w) mech held words world draws = absurd (search rules)
+  quiet_step (Announce stage) mech held words world draws = absurd (search rules)
+  quiet_step (Enter owner) mech held words world draws = absurd (search rules)
+  quiet_step Drive mech held words world draws = absurd (search rules)
+  quiet_step (Help drives help) mech held words world draws = absurd (search rules)
+  quiet_step Collect mech held words world draws = absurd (search rules)
   quiet_step (Value reference) mech held words world draws = absurd (search rules)
   quiet_step (End reply) mech held words world draws = refl
 
@@ -133,6 +138,11 @@ module _ {S W : Type 0} (form : NormalForm S W) where
   counts_of (Generate s step) mech own now at begun since most = (begun, since, most)
   counts_of (Apply run stores step) mech own now at begun since most = (begun, since, most)
   counts_of (Wrap w) mech own now at begun since most = (begun, since, most)
+  counts_of (Announce stage) mech own now at begun since most = (begun, since, most)
+  counts_of (Enter owner) mech own now at begun since most = (begun, since, most)
+  counts_of Drive mech own now at begun since most = (begun, since, most)
+  counts_of (Help drives help) mech own now at begun since most = (begun, since, most)
+  counts_of Collect mech own now at begun since most = (begun, since, most)
   counts_of (Value reference) mech own now at begun since most = (begun, since, most)
   counts_of (End reply) mech own now at begun since most = (begun, since, most)
 
@@ -145,6 +155,11 @@ module _ {S W : Type 0} (form : NormalForm S W) where
   counts_stay (Generate s step) mech own now later at at' more same counts = (counts.0 ∙ sym (same refl), counts.1, omega (arith, counts.2, more))
   counts_stay (Apply run stores step) mech own now later at at' more same counts = (counts.0 ∙ sym (same refl), counts.1, omega (arith, counts.2, more))
   counts_stay (Wrap w) mech own now later at at' more same counts = (counts.0 ∙ sym (same refl), counts.1, omega (arith, counts.2, more))
+  counts_stay (Announce stage) mech own now later at at' more same counts = (counts.0 ∙ sym (same refl), counts.1, omega (arith, counts.2, more))
+  counts_stay (Enter owner) mech own now later at at' more same counts = (counts.0 ∙ sym (same refl), counts.1, omega (arith, counts.2, more))
+  counts_stay Drive mech own now later at at' more same counts = (counts.0 ∙ sym (same refl), counts.1, omega (arith, counts.2, more))
+  counts_stay (Help drives help) mech own now later at at' more same counts = (counts.0 ∙ sym (same refl), counts.1, omega (arith, counts.2, more))
+  counts_stay Collect mech own now later at at' more same counts = (counts.0 ∙ sym (same refl), counts.1, omega (arith, counts.2, more))
   counts_stay (Value reference) mech own now later at at' more same counts = (counts.0 ∙ sym (same refl), counts.1, omega (arith, counts.2, more))
   counts_stay (End reply) mech own now later at at' more same counts = (counts.0 ∙ sym (same refl), counts.1, omega (arith, counts.2, more))
 
@@ -174,6 +189,11 @@ module _ {S W : Type 0} (form : NormalForm S W) where
   counts_on (Generate s step) mech seen own now at one counts = record { begun = counts.0; within = omega (arith, counts.1, counts.2); since = λ none. counts.1; most = λ none. counts.2 }
   counts_on (Apply run stores step) mech seen own now at one counts = record { begun = counts.0; within = omega (arith, counts.1, counts.2); since = λ none. counts.1; most = λ none. counts.2 }
   counts_on (Wrap w) mech seen own now at one counts = record { begun = counts.0; within = omega (arith, counts.1, counts.2); since = λ none. counts.1; most = λ none. counts.2 }
+  counts_on (Announce stage) mech seen own now at one counts = record { begun = counts.0; within = omega (arith, counts.1, counts.2); since = λ none. counts.1; most = λ none. counts.2 }
+  counts_on (Enter owner) mech seen own now at one counts = record { begun = counts.0; within = omega (arith, counts.1, counts.2); since = λ none. counts.1; most = λ none. counts.2 }
+  counts_on Drive mech seen own now at one counts = record { begun = counts.0; within = omega (arith, counts.1, counts.2); since = λ none. counts.1; most = λ none. counts.2 }
+  counts_on (Help drives help) mech seen own now at one counts = record { begun = counts.0; within = omega (arith, counts.1, counts.2); since = λ none. counts.1; most = λ none. counts.2 }
+  counts_on Collect mech seen own now at one counts = record { begun = counts.0; within = omega (arith, counts.1, counts.2); since = λ none. counts.1; most = λ none. counts.2 }
   counts_on (Value reference) mech seen own now at one counts = record { begun = counts.0; within = omega (arith, counts.1, counts.2); since = λ none. counts.1; most = λ none. counts.2 }
   counts_on (End reply) mech seen own now at one counts = record { begun = counts.0; within = omega (arith, counts.1, counts.2); since = λ none. counts.1; most = λ none. counts.2 }
 
@@ -190,6 +210,11 @@ module _ {S W : Type 0} (form : NormalForm S W) where
   begun_stays (Generate s step) count before one = refl
   begun_stays (Apply run stores step) count before one = refl
   begun_stays (Wrap w) count before one = refl
+  begun_stays (Announce stage) count before one = refl
+  begun_stays (Enter owner) count before one = refl
+  begun_stays Drive count before one = refl
+  begun_stays (Help drives help) count before one = refl
+  begun_stays Collect count before one = refl
   begun_stays (Value reference) count before one = refl
   begun_stays (End reply) count before one = refl
 
@@ -217,6 +242,11 @@ module _ {S W : Type 0} (form : NormalForm S W) where
   step_counts (Generate s step) mech seen own now later at at' held runs more same drawn counts = going_counts (Generate s step) mech seen own now later at at' held refl refl more same counts
   step_counts (Apply run stores step) mech seen own now later at at' held runs more same drawn counts = going_counts (Apply run stores step) mech seen own now later at at' held refl refl more same counts
   step_counts (Wrap w) mech seen own now later at at' held runs more same drawn counts = going_counts (Wrap w) mech seen own now later at at' held refl refl more same counts
+  step_counts (Announce stage) mech seen own now later at at' held runs more same drawn counts = going_counts (Announce stage) mech seen own now later at at' held refl refl more same counts
+  step_counts (Enter owner) mech seen own now later at at' held runs more same drawn counts = going_counts (Enter owner) mech seen own now later at at' held refl refl more same counts
+  step_counts Drive mech seen own now later at at' held runs more same drawn counts = going_counts Drive mech seen own now later at at' held refl refl more same counts
+  step_counts (Help drives help) mech seen own now later at at' held runs more same drawn counts = going_counts (Help drives help) mech seen own now later at at' held refl refl more same counts
+  step_counts Collect mech seen own now later at at' held runs more same drawn counts = going_counts Collect mech seen own now later at at' held refl refl more same counts
   step_counts (Value reference) mech seen own now later at at' held runs more same drawn counts = going_counts (Value reference) mech seen own now later at at' held refl refl more same counts
   step_counts (End reply) mech seen own now later at at' held runs more same drawn counts = tt
 

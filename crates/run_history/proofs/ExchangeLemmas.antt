@@ -1,9 +1,8 @@
 -- The journal of a run tells the exchanges that were won.
-use Rattle.std.proofs.Common.{inl, inr, ◌≡◌, ◌≢◌, ◌∙◌, refl, sym, subst, ap, ℕ, ◌+◌, ◌*◌, ◌≤◌, ◌==◌, if◌then◌else◌, Bool, true, false, List, [], ◌∷◌, ◌++◌, map, slice_get, Option, Some, None, All}
+use Rattle.std.proofs.Common.{inl, inr, ◌≡◌, ◌≢◌, ◌∙◌, refl, sym, subst, ap, ℕ, ◌+◌, ◌*◌, ◌≤◌, if◌then◌else◌, Bool, true, false, List, [], ◌∷◌, ◌++◌, map, slice_get, Option, Some, None, All}
 use Rattle.std.proofs.lemmas.List.{length-map}
 use Rattle.std.proofs.lemmas.List.Elements.{All-cons, All-nil}
 use Rattle.arrayvec.specs.ArrayVec.{ArrayVec}
-use Rattle.lin_report.specs.declared.calls.Op.{Op}
 use Rattle.step_memory.specs.declared.steps.Request.{Request}
 use Rattle.step_memory.specs.declared.steps.Request.TheVariants.{Load, Store, Exchange, Add}
 use Rattle.step_memory.specs.Step.{seen_of}
@@ -17,12 +16,13 @@ use Rattle.normal_traits.specs.Laws.{Laws, AsksWell}
 use Rattle.normal_traits.proofs.Stays.{entry_good}
 use Rattle.cas_executor.specs.FastRuns.{FastWalk, exchange_of}
 use Rattle.fast_slow_engine.specs.declared.phases.Phase.{Phase}
-use Rattle.fast_slow_engine.specs.declared.phases.Phase.TheVariants.{Idle, Begin, Look, Generate, Apply, Wrap, Value, End}
+use Rattle.fast_slow_engine.specs.declared.phases.Phase.TheVariants.{Idle, Begin, Look, Generate, Apply, Wrap, Announce, Enter, Drive, Help, Collect, Value, End}
 use Rattle.fast_slow_engine.specs.declared.phases.Generating.TheVariants.{Search, LookForBlock, Claim}
 use Rattle.fast_slow_engine.specs.declared.phases.Applying.TheVariants.{Fill, Execute}
 use Rattle.fast_slow_engine.specs.declared.setup.Setup.{Setup}
-use Rattle.fast_slow_engine.specs.Mechs.{Mech, block_of}
-use Rattle.fast_slow_engine.specs.PhaseTable.{fill_request, request_in, store_of}
+use Rattle.fast_slow_engine.specs.Mechs.{Mech}
+use Rattle.fast_slow_engine.specs.OfferStores.{stored_by}
+use Rattle.fast_slow_engine.specs.PhaseTable.{request_in}
 use Rattle.fast_slow_engine.specs.Runs.{Move, AreMoves, begun, run_of}
 use Rattle.run_laws.proofs.Pairs.{all_map, pairs_map}
 use Rattle.run_history.specs.Ghosts.{Held, asked_listed, uses_block, won_beside, won_entry, world_stepped, ghost_of, world_of}
@@ -51,19 +51,10 @@ AtVersioned is_versioned (Store at value) = Unit {0}
 AtVersioned is_versioned (Exchange at from to) = is_versioned at ≡ true
 AtVersioned is_versioned (Add at by) = Unit {0}
 
--- which nothing but an exchange has
-none_if : (is_versioned : ℕ → Bool) (b won : Bool) (x y : Request) → exchanged_by is_versioned x won ≡ [] → exchanged_by is_versioned y won ≡ [] → exchanged_by is_versioned (if b then x else y) won ≡ []
-none_if is_versioned true won x y h k = h
-none_if is_versioned false won x y h k = k
-
-none_stored : (is_versioned : ℕ → Bool) (won : Bool) (store : Option (ℕ × ℕ)) → exchanged_by is_versioned (store_of store) won ≡ []
+-- a store has exchanged nothing
+none_stored : (is_versioned : ℕ → Bool) (won : Bool) (store : Option (ℕ × ℕ)) → exchanged_by is_versioned (stored_by store) won ≡ []
 none_stored is_versioned won None = refl
 none_stored is_versioned won (Some store) = refl
-
-none_filled : (is_versioned : ℕ → Bool) (won : Bool) (block seat number made : ℕ) (op : Op) (stores : List (ℕ × ℕ)) → exchanged_by is_versioned (fill_request block seat number op stores made) won ≡ []
-none_filled is_versioned won block seat number made op stores =
-    none_if is_versioned (made == 0) won _ _ refl
-    (none_if is_versioned (made == 1) won _ _ refl (none_if is_versioned (made == 2) won _ _ refl (none_stored is_versioned won _)))
 
 module _ {S W : Type 0} (form : NormalForm S W) where
   -- what the journal tells after a step is what that has exchanged, and what it told before
@@ -111,6 +102,11 @@ module _ {S W : Type 0} (form : NormalForm S W) where
   AsksIn (Generate s Search) held = AtVersioned form.is_versioned (form.request_of s)
   AsksIn (Apply run stores Execute) held = OfHeld (λ (h : Held S). AtVersioned form.is_versioned (exchange_of (slice_get run.entries run.next))) held
   AsksIn (Wrap w) held = AtVersioned form.is_versioned (form.wrap_request_of w)
+  AsksIn (Announce stage) held = ⊥
+  AsksIn (Enter owner) held = ⊥
+  AsksIn Drive held = ⊥
+  AsksIn (Help drives help) held = ⊥
+  AsksIn Collect held = ⊥
   AsksIn _ held = Unit {0}
 
   stepped_tells : (phase : Phase S W) (mech : Mech S W) (held : Option (Held S)) (words : List ℕ) (world : World) → AsksIn phase held
@@ -122,9 +118,14 @@ module _ {S W : Type 0} (form : NormalForm S W) where
   stepped_tells (Generate s LookForBlock) mech held words world asks = refl
   stepped_tells (Generate s Claim) mech held words world asks = refl
   stepped_tells (Apply run stores (Fill made)) mech held words world asks =
-      ap (λ (l : List WonExchange). l ++ map told_exchange world.journal) (sym (none_filled form.is_versioned _ (block_of mech.hand) mech.seat mech.number made mech.op stores.items))
+      ap (λ (l : List WonExchange). l ++ map told_exchange world.journal) (sym (none_stored form.is_versioned _ (slice_get stores.items made)))
   stepped_tells (Apply run stores Execute) mech held words world asks = listed_tells held run words world asks
   stepped_tells (Wrap w) mech held words world asks = beside_tells (form.wrap_request_of w) (seen_of (form.wrap_request_of w) words).won world asks
+  stepped_tells (Announce stage) mech held words world asks = absurd asks
+  stepped_tells (Enter owner) mech held words world asks = absurd asks
+  stepped_tells Drive mech held words world asks = absurd asks
+  stepped_tells (Help drives help) mech held words world asks = absurd asks
+  stepped_tells Collect mech held words world asks = absurd asks
   stepped_tells (Value reference) mech held words world asks = refl
   stepped_tells (End reply) mech held words world asks = refl
 
@@ -171,6 +172,11 @@ module _ {S W : Type 0} (form : NormalForm S W) where
     asks_in (Apply run stores (Fill made)) knows holds = tt
     asks_in (Apply run stores Execute) knows holds = run_versioned run stores held holds knows
     asks_in (Wrap w) knows holds = wrap_versioned w held knows
+    asks_in (Announce stage) knows holds = absurd knows
+    asks_in (Enter owner) knows holds = absurd knows
+    asks_in Drive knows holds = absurd knows
+    asks_in (Help drives help) knows holds = absurd knows
+    asks_in Collect knows holds = absurd knows
     asks_in (Value reference) knows holds = tt
     asks_in (End reply) knows holds = tt
 
@@ -184,11 +190,11 @@ module _ {S W : Type 0} (form : NormalForm S W) where
 
   -- ---- the journal of a run
 
-  journal_same : Laws form → (setup : Setup) (moves : List Move) → AreMoves form setup moves → map told_exchange (world_of form setup moves).journal ≡ won_exchanges form setup moves
-  journal_same laws setup [] are = refl
-  journal_same laws setup (move ∷ older) are =
-      move_tells laws (before_move form laws setup older move are (is_kept form laws setup older are.0))
-      ∙ ap (λ (l : List WonExchange). moved_exchanges form (slice_get (run_of form setup older).mechs move.seat) move (run_of form setup older) ++ l) (journal_same laws setup older are.0)
+  journal_same : Laws form → (setup : Setup) (moves : List Move) → AreMoves form setup moves → setup.publishes ≡ false → map told_exchange (world_of form setup moves).journal ≡ won_exchanges form setup moves
+  journal_same laws setup [] are quiet = refl
+  journal_same laws setup (move ∷ older) are quiet =
+      move_tells laws (before_move form laws setup older move are quiet (is_kept form laws setup older are.0 quiet))
+      ∙ ap (λ (l : List WonExchange). moved_exchanges form (slice_get (run_of form setup older).mechs move.seat) move (run_of form setup older) ++ l) (journal_same laws setup older are.0 quiet)
 
   each_entrys : (setup : Setup) (moves : List Move) → AreMoves form setup moves → All IsOfItsEntry (world_of form setup moves).journal
   each_entrys setup [] are = All-nil IsOfItsEntry
@@ -252,18 +258,18 @@ module _ {S W : Type 0} (form : NormalForm S W) where
       ]
 
   pub journals_tell : Laws form → JournalsTell form
-  journals_tell laws setup moves are = record {
-    same = journal_same laws setup moves are;
+  journals_tell laws setup moves are quiet = record {
+    same = journal_same laws setup moves are quiet;
     listed = each_entrys setup moves are;
     called_for = won_for setup moves are;
     once = λ i j d before inside list k one other. wins_once form setup moves are i j d before inside list list k one other refl;
   }
 
   pub exchanges_once : Laws form → ExchangesOnce form
-  exchanges_once laws setup moves are =
-      let obey = obeys form laws setup moves are in
+  exchanges_once laws setup moves are quiet =
+      let obey = obeys form laws setup moves are quiet in
       let journal = (world_of form setup moves).journal in
-      subst (AreAtMostOnce setup.cap) (journal_same laws setup moves are) (record {
+      subst (AreAtMostOnce setup.cap) (journal_same laws setup moves are quiet) (record {
         once_from = pairs_map (λ (a b : WonExchange). a.place ≡ b.place → a.before ≢ b.before) told_exchange journal obey.once_from;
         raised = all_map (λ (e : WonExchange). versioned_version e.after ≡ versioned_version e.before + 1) told_exchange journal obey.raised;
         few = subst (λ n. n ≤ 8 * (setup.cap + 1)) (sym (length-map journal told_exchange)) obey.few;

@@ -12,7 +12,7 @@ use Rattle.normal_traits.specs.NormalForm.{NormalForm}
 use Rattle.normal_traits.specs.Steps.{object, change_of, exchanged, listed_if}
 use Rattle.cas_executor.specs.FastRuns.{FastWalk}
 use Rattle.fast_slow_engine.specs.declared.phases.Phase.{Phase}
-use Rattle.fast_slow_engine.specs.declared.phases.Phase.TheVariants.{Idle, Begin, Look, Generate, Apply, Wrap, Value, End}
+use Rattle.fast_slow_engine.specs.declared.phases.Phase.TheVariants.{Idle, Begin, Look, Generate, Apply, Wrap, Announce, Enter, Drive, Help, Collect, Value, End}
 use Rattle.fast_slow_engine.specs.declared.phases.Generating.TheVariants.{Search, LookForBlock, Claim}
 use Rattle.fast_slow_engine.specs.declared.phases.Applying.TheVariants.{Fill, Execute}
 use Rattle.fast_slow_engine.specs.Mechs.{Mech}
@@ -87,6 +87,11 @@ module _ {S W : Type 0} (form : NormalForm S W) where
   stepped_grows (Apply run stores (Fill made)) held seen world = same_grows world
   stepped_grows (Apply run stores Execute) held seen world = listed_grows held run seen world
   stepped_grows (Wrap w) held seen world = beside_grows (form.wrap_request_of w) seen world
+  stepped_grows (Announce stage) held seen world = same_grows world
+  stepped_grows (Enter owner) held seen world = same_grows world
+  stepped_grows Drive held seen world = same_grows world
+  stepped_grows (Help drives help) held seen world = same_grows world
+  stepped_grows Collect held seen world = same_grows world
   stepped_grows (Value reference) held seen world = same_grows world
   stepped_grows (End reply) held seen world = same_grows world
 

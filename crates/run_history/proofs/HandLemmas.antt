@@ -1,5 +1,5 @@
 -- The blocks in hand are not used before the first entry of their list takes effect.
-use Rattle.std.proofs.Common.{◌≡◌, ◌≢◌, ◌∙◌, refl, sym, subst, ap, ℕ, ◌+◌, ◌<◌, ◌==◌, ◌&&◌, nat_lt, if◌then◌else◌, Bool, true, false, List, [], ◌∷◌, length, get_or, slice_get, Option, Some, None, ◌⊎◌, inl, inr, arith, rules}
+use Rattle.std.proofs.Common.{◌≡◌, ◌≢◌, ◌∙◌, refl, sym, subst, ap, ℕ, ◌+◌, ◌<◌, ◌==◌, ◌&&◌, nat_lt, min, if◌then◌else◌, Bool, true, false, List, [], ◌∷◌, length, get_or, slice_get, Option, Some, None, ◌⊎◌, inl, inr, arith, rules}
 use Rattle.std.proofs.lemmas.Bool.{cases_eq, lt-ltb}
 use Rattle.std.proofs.lemmas.Bool.Decides.{nat_tests}
 use Rattle.arrayvec.specs.ArrayVec.{ArrayVec}
@@ -15,12 +15,14 @@ use Rattle.normal_traits.specs.World.{World}
 use Rattle.normal_traits.specs.NormalForm.{NormalForm}
 use Rattle.cas_executor.specs.declared.fast_run.Execution.TheVariants.{Running, Stopped}
 use Rattle.cas_executor.specs.FastRuns.{FastWalk, fast_execution, fast_fed}
+use Rattle.fast_slow_engine.specs.declared.phases.Announcing.TheVariants as announcing
+use Rattle.fast_slow_engine.specs.declared.phases.Generating.TheVariants.{Search}
 use Rattle.fast_slow_engine.specs.declared.phases.Phase.{Phase}
-use Rattle.fast_slow_engine.specs.declared.phases.Phase.TheVariants.{Idle, Begin, Look, Generate, Apply, Wrap, Value, End}
+use Rattle.fast_slow_engine.specs.declared.phases.Phase.TheVariants.{Idle, Begin, Look, Generate, Apply, Wrap, Announce, Enter, Drive, Help, Collect, Value, End}
 use Rattle.fast_slow_engine.specs.declared.phases.Applying.TheVariants.{Fill, Execute}
 use Rattle.fast_slow_engine.specs.declared.setup.Setup.{Setup}
 use Rattle.fast_slow_engine.specs.Mechs.{Mech}
-use Rattle.fast_slow_engine.specs.PhaseTable.{executed, mech_fed, mech_request, rests, spent, stepped, stopped, told, with_hand, wrapped_up}
+use Rattle.fast_slow_engine.specs.PhaseTable.{executed, in_phase, may_search, mech_fed, mech_request, rests, spent, stepped, stopped, told, tried, with_hand, wrapped_up}
 use Rattle.fast_slow_engine.specs.Runs.{Move, RunState, CanMove, IsMove, AreMoves, begun, run_of}
 use Rattle.run_laws.specs.Seats.{EachMech}
 use Rattle.run_laws.specs.Claims.{KeepsClaims}
@@ -52,10 +54,17 @@ module _ {S W : Type 0} (form : NormalForm S W) where
   told_hand (Plain reply) mech = refl
   told_hand (ValueOf reference) mech = refl
 
+  either_hand : (b : Bool) (x y : Mech S W) (hand : Option ℕ) → x.hand ≡ hand → y.hand ≡ hand → (if b then x else y).hand ≡ hand
+  either_hand true x y hand h k = h
+  either_hand false x y hand h k = k
+
+  tried_hand : (mech : Mech S W) → (tried form mech).hand ≡ mech.hand
+  tried_hand mech = either_hand (may_search mech) (in_phase (Generate (form.begin_of mech.op) Search) mech) (in_phase (Announce announcing.Value) mech) mech.hand refl refl
+
   wrapped_hand : (what : Wrapped) (w : W) (mech : Mech S W) → (wrapped_up form what w mech).hand ≡ mech.hand
   wrapped_hand wrapped.Going w mech = refl
   wrapped_hand (wrapped.Done outcome) w mech = told_hand outcome mech
-  wrapped_hand wrapped.Restart w mech = refl
+  wrapped_hand wrapped.Restart w mech = tried_hand (record mech { failures = min (mech.failures + 1) mech.setup.limit })
 
   -- a block is out of the hand where an entry of its list took effect
   stopped_hand : (entries : List Entry) (stop : ℕ) (mech : Mech S W) → form.needs_block mech.op ≡ true → 0 < stop → (stopped form entries stop mech).hand ≡ None
@@ -109,6 +118,11 @@ module _ {S W : Type 0} (form : NormalForm S W) where
   stays_unspent (Apply run stores (Fill made)) mech seen block hand unspent = tt
   stays_unspent (Apply run stores Execute) mech seen block hand unspent = executed_unspent (form.needs_block mech.op) run stores mech seen block refl hand unspent
   stays_unspent (Wrap w) mech seen block hand unspent = tt
+  stays_unspent (Announce stage) mech seen block hand unspent = tt
+  stays_unspent (Enter owner) mech seen block hand unspent = tt
+  stays_unspent Drive mech seen block hand unspent = tt
+  stays_unspent (Help drives help) mech seen block hand unspent = tt
+  stays_unspent Collect mech seen block hand unspent = tt
   stays_unspent (Value reference) mech seen block hand unspent = tt
   stays_unspent (End reply) mech seen block hand unspent = tt
 
@@ -120,6 +134,11 @@ module _ {S W : Type 0} (form : NormalForm S W) where
   was_unspent (Apply run stores (Fill made)) op seen is = tt
   was_unspent (Apply run stores Execute) op seen is = elim is [ inl none ↦ inr none | inr first ↦ inl first.0 ]
   was_unspent (Wrap w) op seen is = tt
+  was_unspent (Announce stage) op seen is = tt
+  was_unspent (Enter owner) op seen is = tt
+  was_unspent Drive op seen is = tt
+  was_unspent (Help drives help) op seen is = tt
+  was_unspent Collect op seen is = tt
   was_unspent (Value reference) op seen is = tt
   was_unspent (End reply) op seen is = tt
 
@@ -130,6 +149,11 @@ module _ {S W : Type 0} (form : NormalForm S W) where
   rest_unspent (Generate s at) op free = tt
   rest_unspent (Apply run stores at) op free = absurd (search rules)
   rest_unspent (Wrap w) op free = tt
+  rest_unspent (Announce stage) op free = tt
+  rest_unspent (Enter owner) op free = tt
+  rest_unspent Drive op free = tt
+  rest_unspent (Help drives help) op free = tt
+  rest_unspent Collect op free = tt
   rest_unspent (Value reference) op free = tt
   rest_unspent (End reply) op free = tt
 

@@ -16,12 +16,13 @@ use Rattle.cas_executor.specs.declared.fast_run.Execution.{Execution}
 use Rattle.cas_executor.specs.declared.fast_run.Execution.TheVariants.{Running, Stopped}
 use Rattle.cas_executor.specs.FastRuns.{FastWalk, fast_execution, fast_fed}
 use Rattle.fast_slow_engine.specs.declared.phases.Phase.{Phase}
-use Rattle.fast_slow_engine.specs.declared.phases.Phase.TheVariants.{Idle, Begin, Look, Generate, Apply, Wrap, Value, End}
+use Rattle.fast_slow_engine.specs.declared.phases.Phase.TheVariants.{Idle, Begin, Look, Generate, Apply, Wrap, Announce, Enter, Drive, Help, Collect, Value, End}
 use Rattle.fast_slow_engine.specs.declared.phases.Generating.TheVariants.{Search, LookForBlock, Claim}
 use Rattle.fast_slow_engine.specs.declared.phases.Applying.{Applying}
 use Rattle.fast_slow_engine.specs.declared.phases.Applying.TheVariants.{Fill, Execute}
 use Rattle.fast_slow_engine.specs.Mechs.{Mech}
-use Rattle.fast_slow_engine.specs.PhaseTable.{executed, holds_none, in_phase, mech_fed, mech_request, offered, rests, searched, spent, stepped, told, with_hand, wrapped_up}
+use Rattle.fast_slow_engine.specs.Hands.{holds_none}
+use Rattle.fast_slow_engine.specs.PhaseTable.{executed, in_phase, mech_fed, mech_request, offered, rests, searched, spent, stepped, told, with_hand, wrapped_up}
 use Rattle.fast_slow_engine.specs.Runs.{Move, RunState, CanMove, IsMove, begun, run_of, run_step}
 use Rattle.run_laws.specs.Seats.{EachMech}
 use Rattle.run_laws.proofs.Steps.{move_steps}
@@ -30,6 +31,7 @@ use Rattle.run_laws.proofs.Summaries.{each_moved}
 use Rattle.run_history.specs.Ghosts.{Held, SeatGhost, Ghost, held_in, stopped_in, list_after, newly_held, seat_stepped, ghost_moved, ghost_stepped, ghost_of, world_stepped, world_with}
 use Rattle.run_history.specs.Lists.{IsHeld, HoldsIn, WrapsList, OffersList, ListsHeld}
 use Rattle.run_history.proofs.GrowLemmas.{other_seat, own_seat}
+use Rattle.run_history.proofs.PlainSteps.{IsPlain, failed_plain, of_plain, slow_plain}
 
 module _ {S W : Type 0} (form : NormalForm S W) where
   -- a machine holds what is left of this list in its phase
@@ -39,6 +41,11 @@ module _ {S W : Type 0} (form : NormalForm S W) where
   keeps_if : (b : Bool) (x y : Mech S W) (list : Option (Held S)) → Keeps x list → Keeps y list → Keeps (if b then x else y) list
   keeps_if true x y list h k = h
   keeps_if false x y list h k = k
+
+  -- a machine in a plain phase holds none
+  plain_keeps : (mech : Mech S W) (list : Option (Held S)) → IsPlain mech.phase → Keeps mech list
+  plain_keeps mech list is =
+      of_plain (λ (p : Phase S W). HoldsIn form p mech (held_in p list)) refl refl refl (λ s. refl) (λ at. refl) (λ owner. refl) refl (λ drives help. refl) refl (λ reference. refl) (λ reply. refl) mech.phase is
 
   told_keeps : (outcome : Outcome) (mech : Mech S W) (list : Option (Held S)) → Keeps (told outcome mech) list
   told_keeps (Plain reply) mech list = refl
@@ -58,7 +65,7 @@ module _ {S W : Type 0} (form : NormalForm S W) where
   searched_keeps found.Going identity since s mech = refl
   searched_keeps found.Ready identity since s mech = readied_keeps (form.needs_block mech.op && holds_none mech.hand) identity since s mech
   searched_keeps (found.Answer outcome) identity since s mech = told_keeps outcome mech _
-  searched_keeps found.Contended identity since s mech = refl
+  searched_keeps found.Contended identity since s mech = plain_keeps (searched form found.Contended s mech) _ (failed_plain form mech)
 
   claimed_keeps : (b : Bool) (identity since : ℕ) (s : S) (block : ℕ) (mech : Mech S W)
       → (let new = if b then offered form s (with_hand (Some block) mech) else in_phase (End Exhausted) mech in Keeps new (Some (newly_held form identity s since new)))
@@ -74,7 +81,7 @@ module _ {S W : Type 0} (form : NormalForm S W) where
   wrapped_keeps : (what : Wrapped) (w : W) (mech : Mech S W) (held : Held S) → IsHeld form mech held → Keeps (wrapped_up form what w mech) (Some held)
   wrapped_keeps wrapped.Going w mech held is = record { call = is.call; entries = is.entries }
   wrapped_keeps (wrapped.Done outcome) w mech held is = told_keeps outcome mech (Some held)
-  wrapped_keeps wrapped.Restart w mech held is = refl
+  wrapped_keeps wrapped.Restart w mech held is = plain_keeps (wrapped_up form wrapped.Restart w mech) (Some held) (failed_plain form mech)
 
   spent_held : (b : Bool) (mech : Mech S W) (held : Held S) → IsHeld form mech held → IsHeld form (if b then with_hand None mech else mech) held
   spent_held true mech held is = record { call = is.call; entries = is.entries }
@@ -104,7 +111,7 @@ module _ {S W : Type 0} (form : NormalForm S W) where
       → Keeps (stepped form phase seen mech) (list_after form identity phase seen own (stepped form phase seen mech))
   step_keeps Idle identity mech seen own at is = idle_keeps mech.phase mech own.held at
   step_keeps Begin identity mech seen own at is = refl
-  step_keeps Look identity mech seen own at is = refl
+  step_keeps Look identity mech seen own at is = plain_keeps (stepped form Look seen mech) own.held (slow_plain form Look seen mech tt)
   step_keeps (Generate s Search) identity mech seen own at is = searched_keeps (form.found_of s seen) identity own.since (form.feed_of s seen) mech
   step_keeps (Generate s LookForBlock) identity mech seen own at is = looked_keeps (nat_lt seen.before mech.setup.cap) s mech (λ new. Some (newly_held form identity s own.since new))
   step_keeps (Generate s Claim) identity mech seen own at is = claimed_keeps (nat_lt seen.before mech.setup.cap) identity own.since s _ mech
@@ -112,6 +119,11 @@ module _ {S W : Type 0} (form : NormalForm S W) where
   step_keeps (Apply run stores Execute) identity mech seen own at is =
       executed_keeps (fast_execution run seen) run (fast_fed run seen) stores mech own.held refl is
   step_keeps (Wrap w) identity mech seen own at is = wrap_keeps (form.wrap_found_of w seen) (form.feed_wrap_of w seen) mech own.held is
+  step_keeps (Announce stage) identity mech seen own at is = plain_keeps (stepped form (Announce stage) seen mech) own.held (slow_plain form (Announce stage) seen mech tt)
+  step_keeps (Enter owner) identity mech seen own at is = plain_keeps (stepped form (Enter owner) seen mech) own.held (slow_plain form (Enter owner) seen mech tt)
+  step_keeps Drive identity mech seen own at is = plain_keeps (stepped form Drive seen mech) own.held (slow_plain form Drive seen mech tt)
+  step_keeps (Help drives help) identity mech seen own at is = plain_keeps (stepped form (Help drives help) seen mech) own.held (slow_plain form (Help drives help) seen mech tt)
+  step_keeps Collect identity mech seen own at is = plain_keeps (stepped form Collect seen mech) own.held (slow_plain form Collect seen mech tt)
   step_keeps (Value reference) identity mech seen own at is = refl
   step_keeps (End reply) identity mech seen own at is = refl
 
@@ -123,6 +135,11 @@ module _ {S W : Type 0} (form : NormalForm S W) where
   rest_holds (Generate s at) mech held free is = is
   rest_holds (Apply run stores at) mech held free is = absurd (search rules)
   rest_holds (Wrap w) mech held free is = absurd (search rules)
+  rest_holds (Announce stage) mech held free is = is
+  rest_holds (Enter owner) mech held free is = is
+  rest_holds Drive mech held free is = is
+  rest_holds (Help drives help) mech held free is = is
+  rest_holds Collect mech held free is = is
   rest_holds (Value reference) mech held free is = is
   rest_holds (End reply) mech held free is = is
 

@@ -9,7 +9,7 @@ use Rattle.cas_executor.specs.declared.fast_run.Execution.{Execution}
 use Rattle.cas_executor.specs.declared.fast_run.Execution.TheVariants.{Running, Stopped}
 use Rattle.cas_executor.specs.FastRuns.{fast_execution}
 use Rattle.fast_slow_engine.specs.declared.phases.Phase.{Phase}
-use Rattle.fast_slow_engine.specs.declared.phases.Phase.TheVariants.{Idle, Begin, Look, Generate, Apply, Wrap, Value, End}
+use Rattle.fast_slow_engine.specs.declared.phases.Phase.TheVariants.{Idle, Begin, Look, Generate, Apply, Wrap, Announce, Enter, Drive, Help, Collect, Value, End}
 use Rattle.fast_slow_engine.specs.declared.phases.Generating.TheVariants.{Search, LookForBlock, Claim}
 use Rattle.fast_slow_engine.specs.declared.phases.Applying.TheVariants.{Fill, Execute}
 use Rattle.fast_slow_engine.specs.declared.setup.Setup.{Setup}
@@ -41,6 +41,11 @@ module _ {S W : Type 0} where
   held_was (Generate s at) list held is = none_some held is
   held_was (Apply run stores at) list held is = is
   held_was (Wrap w) list held is = is
+  held_was (Announce stage) list held is = none_some held is
+  held_was (Enter owner) list held is = none_some held is
+  held_was Drive list held is = none_some held is
+  held_was (Help drives help) list held is = none_some held is
+  held_was Collect list held is = none_some held is
   held_was (Value reference) list held is = none_some held is
   held_was (End reply) list held is = none_some held is
 
@@ -55,6 +60,11 @@ module _ {S W : Type 0} where
     list_comes (Apply run stores (Fill made)) identity seen own new held is = inr (held, is, refl)
     list_comes (Apply run stores Execute) identity seen own new held is = stopped_comes (fast_execution run seen) own.held held identity is
     list_comes (Wrap w) identity seen own new held is = inr (held, is, refl)
+    list_comes (Announce stage) identity seen own new held is = inr (held, is, refl)
+    list_comes (Enter owner) identity seen own new held is = inr (held, is, refl)
+    list_comes Drive identity seen own new held is = inr (held, is, refl)
+    list_comes (Help drives help) identity seen own new held is = inr (held, is, refl)
+    list_comes Collect identity seen own new held is = inr (held, is, refl)
     list_comes (Value reference) identity seen own new held is = inr (held, is, refl)
     list_comes (End reply) identity seen own new held is = inr (held, is, refl)
 

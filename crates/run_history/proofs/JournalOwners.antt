@@ -13,7 +13,7 @@ use Rattle.cas_executor.specs.declared.fast_run.Execution.{Execution}
 use Rattle.cas_executor.specs.declared.fast_run.Execution.TheVariants as execution
 use Rattle.cas_executor.specs.FastRuns.{FastWalk, fast_execution, fast_fed}
 use Rattle.fast_slow_engine.specs.declared.phases.Phase.{Phase}
-use Rattle.fast_slow_engine.specs.declared.phases.Phase.TheVariants.{Idle, Begin, Look, Generate, Apply, Wrap, Value, End}
+use Rattle.fast_slow_engine.specs.declared.phases.Phase.TheVariants.{Idle, Begin, Look, Generate, Apply, Wrap, Announce, Enter, Drive, Help, Collect, Value, End}
 use Rattle.fast_slow_engine.specs.declared.phases.Applying.TheVariants.{Fill, Execute}
 use Rattle.fast_slow_engine.specs.declared.setup.Setup.{Setup}
 use Rattle.fast_slow_engine.specs.Mechs.{Mech}
@@ -110,6 +110,11 @@ module _ {S W : Type 0} (form : NormalForm S W) where
         wrapped_owned (form.wrap_found_of w seen) (form.feed_wrap_of w seen) one own.held h h (left_is (Wrap w) is) holds refl
         (λ outcome done. changed_owned h.list outcome (learnt.wraps w h outcome is holds done).0)
         (λ anew. inr (inl (learnt.restarts_dead h holds (ap (λ (p : Phase S W). searches_anew form p one.op seen) is ∙ ap restarts anew))))
+    own_owned (Announce stage) h is none holds = none_some own.held h none holds
+    own_owned (Enter owner) h is none holds = none_some own.held h none holds
+    own_owned Drive h is none holds = none_some own.held h none holds
+    own_owned (Help drives help) h is none holds = none_some own.held h none holds
+    own_owned Collect h is none holds = none_some own.held h none holds
     own_owned (Value reference) h is none holds = none_some own.held h none holds
     own_owned (End reply) h is none holds = none_some own.held h none holds
 

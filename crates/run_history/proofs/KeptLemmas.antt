@@ -1,6 +1,6 @@
--- What holds of every run of a client with the laws: its world has the shape, each machine knows what its phase
+-- What holds of every run of a client with the laws where no call is published: its world has the shape, each machine knows what its phase
 -- says, and each move is an allowed step.
-use Rattle.std.proofs.Common.{◌≡◌, sym, subst, ap, ℕ, ◌<◌, ◌≤◌, List, [], ◌∷◌, length, slice_get, Some, arith}
+use Rattle.std.proofs.Common.{◌≡◌, sym, subst, ap, ℕ, ◌<◌, ◌≤◌, false, List, [], ◌∷◌, length, slice_get, Some, arith}
 use Rattle.node_arena.specs.declared.places.TheConstants.{CLAIMS}
 use Rattle.node_arena.specs.MemoryMap.{block_place}
 use Rattle.normal_traits.specs.NormalForm.{NormalForm}
@@ -91,18 +91,19 @@ module _ {S W : Type 0} (form : NormalForm S W) (laws : Laws form) where
     knows = λ seat mech at. subst (λ (m : Mech S W). KnowsWell form m ((ghost_of form setup []).seats seat) (world_of form setup [])) (sym (new_mech form setup seat mech at)) (record { command = tt; knows = tt });
   }
 
-  pub before_move : (setup : Setup) (older : List Move) (move : Move) → AreMoves form setup (move ∷ older) → IsKept form setup older → Before form setup older move
-  before_move setup older move are kept = record {
+  pub before_move : (setup : Setup) (older : List Move) (move : Move) → AreMoves form setup (move ∷ older) → setup.publishes ≡ false → IsKept form setup older → Before form setup older move
+  before_move setup older move are quiet kept = record {
     are = are.0;
     is = are.1;
+    unpublished = quiet;
     structured = structured form setup older are.0 (client_keeps_claims form setup older kept.claims);
     kept = kept;
   }
 
-  pub is_kept : (setup : Setup) (moves : List Move) → AreMoves form setup moves → IsKept form setup moves
-  is_kept setup [] are = kept_open setup
-  is_kept setup (move ∷ older) are = kept_more (before_move setup older move are (is_kept setup older are.0))
+  pub is_kept : (setup : Setup) (moves : List Move) → AreMoves form setup moves → setup.publishes ≡ false → IsKept form setup moves
+  is_kept setup [] are quiet = kept_open setup
+  is_kept setup (move ∷ older) are quiet = kept_more (before_move setup older move are quiet (is_kept setup older are.0 quiet))
 
   -- each move is an allowed step
-  pub move_allowed : (setup : Setup) (older : List Move) (move : Move) → AreMoves form setup (move ∷ older) → IsStep form (world_of form setup older) (world_of form setup (move ∷ older))
-  move_allowed setup older move are = allowed (before_move setup older move are (is_kept setup older are.0))
+  pub move_allowed : (setup : Setup) (older : List Move) (move : Move) → AreMoves form setup (move ∷ older) → setup.publishes ≡ false → IsStep form (world_of form setup older) (world_of form setup (move ∷ older))
+  move_allowed setup older move are quiet = allowed (before_move setup older move are quiet (is_kept setup older are.0 quiet))

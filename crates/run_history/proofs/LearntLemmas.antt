@@ -15,7 +15,7 @@ use Rattle.cas_executor.specs.declared.fast_run.Execution.{Execution}
 use Rattle.cas_executor.specs.declared.fast_run.Execution.TheVariants as execution
 use Rattle.cas_executor.specs.FastRuns.{FastWalk, fast_execution}
 use Rattle.fast_slow_engine.specs.declared.phases.Phase.{Phase}
-use Rattle.fast_slow_engine.specs.declared.phases.Phase.TheVariants.{Idle, Begin, Look, Generate, Apply, Wrap, Value, End}
+use Rattle.fast_slow_engine.specs.declared.phases.Phase.TheVariants.{Idle, Begin, Look, Generate, Apply, Wrap, Announce, Enter, Drive, Help, Collect, Value, End}
 use Rattle.fast_slow_engine.specs.declared.phases.Generating.TheVariants.{Search}
 use Rattle.fast_slow_engine.specs.declared.phases.Applying.TheVariants.{Fill, Execute}
 use Rattle.fast_slow_engine.specs.declared.setup.Setup.{Setup}
@@ -123,6 +123,11 @@ module _ {S W : Type 0} (form : NormalForm S W) where
         subst (WrappedWell form after held.list at.0 (form.begin_wrap_of (mover form b).op run.entries at.0)) at.2 (run_tells run stores held at.0 is holds at.1)
     restart_in (Wrap w) held is wraps holds anew =
         subst (WrappedWell form after held.list held.stop (form.feed_wrap_of w (seen_by form b))) (restart_is (form.wrap_found_of w (seen_by form b)) anew) (wrap_tells w held is holds)
+    restart_in (Announce stage) held is none holds anew = none_some _ held none holds
+    restart_in (Enter owner) held is none holds anew = none_some _ held none holds
+    restart_in Drive held is none holds anew = none_some _ held none holds
+    restart_in (Help drives help) held is none holds anew = none_some _ held none holds
+    restart_in Collect held is none holds anew = none_some _ held none holds
     restart_in (Value reference) held is none holds anew = none_some _ held none holds
     restart_in (End reply) held is none holds anew = none_some _ held none holds
 

@@ -9,6 +9,8 @@ pub mod UsedLemmas
 pub mod HandLemmas
 pub mod WordLemmas
 pub mod GrowLemmas
+pub mod PlainSteps
+pub mod FastSteps
 pub mod HeldLemmas
 pub mod IdentityLemmas
 pub mod OwnLemmas
@@ -24,6 +26,7 @@ pub mod BoundLemmas
 pub mod WriteLemmas
 pub mod VersionLemmas
 pub mod StillLemmas
+pub mod StoreLemmas
 pub mod PassedLemmas
 pub mod OtherLemmas
 pub mod AskLemmas

@@ -13,7 +13,7 @@ use Rattle.step_memory.proofs.Words.{add_tells}
 use Rattle.normal_traits.specs.World.{Called, Change, Among, Observes, RightSince, held_after}
 use Rattle.normal_traits.specs.NormalForm.{NormalForm}
 use Rattle.fast_slow_engine.specs.declared.phases.Phase.{Phase}
-use Rattle.fast_slow_engine.specs.declared.phases.Phase.TheVariants.{Idle, Begin, Look, Generate, Apply, Wrap, Value, End}
+use Rattle.fast_slow_engine.specs.declared.phases.Phase.TheVariants.{Idle, Begin, Look, Generate, Apply, Wrap, Announce, Enter, Drive, Help, Collect, Value, End}
 use Rattle.fast_slow_engine.specs.declared.setup.Setup.{Setup}
 use Rattle.fast_slow_engine.specs.Mechs.{Mech}
 use Rattle.fast_slow_engine.specs.PhaseTable.{receipt_of, request_in, stepped, ticks_left, turn_in}
@@ -55,6 +55,11 @@ module _ {S W : Type 0} where
   all_lines P (Generate s at) mech seen ends = All-nil P
   all_lines P (Apply run stores at) mech seen ends = All-nil P
   all_lines P (Wrap w) mech seen ends = All-nil P
+  all_lines P (Announce stage) mech seen ends = All-nil P
+  all_lines P (Enter owner) mech seen ends = All-nil P
+  all_lines P Drive mech seen ends = All-nil P
+  all_lines P (Help drives help) mech seen ends = All-nil P
+  all_lines P Collect mech seen ends = All-nil P
   all_lines P (Value reference) mech seen ends = All-nil P
   all_lines P (End reply) mech seen ends = All-cons P (receipt_of mech reply seen.before) [] (ends reply refl) (All-nil P)
 

@@ -1,5 +1,5 @@
 -- The reports of runs are linearizable, where the calls of each run can be placed.
-use Rattle.std.proofs.Common.{◌≡◌, ℕ, ◌-◌, List, [], length, get_or, slice_get, Some, All, sym, subst, inl, inr, arith}
+use Rattle.std.proofs.Common.{◌≡◌, ℕ, ◌-◌, false, List, [], length, get_or, slice_get, Some, All, sym, subst, inl, inr, arith}
 use Rattle.std.proofs.lemmas.Bool.{cases_lt}
 use Rattle.std.proofs.lemmas.List.Elements.{All-get_or, All-nil}
 use Rattle.std.proofs.lemmas.List.{get_or_past}
@@ -48,21 +48,21 @@ module _ (client : Client) (setup : Setup) (files : List (List Op)) (fit : Files
       command_of (answered_call r)
       (subst (IsCommand files) (call_at_answered report k d (answered_call d) within) (is.commands k (answered_call d) (omega (arith, count_of_calls report))))
 
-module _ {S W : Type 0} (form : NormalForm S W) (laws : Laws form) (every : (setup : Setup) (moves : List Move) → AreMoves form setup moves → Placeable form setup moves) where
+module _ {S W : Type 0} (form : NormalForm S W) (laws : Laws form) (every : (setup : Setup) (moves : List Move) → AreMoves form setup moves → setup.publishes ≡ false → Placeable form setup moves) where
   pub files_linearizable : FilesLinearizable form
-  files_linearizable setup files order fit =
+  files_linearizable setup files order fit quiet =
       let moves = moves_over form setup files order in
-      linearizable form setup moves (every setup moves (files_run form setup files order fit).follow) files (files_report form laws setup files order fit)
+      linearizable form setup moves (every setup moves (files_run form setup files order fit).follow quiet) files (files_report form laws setup files order fit quiet)
 
   pub exhausted_only_where : ExhaustedOnlyWhere form
-  exhausted_only_where setup moves are = exhausted_only form setup moves (every setup moves are)
+  exhausted_only_where setup moves are quiet = exhausted_only form setup moves (every setup moves are quiet)
 
   pub exhausted_won_none : ExhaustedWonNone form
-  exhausted_won_none at_once setup moves are k d inside exhausted =
-      let r = get_or (run_of form setup moves).receipts k d in nothing_won form at_once setup moves are r (exhausted_only_where setup moves are k d inside exhausted)
+  exhausted_won_none at_once setup moves are quiet k d inside exhausted =
+      let r = get_or (run_of form setup moves).receipts k d in nothing_won form at_once setup moves are r (exhausted_only_where setup moves are quiet k d inside exhausted)
 
   pub replies_all_fit : RepliesFit form
-  replies_all_fit setup files order fit =
+  replies_all_fit setup files order fit quiet =
       let moves = moves_over form setup files order in
-      replies_fit form setup moves (every setup moves (files_run form setup files order fit).follow)
-      (commands_of form.client setup files fit (report_of_run (run_of form setup moves)) (files_report form laws setup files order fit))
+      replies_fit form setup moves (every setup moves (files_run form setup files order fit).follow quiet)
+      (commands_of form.client setup files fit (report_of_run (run_of form setup moves)) (files_report form laws setup files order fit quiet))

@@ -1,5 +1,5 @@
 -- How the calls of a run stand to its changes, and its ticks to its moments.
-use Rattle.std.proofs.Common.{◌≡◌, ◌≢◌, ◌∙◌, AllPairs, refl, sym, subst, ap, ℕ, ◌+◌, ◌<◌, ◌≤◌, List, [], ◌∷◌, ◌++◌, length, inl, inr, arith}
+use Rattle.std.proofs.Common.{◌≡◌, ◌≢◌, ◌∙◌, AllPairs, refl, sym, subst, ap, ℕ, ◌+◌, ◌<◌, ◌≤◌, false, List, [], ◌∷◌, ◌++◌, length, inl, inr, arith}
 use Rattle.std.proofs.lemmas.Bool.{cases_lt}
 use Rattle.std.proofs.lemmas.List.{append_assoc}
 use Rattle.normal_traits.specs.World.{Called, Change, World, Among}
@@ -107,29 +107,29 @@ module _ {S W : Type 0} (form : NormalForm S W) where
 
   module _ (laws : Laws form) where
     pub calls_ended : EachCallEnded form
-    calls_ended setup moves are = (calls_accounted form laws setup moves are).ended
+    calls_ended setup moves are quiet = (calls_accounted form laws setup moves are quiet).ended
 
     pub changed_once : NoneChangedTwice form
-    changed_once setup moves are = all_apart (ghost_of form setup moves).changes (calls_accounted form laws setup moves are).once
+    changed_once setup moves are quiet = all_apart (ghost_of form setup moves).changes (calls_accounted form laws setup moves are quiet).once
 
     pub calls_placed : EachCallPlaced form
-    calls_placed setup moves are = is_placed form setup moves (each_placeable form laws setup moves are)
+    calls_placed setup moves are quiet = is_placed form setup moves (each_placeable form laws setup moves are quiet)
 
     pub ticks_drawn : EachTickDrawn form
-    ticks_drawn setup moves are = drawn_by setup moves are (counters_kept form laws setup moves are).0
+    ticks_drawn setup moves are quiet = drawn_by setup moves are (counters_kept form laws setup moves are quiet).0
 
     pub ticks_counted : EachTickCounted form
-    ticks_counted setup moves are tick move older drawn =
-        let keeps = (counters_kept form laws setup moves are).0 in
+    ticks_counted setup moves are quiet tick move older drawn =
+        let keeps = (counters_kept form laws setup moves are quiet).0 in
         subst (λ (l : List Move). changes_at form setup l tick ≡ length (ghost_of form setup older).changes) (sym drawn.made)
         (counted_at setup drawn.newer move older tick (subst (AreMoves form setup) drawn.made are) (subst (KeepsTicks form setup) drawn.made keeps) drawn.before drawn.after)
 
-    pub has_history : (setup : Setup) (moves : List Move) → AreMoves form setup moves → HasHistory form setup moves
-    has_history setup moves are = record {
-      ended = calls_ended setup moves are;
-      changed_once = changed_once setup moves are;
-      placed = calls_placed setup moves are;
-      drawn = ticks_drawn setup moves are;
-      counted = ticks_counted setup moves are;
+    pub has_history : (setup : Setup) (moves : List Move) → AreMoves form setup moves → setup.publishes ≡ false → HasHistory form setup moves
+    has_history setup moves are quiet = record {
+      ended = calls_ended setup moves are quiet;
+      changed_once = changed_once setup moves are quiet;
+      placed = calls_placed setup moves are quiet;
+      drawn = ticks_drawn setup moves are quiet;
+      counted = ticks_counted setup moves are quiet;
       earlier = history_grows setup moves;
     }

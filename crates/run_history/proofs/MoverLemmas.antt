@@ -5,7 +5,7 @@ use Rattle.lin_report.specs.Commands.{IsCommandOf}
 use Rattle.normal_traits.specs.World.{World}
 use Rattle.normal_traits.specs.NormalForm.{NormalForm}
 use Rattle.fast_slow_engine.specs.declared.phases.Phase.{Phase}
-use Rattle.fast_slow_engine.specs.declared.phases.Phase.TheVariants.{Idle, Begin, Look, Generate, Apply, Wrap, Value, End}
+use Rattle.fast_slow_engine.specs.declared.phases.Phase.TheVariants.{Idle, Begin, Look, Generate, Apply, Wrap, Announce, Enter, Drive, Help, Collect, Value, End}
 use Rattle.fast_slow_engine.specs.declared.phases.Applying.TheVariants.{Fill, Execute}
 use Rattle.fast_slow_engine.specs.declared.setup.Setup.{Setup}
 use Rattle.fast_slow_engine.specs.Mechs.{Mech}
@@ -28,6 +28,11 @@ rests_before (Generate s at) free = tt
 rests_before (Apply run stores (Fill made)) free = tt
 rests_before (Apply run stores Execute) free = absurd (search rules)
 rests_before (Wrap w) free = tt
+rests_before (Announce stage) free = tt
+rests_before (Enter owner) free = tt
+rests_before Drive free = tt
+rests_before (Help drives help) free = tt
+rests_before Collect free = tt
 rests_before (Value reference) free = tt
 rests_before (End reply) free = tt
 
@@ -67,6 +72,11 @@ module _ {S W : Type 0} (form : NormalForm S W) where
   command_in (Generate s at) mech runs is = is
   command_in (Apply run stores at) mech runs is = is
   command_in (Wrap w) mech runs is = is
+  command_in (Announce stage) mech runs is = is
+  command_in (Enter owner) mech runs is = is
+  command_in Drive mech runs is = is
+  command_in (Help drives help) mech runs is = is
+  command_in Collect mech runs is = is
   command_in (Value reference) mech runs is = is
   command_in (End reply) mech runs is = is
 

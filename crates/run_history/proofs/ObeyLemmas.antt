@@ -107,19 +107,19 @@ module _ {S W : Type 0} (form : NormalForm S W) (laws : Laws form) where
           on.once);
     }
 
-  are_past : (setup : Setup) (moves : List Move) → AreMoves form setup moves → ArePast (world_of form setup moves)
-  are_past setup [] are = record { each = All-nil (IsPast (world_of form setup [])); once = pairs_nil AreOnce }
-  are_past setup (move ∷ older) are =
+  are_past : (setup : Setup) (moves : List Move) → AreMoves form setup moves → setup.publishes ≡ false → ArePast (world_of form setup moves)
+  are_past setup [] are quiet = record { each = All-nil (IsPast (world_of form setup [])); once = pairs_nil AreOnce }
+  are_past setup (move ∷ older) are quiet =
       let world = world_of form setup older in
       let after = world_of form setup (move ∷ older) in
-      let step = move_allowed form laws setup older move are in
-      past_more world after (world_grows form setup older move).used step (wins world after (is_kept form laws setup older are.0).shape step) (are_past setup older are.0)
+      let step = move_allowed form laws setup older move are quiet in
+      past_more world after (world_grows form setup older move).used step (wins world after (is_kept form laws setup older are.0 quiet).shape step) (are_past setup older are.0 quiet)
 
-  pub obeys : (setup : Setup) (moves : List Move) → AreMoves form setup moves → JournalLaws setup.cap (world_of form setup moves).journal
-  obeys setup moves are =
+  pub obeys : (setup : Setup) (moves : List Move) → AreMoves form setup moves → setup.publishes ≡ false → JournalLaws setup.cap (world_of form setup moves).journal
+  obeys setup moves are quiet =
       let world = world_of form setup moves in
-      let kept = is_kept form laws setup moves are in
-      let on = are_past setup moves are in
+      let kept = is_kept form laws setup moves are quiet in
+      let on = are_past setup moves are quiet in
       let used = (structured form setup moves are (client_keeps_claims form setup moves kept.claims)).used in
       record {
         once_from = on.once;

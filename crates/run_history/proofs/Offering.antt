@@ -5,7 +5,7 @@ use Rattle.lin_report.specs.declared.calls.Reply.{Reply}
 use Rattle.normal_traits.specs.World.{Called, Listed, World}
 use Rattle.normal_traits.specs.NormalForm.{NormalForm}
 use Rattle.fast_slow_engine.specs.declared.phases.Phase.{Phase}
-use Rattle.fast_slow_engine.specs.declared.phases.Phase.TheVariants.{Idle, Begin, Look, Generate, Apply, Wrap, Value, End}
+use Rattle.fast_slow_engine.specs.declared.phases.Phase.TheVariants.{Idle, Begin, Look, Generate, Apply, Wrap, Announce, Enter, Drive, Help, Collect, Value, End}
 use Rattle.fast_slow_engine.specs.declared.setup.Setup.{Setup}
 use Rattle.fast_slow_engine.specs.Mechs.{Mech}
 use Rattle.fast_slow_engine.specs.PhaseTable.{ticks_left}
@@ -45,6 +45,11 @@ module _ {S W : Type 0} (form : NormalForm S W) where
   offers_now (Generate s at) mech own world claims held is holds tells = holds_none own.held held holds is
   offers_now (Apply run stores at) mech own world claims held is holds tells = record { one_left = refl; stays = λ reply e. absurd (search rules); only = only_held own.held mech world held is tells }
   offers_now (Wrap w) mech own world claims held is holds tells = record { one_left = refl; stays = λ reply e. absurd (search rules); only = only_held own.held mech world held is tells }
+  offers_now (Announce stage) mech own world claims held is holds tells = holds_none own.held held holds is
+  offers_now (Enter owner) mech own world claims held is holds tells = holds_none own.held held holds is
+  offers_now Drive mech own world claims held is holds tells = holds_none own.held held holds is
+  offers_now (Help drives help) mech own world claims held is holds tells = holds_none own.held held holds is
+  offers_now Collect mech own world claims held is holds tells = holds_none own.held held holds is
   offers_now (Value reference) mech own world claims held is holds tells = holds_none own.held held holds is
   offers_now (End reply) mech own world claims held is holds tells = holds_none own.held held holds is
 

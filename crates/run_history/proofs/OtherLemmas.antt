@@ -8,7 +8,7 @@ use Rattle.normal_traits.specs.Steps.{IsStep}
 use Rattle.normal_traits.specs.Laws.{Laws, IsGoodStore}
 use Rattle.cas_executor.specs.FastRuns.{FastWalk}
 use Rattle.fast_slow_engine.specs.declared.phases.Phase.{Phase}
-use Rattle.fast_slow_engine.specs.declared.phases.Phase.TheVariants.{Idle, Begin, Look, Generate, Apply, Wrap, Value, End}
+use Rattle.fast_slow_engine.specs.declared.phases.Phase.TheVariants.{Idle, Begin, Look, Generate, Apply, Wrap, Announce, Enter, Drive, Help, Collect, Value, End}
 use Rattle.fast_slow_engine.specs.declared.phases.Generating.TheVariants.{Search, LookForBlock, Claim}
 use Rattle.fast_slow_engine.specs.declared.phases.Applying.TheVariants.{Fill, Execute}
 use Rattle.fast_slow_engine.specs.declared.setup.Setup.{Setup}
@@ -16,14 +16,15 @@ use Rattle.fast_slow_engine.specs.Mechs.{Mech}
 use Rattle.fast_slow_engine.specs.PhaseTable.{mech_request}
 use Rattle.fast_slow_engine.specs.Runs.{Move, run_of}
 use Rattle.run_history.specs.Ghosts.{Held, SeatGhost, ghost_of, world_of}
-use Rattle.run_history.specs.Lists.{HoldsIn, OffersList, IsOffering}
+use Rattle.run_history.specs.Lists.{HoldsIn, OffersList}
 use Rattle.run_history.specs.Moves.{Grows}
 use Rattle.run_history.specs.Known.{OfHeld, IsStillOffered, KnowsFill, KnowsRun, KnowsWrap, KnowsIn, MakesCommand, KnowsWell}
 use Rattle.run_history.proofs.GrowLemmas.{world_grows, others_stay}
 use Rattle.run_history.proofs.HeldLemmas.{lists_held}
 use Rattle.run_history.proofs.Before.{TookIn, IsBeforeFirst, HasBlock, HandIn, IsStructured, Before, mover, Writes}
 use Rattle.run_history.proofs.StillLemmas.{BlockStays, block_stays, mech_stays}
-use Rattle.run_history.proofs.PassedLemmas.{fills_stand, filled_stays, offered_stays, stopped_stays}
+use Rattle.run_history.proofs.PassedLemmas.{filled_stays, offered_stays, stopped_stays, stores_stand}
+use Rattle.run_history.proofs.StoreLemmas.{IsInto, own_into}
 
 module _ {S W : Type 0} (form : NormalForm S W) (laws : Laws form) (world after : World) (shape : form.shape world) (step : IsStep form world after) where
   -- what holds of a held list, by what holds of it beside
@@ -39,15 +40,17 @@ module _ {S W : Type 0} (form : NormalForm S W) (laws : Laws form) (world after 
   held_stays : (held : Held S) → IsStillOffered form world held → IsStillOffered form after held
   held_stays held offered = offered_stays form laws world after shape step held.list held.offering held.since offered
 
-  fill_stays : (run : FastWalk) (stores : ArrayVec (ℕ × ℕ)) (made : ℕ) (mech : Mech S W) (held : Held S) → form.needs_block mech.op ≡ true → HasBlock form mech held → IsOffering form run stores mech held
+  fill_stays : (run : FastWalk) (stores : ArrayVec (ℕ × ℕ)) (made : ℕ) (mech : Mech S W) (held : Held S) → form.needs_block mech.op ≡ true → HasBlock form mech held
       → ((block : ℕ) → mech.hand ≡ Some block → BlockStays block world after) → KnowsFill form world run stores made mech held → KnowsFill form after run stores made mech held
-  fill_stays run stores made mech held needs has offering stays knows = record {
+  fill_stays run stores made mech held needs has stays knows = record {
     offered = held_stays held knows.offered;
     running = knows.running;
     within = knows.within;
-    stored = λ k before.
-        fills_stand form held.list.block mech.seat mech.number mech.op stores.items k world after (stays held.list.block (has.needs needs))
-        (subst (All (IsGoodStore form held.list.block)) (sym offering.made) (stores_good held knows.offered)) (knows.stored k before);
+    filling = knows.filling;
+    stored = stores_stand held.list.block stores.items world after (stays held.list.block (has.needs needs))
+        (subst (All (IsInto held.list.block)) (sym knows.filling)
+        (own_into form held.list.block mech.seat mech.number mech.op (form.offer_of held.offering held.list.call.op held.list.block).stores (stores_good held knows.offered)))
+        made knows.stored;
   }
 
   -- a list with a block has it in hand
@@ -90,7 +93,7 @@ module _ {S W : Type 0} (form : NormalForm S W) (laws : Laws form) (world after 
     where
       by_list : (held : Option (Held S)) → OfHeld (HasBlock form mech) held → OffersList form run stores mech held → OfHeld (KnowsFill form world run stores made mech) held → OfHeld (KnowsFill form after run stores made mech) held
       by_list None has offering knows = absurd has
-      by_list (Some held) has offering knows = fill_stays run stores made mech held hand.0 has offering (λ block is. stays block is tt) knows
+      by_list (Some held) has offering knows = fill_stays run stores made mech held hand.0 has (λ block is. stays block is tt) knows
   knows_stays (Apply run stores Execute) mech own command hand holds took grows stays knows =
       of_held (HasBlock form mech) (KnowsRun form world run mech) (KnowsRun form after run mech) own.held (λ held has known. run_stays run mech held has stays known) hand knows
   knows_stays (Wrap wrap) mech own command hand holds took grows stays knows =
@@ -99,6 +102,11 @@ module _ {S W : Type 0} (form : NormalForm S W) (laws : Laws form) (world after 
       by_list : (held : Option (Held S)) → (let phase : Phase S W = Wrap wrap in TookIn phase held after) → OfHeld (KnowsWrap form world wrap) held → OfHeld (KnowsWrap form after wrap) held
       by_list None took knows = absurd took
       by_list (Some held) took knows = wrap_stays wrap held grows (took.1 held.list held.stop refl (omega arith)) knows
+  knows_stays (Announce stage) mech own command hand holds took grows stays knows = knows
+  knows_stays (Enter owner) mech own command hand holds took grows stays knows = knows
+  knows_stays Drive mech own command hand holds took grows stays knows = knows
+  knows_stays (Help drives help) mech own command hand holds took grows stays knows = knows
+  knows_stays Collect mech own command hand holds took grows stays knows = knows
   knows_stays (Value reference) mech own command hand holds took grows stays knows = knows
   knows_stays (End reply) mech own command hand holds took grows stays knows = knows
 

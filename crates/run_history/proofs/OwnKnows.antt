@@ -1,5 +1,5 @@
 -- What a machine knows after a step of its search or its wrap-up.
-use Rattle.std.proofs.Common.{◌≡◌, refl, ap, ℕ, ◌^◌, ◌<◌, ◌&&◌, if◌then◌else◌, Bool, true, false, length, Option, Some, None, arith}
+use Rattle.std.proofs.Common.{◌≡◌, ◌∙◌, refl, sym, subst, ap, ℕ, ◌+◌, ◌^◌, ◌<◌, ◌&&◌, min, if◌then◌else◌, Bool, true, false, length, Option, Some, None, arith}
 use Rattle.lin_report.specs.declared.calls.Op.{Op}
 use Rattle.lin_report.specs.declared.calls.Outcome.{Outcome}
 use Rattle.lin_report.specs.declared.calls.Outcome.TheVariants.{Plain, ValueOf}
@@ -18,10 +18,14 @@ use Rattle.cas_executor.specs.FastRuns.{FastWalk}
 use Rattle.fast_slow_engine.specs.declared.phases.Phase.TheVariants.{Generate, Apply, End}
 use Rattle.fast_slow_engine.specs.declared.phases.Generating.TheVariants.{LookForBlock, Claim}
 use Rattle.fast_slow_engine.specs.declared.phases.Applying.TheVariants.{Fill, Execute}
-use Rattle.fast_slow_engine.specs.Mechs.{Mech, block_of}
-use Rattle.fast_slow_engine.specs.PhaseTable.{holds_none, in_phase, offered, searched, told, with_hand, wrapped_up}
+use Rattle.fast_slow_engine.specs.Hands.{block_of, holds_none}
+use Rattle.fast_slow_engine.specs.Mechs.{Mech}
+use Rattle.fast_slow_engine.specs.OfferStores.{own_stores}
+use Rattle.fast_slow_engine.specs.PhaseTable.{in_phase, offered, searched, stores_for, told, tried, with_hand, wrapped_up}
 use Rattle.run_history.specs.Ghosts.{Held, gave_up, restarts, held_in, offered_block, newly_held}
 use Rattle.run_history.specs.Known.{KnowsIn, KnowsFill, KnowsRun}
+use Rattle.run_history.proofs.FastSteps.{tried_searches}
+use Rattle.run_history.proofs.StoreLemmas.{own_long}
 
 module _ {S W : Type 0} (form : NormalForm S W) where
   -- a machine knows this, with what is left of a list in its phase
@@ -46,16 +50,22 @@ module _ {S W : Type 0} (form : NormalForm S W) where
 
   -- an offer begins with the filling of a block, or with its list
   opens_knows : (b : Bool) (run : FastWalk) (stores : ArrayVec (ℕ × ℕ)) (new : Mech S W) (since begun : ℕ) (held : Held S) (world : World)
-      → KnowsFill form world run stores 0 new held → (b ≡ false → KnowsRun form world run new held)
+      → (b ≡ true → KnowsFill form world run stores 0 new held) → (b ≡ false → KnowsRun form world run new held)
       → KnowsIn form (Apply run stores (if b then Fill 0 else Execute)) new (record { since = since; begun = begun; held = Some held }) world
-  opens_knows true run stores new since begun held world fills runs = fills
+  opens_knows true run stores new since begun held world fills runs = fills refl
   opens_knows false run stores new since begun held world fills runs = runs refl
 
   module _ (laws : Laws form) where
     -- a search that begins knows what holds now
-    pub tried_knows : (world : World) (op : Op) → IsCommandOf form.client op → form.shape world
+    tried_knows : (world : World) (op : Op) → IsCommandOf form.client op → form.shape world
         → form.asks (form.begin_of op) × form.knows (form.begin_of op) op world (length world.changes)
     tried_knows world op command shape = (laws.begins_asking op command, laws.begins_knowing world op command shape)
+
+    -- and where no call is published, a call that tries again begins one
+    pub anew_knows : (begun : ℕ) (list : Option (Held S)) (mech : Mech S W) (world : World) → mech.setup.publishes ≡ false → IsCommandOf form.client mech.op → form.shape world
+        → Knows (length world.changes) begun list (tried form mech) world
+    anew_knows begun list mech world quiet command shape =
+        subst (λ (new : Mech S W). Knows (length world.changes) begun list new world) (sym (tried_searches form mech quiet)) (tried_knows world mech.op command shape)
 
     -- the list that a ready search names is offered
     named_knows : (identity since begun : ℕ) (s : S) (mech : Mech S W) (world : World) → IsCommandOf form.client mech.op → form.shape world
@@ -69,9 +79,15 @@ module _ {S W : Type 0} (form : NormalForm S W) where
         let offer = laws.offers world s mech.op since block command shape knows ready less in
         let is : IsOffered form world held.list s since = record { command = command; knows = knows; ready = ready; small = less; entries = refl } in
         let run : FastWalk = record { entries = (form.offer_of s mech.op block).entries; next = 0 } in
-        let stores : ArrayVec (ℕ × ℕ) = record { items = (form.offer_of s mech.op block).stores } in
+        let items = (form.offer_of s mech.op block).stores in
+        let stores : ArrayVec (ℕ × ℕ) = record { items = stores_for (form.needs_block mech.op) items mech } in
         opens_knows (form.needs_block mech.op) run stores new since begun held world
-        (record { offered = is; running = (offer.some, offer.few); within = omega arith; stored = λ k less. absurd (omega (arith, less)) })
+        (λ needs.
+        let into : block ≡ block_of mech.hand = ap (λ c. if c then block_of mech.hand else 0) needs in
+        let fills : stores.items ≡ own_stores block mech.seat mech.number mech.op items =
+        ap (λ c. stores_for c items mech) needs ∙ ap (λ k. own_stores k mech.seat mech.number mech.op items) (sym into) in
+        let long : length stores.items ≡ 3 + length items = ap length fills ∙ own_long block mech.seat mech.number mech.op items in
+        record { offered = is; running = (offer.some, offer.few); within = omega (arith, long); filling = fills; stored = λ k store less. absurd (omega (arith, less)) })
         (λ e. record {
           offered = is;
           running = (offer.some, offer.few);
@@ -85,14 +101,14 @@ module _ {S W : Type 0} (form : NormalForm S W) where
     readied_knows false identity since begun s mech world command shape ready knows small = named_knows identity since begun s mech world command shape ready knows small
 
     -- what a search was fed it knows
-    pub searched_knows : (what : Found) (identity since begun : ℕ) (s : S) (mech : Mech S W) (world : World) → IsCommandOf form.client mech.op → form.shape world
+    pub searched_knows : (what : Found) (identity since begun : ℕ) (s : S) (mech : Mech S W) (world : World) → mech.setup.publishes ≡ false → IsCommandOf form.client mech.op → form.shape world
         → form.knows s mech.op world since → FoundWell form world mech.op since s what → HasSmall mech
         → (let new = searched form what s mech in Knows (if gave_up what then length world.changes else since) begun (Some (newly_held form identity s since new)) new world)
-    searched_knows found.Going identity since begun s mech world command shape knows well small = (well, knows)
-    searched_knows found.Ready identity since begun s mech world command shape knows well small =
+    searched_knows found.Going identity since begun s mech world quiet command shape knows well small = (well, knows)
+    searched_knows found.Ready identity since begun s mech world quiet command shape knows well small =
         readied_knows (form.needs_block mech.op && holds_none mech.hand) identity since begun s mech world command shape well knows small
-    searched_knows (found.Answer outcome) identity since begun s mech world command shape knows well small = told_knows outcome mech _ begun _ world
-    searched_knows found.Contended identity since begun s mech world command shape knows well small = tried_knows world mech.op command shape
+    searched_knows (found.Answer outcome) identity since begun s mech world quiet command shape knows well small = told_knows outcome mech _ begun _ world
+    searched_knows found.Contended identity since begun s mech world quiet command shape knows well small = anew_knows begun (Some (newly_held form identity s since (searched form found.Contended s mech))) (record mech { failures = min (mech.failures + 1) mech.setup.limit }) world quiet command shape
 
     -- a ready search knows what it knew while it gets a block
     pub looked_knows : (b : Bool) (since begun : ℕ) (list : Mech S W → Option (Held S)) (s : S) (mech : Mech S W) (world : World) → form.is_ready s → form.knows s mech.op world since
@@ -108,9 +124,9 @@ module _ {S W : Type 0} (form : NormalForm S W) where
     claimed_knows false identity since begun block s mech world command shape ready knows small = tt
 
     -- a wrap-up that goes on follows its list, and after one that asks for it a new search begins
-    pub wrapped_knows : (what : Wrapped) (w : W) (since begun : ℕ) (mech : Mech S W) (held : Held S) (world : World) → IsCommandOf form.client mech.op → form.shape world
+    pub wrapped_knows : (what : Wrapped) (w : W) (since begun : ℕ) (mech : Mech S W) (held : Held S) (world : World) → mech.setup.publishes ≡ false → IsCommandOf form.client mech.op → form.shape world
         → IsOffered form world held.list held.offering held.since → (what ≡ wrapped.Going → Stopped world held.list held.stop) → WrappedWell form world held.list held.stop w what
         → Knows (if restarts what then length world.changes else since) begun (Some held) (wrapped_up form what w mech) world
-    wrapped_knows wrapped.Going w since begun mech held world command shape offered stopped well = record { offered = offered; stopped = stopped refl; wraps = well.0; follows = well.1 }
-    wrapped_knows (wrapped.Done outcome) w since begun mech held world command shape offered stopped well = told_knows outcome mech _ begun _ world
-    wrapped_knows wrapped.Restart w since begun mech held world command shape offered stopped well = tried_knows world mech.op command shape
+    wrapped_knows wrapped.Going w since begun mech held world quiet command shape offered stopped well = record { offered = offered; stopped = stopped refl; wraps = well.0; follows = well.1 }
+    wrapped_knows (wrapped.Done outcome) w since begun mech held world quiet command shape offered stopped well = told_knows outcome mech _ begun _ world
+    wrapped_knows wrapped.Restart w since begun mech held world quiet command shape offered stopped well = anew_knows begun (Some held) (record mech { failures = min (mech.failures + 1) mech.setup.limit }) world quiet command shape

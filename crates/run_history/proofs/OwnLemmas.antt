@@ -15,7 +15,7 @@ use Rattle.normal_traits.specs.Steps.{IsStep}
 use Rattle.normal_traits.specs.Steps.IsStep.{nothing, elsewhere}
 use Rattle.cas_executor.specs.FastRuns.{FastWalk, exchange_of}
 use Rattle.fast_slow_engine.specs.declared.phases.Phase.{Phase}
-use Rattle.fast_slow_engine.specs.declared.phases.Phase.TheVariants.{Idle, Begin, Look, Generate, Apply, Wrap, Value, End}
+use Rattle.fast_slow_engine.specs.declared.phases.Phase.TheVariants.{Idle, Begin, Look, Generate, Apply, Wrap, Announce, Enter, Drive, Help, Collect, Value, End}
 use Rattle.fast_slow_engine.specs.declared.phases.Generating.TheVariants.{Search, LookForBlock, Claim}
 use Rattle.fast_slow_engine.specs.declared.phases.Applying.TheVariants.{Fill, Execute}
 use Rattle.fast_slow_engine.specs.declared.setup.Setup.{Setup}
@@ -112,6 +112,11 @@ module _ {S W : Type 0} (form : NormalForm S W) where
   engine_made (Generate s Claim) mech held words world own = elsewhere_step (Add 2 1) words world refl
   engine_made (Apply run stores at) mech held words world own = absurd (search rules)
   engine_made (Wrap w) mech held words world own = absurd (search rules)
+  engine_made (Announce stage) mech held words world own = absurd (search rules)
+  engine_made (Enter owner) mech held words world own = absurd (search rules)
+  engine_made Drive mech held words world own = load_step 1 words world
+  engine_made (Help drives help) mech held words world own = absurd (search rules)
+  engine_made Collect mech held words world own = load_step _ words world
   engine_made (Value reference) mech held words world own = load_step _ words world
   engine_made (End reply) mech held words world own = elsewhere_step (Add 0 1) words world refl
 
@@ -131,6 +136,11 @@ module _ {S W : Type 0} (form : NormalForm S W) where
       elsewhere_step (request_in form (Apply run stores (Fill made)) mech) words world (unused_elsewhere (with_words words world) _ unused)
   fill_made (Apply run stores Execute) mech held words world fills unused = absurd fills
   fill_made (Wrap w) mech held words world fills unused = absurd fills
+  fill_made (Announce stage) mech held words world fills unused = absurd fills
+  fill_made (Enter owner) mech held words world fills unused = absurd fills
+  fill_made Drive mech held words world fills unused = absurd fills
+  fill_made (Help drives help) mech held words world fills unused = absurd fills
+  fill_made Collect mech held words world fills unused = absurd fills
   fill_made (Value reference) mech held words world fills unused = absurd fills
   fill_made (End reply) mech held words world fills unused = absurd fills
 
@@ -158,6 +168,11 @@ module _ {S W : Type 0} (form : NormalForm S W) where
   lost_stepped (Apply run stores (Fill made)) held seen world lost = refl
   lost_stepped (Apply run stores Execute) held seen world lost = lost_listed held run seen world lost
   lost_stepped (Wrap w) held seen world lost = lost_beside (form.wrap_request_of w) seen world lost
+  lost_stepped (Announce stage) held seen world lost = refl
+  lost_stepped (Enter owner) held seen world lost = refl
+  lost_stepped Drive held seen world lost = refl
+  lost_stepped (Help drives help) held seen world lost = refl
+  lost_stepped Collect held seen world lost = refl
   lost_stepped (Value reference) held seen world lost = refl
   lost_stepped (End reply) held seen world lost = refl
 
@@ -198,6 +213,11 @@ module _ {S W : Type 0} (form : NormalForm S W) where
   load_stepped (Apply run stores (Fill made)) mech held seen place world is = refl
   load_stepped (Apply run stores Execute) mech held seen place world is = load_listed held run seen place world is
   load_stepped (Wrap w) mech held seen place world is = either_same seen.won _ world (load_beside (form.wrap_request_of w) place world is)
+  load_stepped (Announce stage) mech held seen place world is = refl
+  load_stepped (Enter owner) mech held seen place world is = refl
+  load_stepped Drive mech held seen place world is = refl
+  load_stepped (Help drives help) mech held seen place world is = refl
+  load_stepped Collect mech held seen place world is = refl
   load_stepped (Value reference) mech held seen place world is = refl
   load_stepped (End reply) mech held seen place world is = refl
 

@@ -1,5 +1,5 @@
 -- What is known of the seat that moves, before its move.
-use Rattle.std.proofs.Common.{◌≡◌, ◌∙◌, sym, ap, ℕ, ◌<◌, ◌≤◌, true, List, ◌∷◌, length, slice_get, Some}
+use Rattle.std.proofs.Common.{◌≡◌, ◌∙◌, sym, ap, ℕ, ◌<◌, ◌≤◌, true, false, List, ◌∷◌, length, slice_get, Some}
 use Rattle.std.proofs.lemmas.Option.{slice_get_within}
 use Rattle.lin_report.specs.Commands.{IsCommandOf}
 use Rattle.step_memory.specs.declared.steps.Seen.{Seen}
@@ -10,7 +10,7 @@ use Rattle.normal_traits.specs.World.{IsPassed, is_word}
 use Rattle.normal_traits.specs.NormalForm.{NormalForm}
 use Rattle.normal_traits.specs.Steps.{IsStep, Requested}
 use Rattle.fast_slow_engine.specs.declared.phases.Phase.{Phase}
-use Rattle.fast_slow_engine.specs.declared.phases.Phase.TheVariants.{Idle, Begin, Look, Generate, Apply, Wrap, Value, End}
+use Rattle.fast_slow_engine.specs.declared.phases.Phase.TheVariants.{Idle, Begin, Look, Generate, Apply, Wrap, Announce, Enter, Drive, Help, Collect, Value, End}
 use Rattle.fast_slow_engine.specs.declared.phases.Generating.TheVariants.{Search}
 use Rattle.fast_slow_engine.specs.declared.setup.Setup.{Setup}
 use Rattle.fast_slow_engine.specs.Mechs.{Mech}
@@ -33,6 +33,11 @@ module _ {S W : Type 0} (form : NormalForm S W) where
   makes_command (Generate s at) mech is = is
   makes_command (Apply run stores at) mech is = is
   makes_command (Wrap w) mech is = is
+  makes_command (Announce stage) mech is = is
+  makes_command (Enter owner) mech is = is
+  makes_command Drive mech is = is
+  makes_command (Help drives help) mech is = is
+  makes_command Collect mech is = is
   makes_command (Value reference) mech is = is
   makes_command (End reply) mech is = is
 
@@ -60,6 +65,10 @@ module _ {S W : Type 0} (form : NormalForm S W) where
 
     pub mover_block : (block : ℕ) → (mover form b).hand ≡ Some block → block ≤ setup.cap
     mover_block block has = (movers.mover_in_hand form setup older move b block has).1
+
+    -- its call is not published
+    pub mover_quiet : (mover form b).setup.publishes ≡ false
+    mover_quiet = ap (λ (s : Setup). s.publishes) (movers.mover_seated form setup older move b).setup ∙ b.unpublished
 
     -- what its request sees, and what it becomes
     abbrev pub seen_by : Seen

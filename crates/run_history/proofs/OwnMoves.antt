@@ -1,8 +1,10 @@
 -- What the seat that moves knows after its move.
-use Rattle.std.proofs.Common.{◌≡◌, ◌∙◌, refl, sym, subst, ap, ℕ, ◌+◌, ◌<◌, ◌==◌, nat_lt, if◌then◌else◌, List, ◌∷◌, length, Option, Some, None, All, arith, rules}
+use Rattle.std.proofs.Common.{◌≡◌, ◌∙◌, refl, sym, subst, ap, ℕ, ◌+◌, ◌<◌, ◌==◌, nat_lt, if◌then◌else◌, List, ◌∷◌, length, get_or, slice_get, Option, Some, None, All, arith, rules}
 use Rattle.std.proofs.lemmas.Bool.Decides.{nat_tests}
+use Rattle.std.proofs.lemmas.Option.{slice_get-get_or}
 use Rattle.lin_report.specs.Commands.{IsCommandOf}
 use Rattle.step_memory.specs.declared.steps.Request.{Request}
+use Rattle.step_memory.specs.declared.steps.Request.TheVariants.{Store}
 use Rattle.step_memory.specs.declared.steps.Seen.{Seen}
 use Rattle.step_memory.specs.Step.{place_of, seen_of, word_after}
 use Rattle.arrayvec.specs.ArrayVec.{ArrayVec}
@@ -11,16 +13,17 @@ use Rattle.normal_traits.specs.declared.form.Wrapped.TheVariants as wrapped
 use Rattle.normal_traits.specs.World.{World, Stopped}
 use Rattle.normal_traits.specs.NormalForm.{NormalForm}
 use Rattle.normal_traits.specs.Steps.{Requested, with_word}
-use Rattle.normal_traits.specs.Laws.{Laws, FoundWell, IsGoodEntry, IsGoodStore, WrappedWell}
+use Rattle.normal_traits.specs.Laws.{Laws, FoundWell, IsGoodEntry, WrappedWell}
 use Rattle.cas_executor.specs.declared.fast_run.Execution.TheVariants as execution
 use Rattle.cas_executor.specs.FastRuns.{FastWalk, fast_execution, fast_fed}
 use Rattle.fast_slow_engine.specs.declared.phases.Phase.{Phase}
-use Rattle.fast_slow_engine.specs.declared.phases.Phase.TheVariants.{Idle, Begin, Look, Generate, Apply, Wrap, Value, End}
+use Rattle.fast_slow_engine.specs.declared.phases.Phase.TheVariants.{Idle, Begin, Look, Generate, Apply, Wrap, Announce, Enter, Drive, Help, Collect, Value, End}
 use Rattle.fast_slow_engine.specs.declared.phases.Generating.TheVariants.{Search, LookForBlock, Claim}
 use Rattle.fast_slow_engine.specs.declared.phases.Applying.TheVariants.{Fill, Execute}
 use Rattle.fast_slow_engine.specs.declared.setup.Setup.{Setup}
-use Rattle.fast_slow_engine.specs.Mechs.{Mech, block_of}
-use Rattle.fast_slow_engine.specs.PhaseTable.{executed, fill_request, in_phase, mech_request, request_in, stepped, wrapped_up}
+use Rattle.fast_slow_engine.specs.Mechs.{Mech}
+use Rattle.fast_slow_engine.specs.OfferStores.{stored_by}
+use Rattle.fast_slow_engine.specs.PhaseTable.{executed, in_phase, mech_request, request_in, stepped, tried, wrapped_up}
 use Rattle.fast_slow_engine.specs.Runs.{Move, begun, run_of}
 use Rattle.fast_slow_engine.proofs.SameCalls.{same_fed}
 use Rattle.run_history.specs.Ghosts.{Held, SeatGhost, begun_after, execution_restarts, held_in, list_after, newly_held, restarts, searches_anew, stopped_in, ghost_of, world_of}
@@ -28,10 +31,12 @@ use Rattle.run_history.specs.Lists.{HoldsIn, OffersList}
 use Rattle.run_history.specs.Known.{KnowsIn, KnowsFill, KnowsRun, KnowsWrap, KnowsWell, IsStillOffered}
 use Rattle.run_history.proofs.Before.{Before, HandIn, TookIn, mover}
 use Rattle.run_history.proofs.WordLemmas.{world_words}
-use Rattle.run_history.proofs.OwnKnows.{Knows, HasSmall, tried_knows, searched_knows, looked_knows, claimed_knows, wrapped_knows}
-use Rattle.run_history.proofs.OwnFill.{fill_knows, fills_inside}
+use Rattle.run_history.proofs.OwnKnows.{Knows, HasSmall, anew_knows, searched_knows, looked_knows, claimed_knows, wrapped_knows}
+use Rattle.run_history.proofs.FastSteps.{look_searches}
+use Rattle.run_history.proofs.StoreLemmas.{IsInto, own_into}
+use Rattle.run_history.proofs.OwnFill.{fill_knows}
 use Rattle.run_history.proofs.OwnRun.{HasRun, all_at, executed_knows, goes_on, run_has, run_stopped}
-use Rattle.run_history.proofs.OwnMover.{Shown, makes_command, mover_command, mover_knows, mover_took, mover_hands, mover_holds, mover_block, moved, moved_seated, own_of, seen_by, seat_moved}
+use Rattle.run_history.proofs.OwnMover.{Shown, makes_command, mover_command, mover_quiet, mover_knows, mover_took, mover_hands, mover_holds, mover_block, moved, moved_seated, own_of, seen_by, seat_moved}
 
 module _ {S W : Type 0} (form : NormalForm S W) where
   -- the entries of a list that goes on took effect up to its stop
@@ -85,29 +90,30 @@ module _ {S W : Type 0} (form : NormalForm S W) where
     -- ---- a store into a block
 
     -- the word of a store
-    store_written : (run : FastWalk) (stores : ArrayVec (ℕ × ℕ)) (made : ℕ) (held : Held S) → one.phase ≡ Apply run stores (Fill made) → one.hand ≡ Some held.list.block
-        → OffersList form run stores one (Some held) → KnowsFill form world run stores made one held
-        → (let request = fill_request held.list.block one.seat one.number one.op stores.items made in
-        after.words ≡ with_word (place_of request) (word_after request (world.words (place_of request))) world.words)
-    store_written run stores made held is hand offering known =
+    store_written : (run : FastWalk) (stores : ArrayVec (ℕ × ℕ)) (made : ℕ) (store : ℕ × ℕ) (held : Held S) → one.phase ≡ Apply run stores (Fill made) → one.hand ≡ Some held.list.block
+        → KnowsFill form world run stores made one held → slice_get stores.items made ≡ Some store → after.words ≡ with_word store.0 store.1 world.words
+    store_written run stores made store held is hand known at =
         let words = (run_of form setup older).words in
         let list = held.list in
         let offered = known.offered in
         let good = laws.offers world held.offering list.call.op held.since list.block offered.command b.kept.shape offered.knows offered.ready offered.small in
-        let all : All (IsGoodStore form list.block) stores.items = subst (All (IsGoodStore form list.block)) (sym offering.made) good.stores in
-        let request : mech_request form one ≡ fill_request list.block one.seat one.number one.op stores.items made =
-        request_is (Apply run stores (Fill made)) is ∙ ap (λ (h : Option ℕ). fill_request (block_of h) one.seat one.number one.op stores.items made) hand in
-        let inside = fills_inside form list.block one.seat one.number one.op stores.items all (length words) (λ field small. shown.inside_block list.block field (mover_block form b list.block hand) small) made known.within in
+        let all : All (IsInto list.block) stores.items =
+        subst (All (IsInto list.block)) (sym known.filling) (own_into form list.block one.seat one.number one.op (form.offer_of held.offering list.call.op list.block).stores good.stores) in
+        let into = all_at (IsInto list.block) stores.items made store at all in
+        let request : mech_request form one ≡ Store store.0 store.1 = request_is (Apply run stores (Fill made)) is ∙ ap stored_by at in
+        let inside : store.0 < length words = subst (λ n. n < length words) (sym into.place) (shown.inside_block list.block into.field (mover_block form b list.block hand) into.within) in
         subst (λ (r : Request). place_of r < length words → after.words ≡ with_word (place_of r) (word_after r (world.words (place_of r))) world.words) request
         (world_words form setup older move b.is.mech b.is.seated).written inside
 
     fill_own : (run : FastWalk) (stores : ArrayVec (ℕ × ℕ)) (made begun : ℕ) (held : Option (Held S)) → one.phase ≡ Apply run stores (Fill made)
         → KnowsIn form (Apply run stores (Fill made)) one (record { since = own.since; begun = begun; held = held }) world → OffersList form run stores one held → HandIn form (Apply run stores (Fill made)) one held
-        → Knows form own.since begun held (in_phase (Apply run stores (if made + 1 == length stores.items + 3 then Execute else Fill (made + 1))) one) after
+        → Knows form own.since begun held (in_phase (Apply run stores (if made + 1 == length stores.items then Execute else Fill (made + 1))) one) after
     fill_own run stores made begun None is known offering hands = absurd known
     fill_own run stores made begun (Some held) is known offering hands =
-        fill_knows form laws run stores made own.since begun held one world after b.kept.shape shown.step offering known
-        (store_written run stores made held is (hands.2.needs hands.0) offering known)
+        let store = get_or stores.items made (0, 0) in
+        let at : slice_get stores.items made ≡ Some store = slice_get-get_or stores.items made (0, 0) known.within in
+        fill_knows form laws run stores made own.since begun held one world after store b.kept.shape shown.step offering known at
+        (store_written run stores made store held is (hands.2.needs hands.0) known at)
 
     -- ---- an exchange of a list
 
@@ -134,7 +140,7 @@ module _ {S W : Type 0} (form : NormalForm S W) where
         (executed form (fast_execution run seen) (fast_fed run seen) stores one) after
     run_own run stores begun None is holds known offering took = absurd known
     run_own run stores begun (Some held) is holds known offering took =
-        executed_knows form laws (fast_execution run seen) (fast_fed run seen) stores own.since begun one held after (mover_command form b) shape_after (still_offered held known.offered)
+        executed_knows form laws (fast_execution run seen) (fast_fed run seen) stores own.since begun one held after (mover_quiet form b) (mover_command form b) shape_after (still_offered held known.offered)
         (ap (λ c. c.op) offering.held_by.call) offering.entries (still_runs run one held known)
         (λ stop ends. run_stopped form world after run seen held stop (own_run run stores held is holds known offering took) known.running.0 ends)
 
@@ -170,7 +176,7 @@ module _ {S W : Type 0} (form : NormalForm S W) where
         → Knows form (if restarts (form.wrap_found_of w seen) then length after.changes else own.since) begun held new after)
     wrap_own w begun None is known took = absurd known
     wrap_own w begun (Some held) is known took =
-        wrapped_knows form laws (form.wrap_found_of w seen) (form.feed_wrap_of w seen) own.since begun one held after (mover_command form b) shape_after (still_offered held known.offered)
+        wrapped_knows form laws (form.wrap_found_of w seen) (form.feed_wrap_of w seen) own.since begun one held after (mover_quiet form b) (mover_command form b) shape_after (still_offered held known.offered)
         (λ on. still_stopped held known.offered known.stopped (form.feed_wrap_of w seen) (going_took (form.wrap_found_of w seen) (form.feed_wrap_of w seen) one held after on took))
         (own_wrap w held is known)
 
@@ -198,10 +204,12 @@ module _ {S W : Type 0} (form : NormalForm S W) where
         → Knows form (if searches_anew form phase one.op seen then length after.changes else own.since) (begun_after form phase (length after.changes) own.begun) (list_after form (length older) phase seen own new) new after)
     step_knows Idle is known holds took hands small later = idle_knows one.phase own.since _ own.held is
     step_knows Begin is known holds took hands small later = tt
-    step_knows Look is known holds took hands small later = tried_knows form laws after one.op (mover_command form b) shape_after
+    step_knows Look is known holds took hands small later =
+        (let new : stepped form Look seen one ≡ tried form one = look_searches form one seen (mover_quiet form b) in
+        subst (λ (m : Mech S W). Knows form (length after.changes) own.begun own.held m after) (sym new) (anew_knows form laws own.begun own.held one after (mover_quiet form b) (mover_command form b) shape_after))
     step_knows (Generate s Search) is known holds took hands small later =
         (let fed = own_search s is known in
-        searched_knows form laws (form.found_of s seen) (length older) own.since own.begun (form.feed_of s seen) one after (mover_command form b) shape_after fed.0 fed.1 one_small)
+        searched_knows form laws (form.found_of s seen) (length older) own.since own.begun (form.feed_of s seen) one after (mover_quiet form b) (mover_command form b) shape_after fed.0 fed.1 one_small)
     step_knows (Generate s LookForBlock) is known holds took hands small later =
         looked_knows form laws (nat_lt seen.before one.setup.cap) own.since own.begun (λ new. Some (newly_held form (length older) s own.since new)) s one after known.0 (stays_known s known.1)
     step_knows (Generate s Claim) is known holds took hands small later =
@@ -209,6 +217,11 @@ module _ {S W : Type 0} (form : NormalForm S W) where
     step_knows (Apply run stores (Fill made)) is known holds took hands small later = fill_own run stores made own.begun own.held is known holds hands
     step_knows (Apply run stores Execute) is known holds took hands small later = run_own run stores own.begun own.held is refl known holds took
     step_knows (Wrap w) is known holds took hands small later = wrap_own w own.begun own.held is known later
+    step_knows (Announce stage) is known holds took hands small later = absurd known
+    step_knows (Enter owner) is known holds took hands small later = absurd known
+    step_knows Drive is known holds took hands small later = absurd known
+    step_knows (Help drives help) is known holds took hands small later = absurd known
+    step_knows Collect is known holds took hands small later = absurd known
     step_knows (Value reference) is known holds took hands small later = tt
     step_knows (End reply) is known holds took hands small later = tt
 

@@ -185,20 +185,24 @@ module _ {S W : Type 0} (form : NormalForm S W) where
       (subst (λ (o : Op). WrappedWell form world held.list stop (form.begin_wrap_of o held.list.entries stop) (form.wrap_begun_of o held.list.entries stop)) call
       (laws.wrap_begun world held.list held.offering held.since stop shape offered stopped))
 
+  spent_quiet : (b : Bool) (mech : Mech S W) → mech.setup.publishes ≡ false → (if b then with_hand None mech else mech).setup.publishes ≡ false
+  spent_quiet true mech quiet = quiet
+  spent_quiet false mech quiet = quiet
+
   spent_op : (b : Bool) (mech : Mech S W) → (if b then with_hand None mech else mech).op ≡ mech.op
   spent_op true mech = refl
   spent_op false mech = refl
 
   -- what is known after an exchange of a list
   pub executed_knows : Laws form → (ends : Execution) (run : FastWalk) (stores : ArrayVec (ℕ × ℕ)) (since begun : ℕ) (mech : Mech S W) (held : Held S) (world : World)
-      → IsCommandOf form.client mech.op → form.shape world → IsStillOffered form world held → held.list.call.op ≡ mech.op → held.list.entries ≡ run.entries
+      → mech.setup.publishes ≡ false → IsCommandOf form.client mech.op → form.shape world → IsStillOffered form world held → held.list.call.op ≡ mech.op → held.list.entries ≡ run.entries
       → (ends ≡ execution.Running → KnowsRun form world run mech held) → ((stop : ℕ) → ends ≡ execution.Stopped stop → Stopped world held.list stop)
       → Knows form (if execution_restarts form mech.op run.entries ends then length world.changes else since) begun (stopped_in ends (Some held)) (executed form ends run stores mech) world
-  executed_knows laws execution.Running run stores since begun mech held world command shape offered call entries runs stopped =
+  executed_knows laws execution.Running run stores since begun mech held world quiet command shape offered call entries runs stopped =
       let known = runs refl in record { offered = known.offered; running = known.running; filled = known.filled }
-  executed_knows laws (execution.Stopped stop) run stores since begun mech held world command shape offered call entries runs stopped =
+  executed_knows laws (execution.Stopped stop) run stores since begun mech held world quiet command shape offered call entries runs stopped =
       let one = spent form stop mech in
       let done : Held S = record { list = held.list; offering = held.offering; since = held.since; stop = stop } in
-      wrapped_knows form laws (form.wrap_begun_of mech.op run.entries stop) (form.begin_wrap_of mech.op run.entries stop) since begun one done world
+      wrapped_knows form laws (form.wrap_begun_of mech.op run.entries stop) (form.begin_wrap_of mech.op run.entries stop) since begun one done world (spent_quiet (nat_lt 0 stop && form.needs_block mech.op) mech quiet)
       (subst (IsCommandOf form.client) (sym (spent_op (nat_lt 0 stop && form.needs_block mech.op) mech)) command) shape offered (λ on. stopped stop refl)
       (run_wraps laws world run mech.op held stop shape offered (stopped stop refl) call entries)

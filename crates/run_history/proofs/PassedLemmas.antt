@@ -1,22 +1,16 @@
 -- What is known of a list stays where another seat moves: how far it got, and what its block holds.
-use Rattle.std.proofs.Common.{◌≡◌, ◌∙◌, refl, sym, subst, ap, ℕ, ◌-◌, ◌<◌, ◌==◌, if◌then◌else◌, Bool, true, false, List, [], ◌∷◌, ◌++◌, slice_get, Option, Some, None, All, inr, arith}
+use Rattle.std.proofs.Common.{◌≡◌, ◌∙◌, sym, subst, ap, ℕ, ◌<◌, List, [], ◌∷◌, ◌++◌, slice_get, Some, All, inr, arith}
 use Rattle.std.proofs.lemmas.List.Elements.{All-nil, All-cons, All-head, All-tail}
-use Rattle.lin_report.specs.declared.calls.Op.{Op}
-use Rattle.step_memory.specs.declared.steps.Request.{Request}
-use Rattle.step_memory.specs.declared.steps.Request.TheVariants.{Store}
-use Rattle.word_fields.specs.Announced.{op_word, value_word}
-use Rattle.word_fields.specs.Owners.{owner_word}
-use Rattle.node_arena.specs.MemoryMap.{block_place}
 use Rattle.normal_traits.specs.World.{Listed, Won, World, Among, Took, Failed, Stopped}
 use Rattle.normal_traits.specs.World.Maker.{By}
 use Rattle.normal_traits.specs.NormalForm.{NormalForm}
 use Rattle.normal_traits.specs.Steps.{IsStep, IsFilled, IsOffered}
 use Rattle.normal_traits.specs.Laws.{Laws, IsGoodStore}
 use Rattle.normal_traits.proofs.Stays.{all_at, entry_good, passed_stays}
-use Rattle.fast_slow_engine.specs.PhaseTable.{store_of, fill_request}
 use Rattle.run_history.specs.Moves.{Grows}
 use Rattle.run_history.specs.Known.{Stands}
 use Rattle.run_history.proofs.StillLemmas.{BlockStays}
+use Rattle.run_history.proofs.StoreLemmas.{IsInto}
 
 -- what is in a list is in it with more in front
 pub among_after : {X : Type 0} (x : X) (newer older : List X) → Among x older → Among x (newer ++ older)
@@ -48,29 +42,12 @@ good_stores_stand form block world after (store ∷ rest) stays good stood =
     (good_stands form block world after store stays (All-head (IsGoodStore form block) store rest good) (All-head (λ (s : ℕ × ℕ). world.words s.0 ≡ s.1) store rest stood))
     (good_stores_stand form block world after rest stays (All-tail (IsGoodStore form block) store rest good) (All-tail (λ (s : ℕ × ℕ). world.words s.0 ≡ s.1) store rest stood))
 
--- a store into a field of the block
-field_stands : (block field value : ℕ) (world after : World) → field < 32 → BlockStays block world after → Stands world (Store (block_place block field) value) → Stands after (Store (block_place block field) value)
-field_stands block field value world after small stays stood = stays field small ∙ stood
-
-store_stands : {S W : Type 0} (form : NormalForm S W) (block : ℕ) (world after : World) (stores : List (ℕ × ℕ)) (j : ℕ) (store : Option (ℕ × ℕ)) → slice_get stores j ≡ store
-    → BlockStays block world after → All (IsGoodStore form block) stores → Stands world (store_of store) → Stands after (store_of store)
-store_stands form block world after stores j None at stays good stood = stood
-store_stands form block world after stores j (Some store) at stays good stood =
-    good_stands form block world after store stays (all_at (IsGoodStore form block) stores j store good at) stood
-
-stands_if : (b : Bool) (world after : World) (x y : Request) → (Stands world x → Stands after x) → (Stands world y → Stands after y)
-    → Stands world (if b then x else y) → Stands after (if b then x else y)
-stands_if true world after x y f g = f
-stands_if false world after x y f g = g
-
--- the stores that fill a block stand where it stays
-pub fills_stand : {S W : Type 0} (form : NormalForm S W) (block seat number : ℕ) (op : Op) (stores : List (ℕ × ℕ)) (k : ℕ) (world after : World)
-    → BlockStays block world after → All (IsGoodStore form block) stores → Stands world (fill_request block seat number op stores k) → Stands after (fill_request block seat number op stores k)
-fills_stand form block seat number op stores k world after stays good =
-    stands_if (k == 0) world after _ _ (field_stands block 0 (owner_word seat number) world after (omega arith) stays)
-    (stands_if (k == 1) world after _ _ (field_stands block 1 (op_word op.code number op.key) world after (omega arith) stays)
-    (stands_if (k == 2) world after _ _ (field_stands block 11 (value_word number op.value) world after (omega arith) stays)
-    (store_stands form block world after stores (k - 3) (slice_get stores (k - 3)) refl stays good)))
+-- the stores into a block that were made so far stand where it stays
+pub stores_stand : (block : ℕ) (items : List (ℕ × ℕ)) (world after : World) → BlockStays block world after → All (IsInto block) items → (made : ℕ)
+    → ((k : ℕ) (store : ℕ × ℕ) → k < made → slice_get items k ≡ Some store → Stands world store) → (k : ℕ) (store : ℕ × ℕ) → k < made → slice_get items k ≡ Some store → Stands after store
+stores_stand block items world after stays all made stood k store less at =
+    let into = all_at (IsInto block) items k store all at in
+    ap after.words into.place ∙ stays into.field into.within ∙ ap world.words (sym into.place) ∙ stood k store less at
 
 -- a block that was filled for a list is filled for it still
 pub filled_stays : {S W : Type 0} (form : NormalForm S W) (world after : World) (list : Listed) (stores : List (ℕ × ℕ)) → BlockStays list.block world after → All (IsGoodStore form list.block) stores

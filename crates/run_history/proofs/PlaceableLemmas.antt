@@ -1,5 +1,5 @@
 -- The calls of a run can be placed, where each is accounted for and each seat tells what is right.
-use Rattle.std.proofs.Common.{List, [], ◌∷◌, ◌++◌, sym, subst, inr}
+use Rattle.std.proofs.Common.{◌≡◌, false, List, [], ◌∷◌, ◌++◌, sym, subst, inr}
 use Rattle.normal_traits.specs.World.{Among}
 use Rattle.normal_traits.specs.NormalForm.{NormalForm}
 use Rattle.normal_traits.specs.Laws.{Laws}
@@ -31,7 +31,7 @@ module _ {S W : Type 0} (form : NormalForm S W) where
   }
 
   -- the calls of every run can be placed
-  pub each_placeable : (laws : Laws form) (setup : Setup) (moves : List Move) → AreMoves form setup moves → Placeable form setup moves
-  each_placeable laws setup moves are =
-      let kept = changes_kept form laws setup moves are in
-      placeable setup moves (calls_accounted form laws setup moves are) kept.tells kept.commands
+  pub each_placeable : (laws : Laws form) (setup : Setup) (moves : List Move) → AreMoves form setup moves → setup.publishes ≡ false → Placeable form setup moves
+  each_placeable laws setup moves are quiet =
+      let kept = changes_kept form laws setup moves are quiet in
+      placeable setup moves (calls_accounted form laws setup moves are quiet) kept.tells kept.commands

@@ -19,7 +19,7 @@ use Rattle.lin_report.proofs.Sequences.{object_answers}
 use Rattle.normal_traits.specs.World.{Called, Change, first_changes, held_after}
 use Rattle.normal_traits.specs.NormalForm.{NormalForm}
 use Rattle.fast_slow_engine.specs.declared.phases.Phase.{Phase}
-use Rattle.fast_slow_engine.specs.declared.phases.Phase.TheVariants.{Idle, Begin, Look, Generate, Apply, Wrap, Value, End}
+use Rattle.fast_slow_engine.specs.declared.phases.Phase.TheVariants.{Idle, Begin, Look, Generate, Apply, Wrap, Announce, Enter, Drive, Help, Collect, Value, End}
 use Rattle.fast_slow_engine.specs.declared.setup.Setup.{Setup}
 use Rattle.fast_slow_engine.specs.Mechs.{Mech}
 use Rattle.fast_slow_engine.specs.PhaseTable.{mech_pending, pending_call, ticks_left}
@@ -212,6 +212,11 @@ module _ {S W : Type 0} (form : NormalForm S W) where
   begun_count (Generate search generating) mech own now at one counts = counts.0
   begun_count (Apply run stores applying) mech own now at one counts = counts.0
   begun_count (Wrap wrap) mech own now at one counts = counts.0
+  begun_count (Announce stage) mech own now at one counts = counts.0
+  begun_count (Enter owner) mech own now at one counts = counts.0
+  begun_count Drive mech own now at one counts = counts.0
+  begun_count (Help drives help) mech own now at one counts = counts.0
+  begun_count Collect mech own now at one counts = counts.0
   begun_count (Value reference) mech own now at one counts = counts.0
   begun_count (End reply) mech own now at one counts = counts.0
 

@@ -3,7 +3,7 @@ use Rattle.std.proofs.Common.{◌≡◌, refl, Bool, true, false, List, Option, 
 use Rattle.normal_traits.specs.World.{World}
 use Rattle.normal_traits.specs.NormalForm.{NormalForm}
 use Rattle.fast_slow_engine.specs.declared.phases.Phase.{Phase}
-use Rattle.fast_slow_engine.specs.declared.phases.Phase.TheVariants.{Idle, Begin, Look, Generate, Apply, Wrap, Value, End}
+use Rattle.fast_slow_engine.specs.declared.phases.Phase.TheVariants.{Idle, Begin, Look, Generate, Apply, Wrap, Announce, Enter, Drive, Help, Collect, Value, End}
 use Rattle.fast_slow_engine.specs.declared.phases.Generating.TheVariants.{Search, LookForBlock, Claim}
 use Rattle.fast_slow_engine.specs.declared.phases.Applying.TheVariants.{Fill, Execute}
 use Rattle.fast_slow_engine.specs.declared.setup.Setup.{Setup}
@@ -33,6 +33,11 @@ module _ {S W : Type 0} (form : NormalForm S W) where
   took_in (Apply run stores Execute) mech (Some held) world is each = let to = each held refl in (to.took, to.none)
   took_in (Wrap w) mech None world is each = absurd is
   took_in (Wrap w) mech (Some held) world is each = let to = each held refl in (to.0.took, to.0.none, to.1)
+  took_in (Announce stage) mech held world is each = tt
+  took_in (Enter owner) mech held world is each = tt
+  took_in Drive mech held world is each = tt
+  took_in (Help drives help) mech held world is each = tt
+  took_in Collect mech held world is each = tt
   took_in (Value reference) mech held world is each = tt
   took_in (End reply) mech held world is each = tt
 
@@ -52,6 +57,11 @@ module _ {S W : Type 0} (form : NormalForm S W) where
   hand_in (Apply run stores Execute) mech None is has = absurd is
   hand_in (Apply run stores Execute) mech (Some held) is has = record { needs = has.needed; none = has.other }
   hand_in (Wrap w) mech held is has = tt
+  hand_in (Announce stage) mech held is has = tt
+  hand_in (Enter owner) mech held is has = tt
+  hand_in Drive mech held is has = tt
+  hand_in (Help drives help) mech held is has = tt
+  hand_in Collect mech held is has = tt
   hand_in (Value reference) mech held is has = tt
   hand_in (End reply) mech held is has = tt
 
@@ -63,6 +73,11 @@ module _ {S W : Type 0} (form : NormalForm S W) where
   unspent (Apply run stores (Fill made)) mech is = tt
   unspent (Apply run stores Execute) mech is = inl is
   unspent (Wrap w) mech is = tt
+  unspent (Announce stage) mech is = tt
+  unspent (Enter owner) mech is = tt
+  unspent Drive mech is = tt
+  unspent (Help drives help) mech is = tt
+  unspent Collect mech is = tt
   unspent (Value reference) mech is = tt
   unspent (End reply) mech is = tt
 

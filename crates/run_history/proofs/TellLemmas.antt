@@ -8,7 +8,7 @@ use Rattle.lin_report.specs.Object.{object_of}
 use Rattle.normal_traits.specs.World.{Change, World, Among, RightSince}
 use Rattle.normal_traits.specs.NormalForm.{NormalForm}
 use Rattle.fast_slow_engine.specs.declared.phases.Phase.{Phase}
-use Rattle.fast_slow_engine.specs.declared.phases.Phase.TheVariants.{Idle, Begin, Look, Generate, Apply, Wrap, Value, End}
+use Rattle.fast_slow_engine.specs.declared.phases.Phase.TheVariants.{Idle, Begin, Look, Generate, Apply, Wrap, Announce, Enter, Drive, Help, Collect, Value, End}
 use Rattle.fast_slow_engine.specs.declared.setup.Setup.{Setup}
 use Rattle.fast_slow_engine.specs.Mechs.{Mech, SameCall}
 use Rattle.fast_slow_engine.specs.PhaseTable.{rests}
@@ -73,6 +73,11 @@ module _ {S W : Type 0} where
     tells_same (Generate s step) new one own world claims same told = none_same new one world same told
     tells_same (Apply run stores step) new one own world claims same told = held_same new one world own.held same told
     tells_same (Wrap w) new one own world claims same told = held_same new one world own.held same told
+    tells_same (Announce stage) new one own world claims same told = none_same new one world same told
+    tells_same (Enter owner) new one own world claims same told = none_same new one world same told
+    tells_same Drive new one own world claims same told = none_same new one world same told
+    tells_same (Help drives help) new one own world claims same told = none_same new one world same told
+    tells_same Collect new one own world claims same told = none_same new one world same told
     tells_same (Value reference) new one own world claims same told = right_same new one world own.begun (ValueOf reference) same told
     tells_same (End reply) new one own world claims same told =
         elim told [
@@ -118,6 +123,11 @@ module _ {S W : Type 0} (form : NormalForm S W) where
     begun_after_step (Generate s step) now newer past change is runs at of_call = own_after newer past change at of_call
     begun_after_step (Apply run stores step) now newer past change is runs at of_call = own_after newer past change at of_call
     begun_after_step (Wrap w) now newer past change is runs at of_call = own_after newer past change at of_call
+    begun_after_step (Announce stage) now newer past change is runs at of_call = own_after newer past change at of_call
+    begun_after_step (Enter owner) now newer past change is runs at of_call = own_after newer past change at of_call
+    begun_after_step Drive now newer past change is runs at of_call = own_after newer past change at of_call
+    begun_after_step (Help drives help) now newer past change is runs at of_call = own_after newer past change at of_call
+    begun_after_step Collect now newer past change is runs at of_call = own_after newer past change at of_call
     begun_after_step (Value reference) now newer past change is runs at of_call = own_after newer past change at of_call
     begun_after_step (End reply) now newer past change is runs at of_call = own_after newer past change at of_call
 

@@ -1,5 +1,5 @@
 -- What the seat that moves tells after its move.
-use Rattle.std.proofs.Common.{◌≡◌, ◌∙◌, refl, sym, subst, ap, ℕ, ◌+◌, ◌%◌, ◌^◌, ◌<◌, ◌≤◌, ◌&&◌, nat_lt, if◌then◌else◌, IsTrue, Bool, true, false, List, [], ◌∷◌, ◌++◌, length, slice_index, Option, Some, None, inl, inr, arith, rules}
+use Rattle.std.proofs.Common.{◌≡◌, ◌∙◌, refl, sym, subst, ap, ℕ, ◌+◌, ◌%◌, ◌^◌, ◌<◌, ◌≤◌, ◌&&◌, min, nat_lt, if◌then◌else◌, IsTrue, Bool, true, false, List, [], ◌∷◌, ◌++◌, length, slice_index, Option, Some, None, inl, inr, arith, rules}
 use Rattle.std.proofs.Math.Nat.{mod-eq_of_lt}
 use Rattle.std.proofs.lemmas.Bool.{cases_lt, lt-ltb}
 use Rattle.lin_report.specs.declared.calls.Op.{Op}
@@ -25,12 +25,14 @@ use Rattle.cas_executor.specs.declared.fast_run.Execution.{Execution}
 use Rattle.cas_executor.specs.declared.fast_run.Execution.TheVariants as execution
 use Rattle.cas_executor.specs.FastRuns.{FastWalk, fast_execution, fast_fed}
 use Rattle.fast_slow_engine.specs.declared.phases.Phase.{Phase}
-use Rattle.fast_slow_engine.specs.declared.phases.Phase.TheVariants.{Idle, Begin, Look, Generate, Apply, Wrap, Value, End}
+use Rattle.fast_slow_engine.specs.declared.phases.Phase.TheVariants.{Idle, Begin, Look, Generate, Apply, Wrap, Announce, Enter, Drive, Help, Collect, Value, End}
+use Rattle.fast_slow_engine.specs.declared.phases.Announcing.TheVariants as announcing
 use Rattle.fast_slow_engine.specs.declared.phases.Generating.TheVariants.{Search, LookForBlock, Claim}
 use Rattle.fast_slow_engine.specs.declared.phases.Applying.TheVariants.{Fill, Execute}
 use Rattle.fast_slow_engine.specs.declared.setup.Setup.{Setup}
 use Rattle.fast_slow_engine.specs.Mechs.{Mech}
-use Rattle.fast_slow_engine.specs.PhaseTable.{executed, holds_none, in_phase, offered, request_in, rests, searched, spent, stepped, told, with_hand, wrapped_up}
+use Rattle.fast_slow_engine.specs.Hands.{holds_none}
+use Rattle.fast_slow_engine.specs.PhaseTable.{executed, failed, in_phase, may_search, offered, request_in, rests, searched, spent, stepped, told, tried, with_hand, wrapped_up}
 use Rattle.fast_slow_engine.specs.Runs.{Move, begun, run_of}
 use Rattle.run_laws.proofs.ClaimLemmas.{claims_rise}
 use Rattle.run_laws.proofs.PremiseLemmas.{client_keeps_claims}
@@ -44,7 +46,8 @@ use Rattle.run_history.proofs.Before.{Before, mover}
 use Rattle.run_history.proofs.Changing.{Adds, Moved}
 use Rattle.run_history.proofs.LearntLemmas.{Learnt}
 use Rattle.run_history.proofs.MoverLemmas.{mover_seated}
-use Rattle.run_history.proofs.OwnMover.{mover_command, mover_knows, own_of, seen_by}
+use Rattle.run_history.proofs.FastSteps.{look_searches}
+use Rattle.run_history.proofs.OwnMover.{mover_command, mover_knows, mover_quiet, own_of, seen_by}
 use Rattle.run_history.proofs.TellStays.{held_stays, none_still, right_stays}
 
 -- a change among others is behind some of them
@@ -110,12 +113,25 @@ module _ {S W : Type 0} (form : NormalForm S W) where
   readied_tells true s mech one since begun held world claims made = made
   readied_tells false s mech one since begun held world claims made = none_by held.list one world made
 
+  -- a call that tries again made no change, whether it searches or is announced
+  either_tells : (b : Bool) (x y one : Mech S W) (since begun : ℕ) (list : Option (Held S)) (world : World) (claims : ℕ) → Tells one x since begun list world claims → Tells one y since begun list world claims
+      → Tells one (if b then x else y) since begun list world claims
+  either_tells true x y one since begun list world claims h k = h
+  either_tells false x y one since begun list world claims h k = k
+
+  tried_tells : (mech one : Mech S W) (since begun : ℕ) (list : Option (Held S)) (world : World) (claims : ℕ) → MadeNone world one → Tells one (tried form mech) since begun list world claims
+  tried_tells mech one since begun list world claims made =
+      either_tells (may_search mech) (in_phase (Generate (form.begin_of mech.op) Search) mech) (in_phase (Announce announcing.Value) mech) one since begun list world claims made made
+
+  failed_tells : (mech one : Mech S W) (since begun : ℕ) (list : Option (Held S)) (world : World) (claims : ℕ) → MadeNone world one → Tells one (failed form mech) since begun list world claims
+  failed_tells mech one since begun list world claims made = tried_tells (record mech { failures = min (mech.failures + 1) mech.setup.limit }) one since begun list world claims made
+
   searched_tells : (what : Found) (s : S) (mech one : Mech S W) (since begun : ℕ) (held : Held S) (world : World) (claims : ℕ) → UsedSmall world → MadeNone world one
       → ((outcome : Outcome) → what ≡ found.Answer outcome → TellsRight form world one begun outcome) → Tells one (searched form what s mech) since begun (Some held) world claims
   searched_tells found.Going s mech one since begun held world claims small made answers = made
   searched_tells found.Ready s mech one since begun held world claims small made answers = readied_tells (form.needs_block mech.op && holds_none mech.hand) s mech one since begun held world claims made
   searched_tells (found.Answer outcome) s mech one since begun held world claims small made answers = told_tells outcome mech one since begun (Some held) world claims small (answers outcome refl)
-  searched_tells found.Contended s mech one since begun held world claims small made answers = made
+  searched_tells found.Contended s mech one since begun held world claims small made answers = failed_tells mech one since begun (Some held) world claims made
 
   -- no block may be left
   looked_tells : (b : Bool) (s : S) (mech one : Mech S W) (since begun : ℕ) (list : Option (Held S)) (world : World) (claims : ℕ) → IsTrue (may_exhaust one.op) → MadeNone world one → (b ≡ false → one.setup.cap ≤ claims)
@@ -133,7 +149,7 @@ module _ {S W : Type 0} (form : NormalForm S W) where
       → Tells one (wrapped_up form what w mech) since begun (Some held) world claims
   wrapped_tells wrapped.Going w mech one since begun held world claims small made answers dead = made
   wrapped_tells (wrapped.Done outcome) w mech one since begun held world claims small made answers dead = told_tells outcome mech one since begun (Some held) world claims small (answers outcome refl)
-  wrapped_tells wrapped.Restart w mech one since begun held world claims small made answers dead = dead refl
+  wrapped_tells wrapped.Restart w mech one since begun held world claims small made answers dead = failed_tells mech one since begun (Some held) world claims (dead refl)
 
   -- ---- the value that is told
 
@@ -250,7 +266,9 @@ module _ {S W : Type 0} (form : NormalForm S W) where
         → (let new = stepped form phase seen one in Tells one new since (begun_after form phase (length after.changes) own.begun) (list_after form (length older) phase seen own new) after later)
     step_tells Idle since now at is runs holds counts told = absurd (search rules)
     step_tells Begin since now at is runs holds counts told = none_after holds told
-    step_tells Look since now at is runs holds counts told = none_after holds told
+    step_tells Look since now at is runs holds counts told =
+        (let new : stepped form Look seen one ≡ tried form one = look_searches form one seen (mover_quiet form m.before) in
+        subst (λ (n : Mech S W). Tells one n since own.begun own.held after later) (sym new) (tried_tells one one since own.begun own.held after later (none_after holds told)))
     step_tells (Generate s Search) since now at is runs holds counts told =
         searched_tells (form.found_of s seen) (form.feed_of s seen) one one since own.begun (newly_held form (length older) (form.feed_of s seen) own.since (searched form (form.found_of s seen) (form.feed_of s seen) one)) after later used_small
         (none_after holds told) (λ outcome. answered s outcome is counts.1 (none_after holds told))
@@ -266,6 +284,11 @@ module _ {S W : Type 0} (form : NormalForm S W) where
     step_tells (Apply run stores Execute) since now at is runs holds counts told =
         run_after run stores since (fast_execution run seen) own.held is refl refl holds (held_after_move own.held refl told)
     step_tells (Wrap w) since now at is runs holds counts told = wrap_after w since own.held is refl holds (held_after_move own.held refl told)
+    step_tells (Announce stage) since now at is runs holds counts told = absurd (subst (λ (p : Phase S W). KnowsIn form p one own world) is (mover_knows form m.before))
+    step_tells (Enter owner) since now at is runs holds counts told = absurd (subst (λ (p : Phase S W). KnowsIn form p one own world) is (mover_knows form m.before))
+    step_tells Drive since now at is runs holds counts told = absurd (subst (λ (p : Phase S W). KnowsIn form p one own world) is (mover_knows form m.before))
+    step_tells (Help drives help) since now at is runs holds counts told = absurd (subst (λ (p : Phase S W). KnowsIn form p one own world) is (mover_knows form m.before))
+    step_tells Collect since now at is runs holds counts told = absurd (subst (λ (p : Phase S W). KnowsIn form p one own world) is (mover_knows form m.before))
     step_tells (Value reference) since now at is runs holds counts told =
         (let word = saw (Value reference) is ∙ load_tells (node_place reference 1) (run_of form setup older).words in
         inl (right_stays form m adds move.seat one one_seat holds own.begun (Plain (reply.Value (seen.before % 2 ^ 32)))

@@ -16,7 +16,7 @@ use Rattle.normal_traits.specs.Steps.{IsStep, change_of}
 use Rattle.normal_traits.specs.Laws.{Laws, IsFixed}
 use Rattle.normal_traits.proofs.Stays.{word_stays}
 use Rattle.fast_slow_engine.specs.declared.phases.Phase.{Phase}
-use Rattle.fast_slow_engine.specs.declared.phases.Phase.TheVariants.{Idle, Begin, Look, Generate, Apply, Wrap, Value, End}
+use Rattle.fast_slow_engine.specs.declared.phases.Phase.TheVariants.{Idle, Begin, Look, Generate, Apply, Wrap, Announce, Enter, Drive, Help, Collect, Value, End}
 use Rattle.fast_slow_engine.specs.declared.setup.Setup.{Setup}
 use Rattle.fast_slow_engine.specs.Mechs.{Mech}
 use Rattle.fast_slow_engine.specs.Runs.{Move, AreMoves, run_of}
@@ -222,6 +222,11 @@ module _ {S W : Type 0} (form : NormalForm S W) where
   held_counts (Generate s step) mech own now at held is holds counts = holds_none own.held held is holds
   held_counts (Apply run stores step) mech own now at held is holds counts = omega (arith, counts.1, counts.2)
   held_counts (Wrap w) mech own now at held is holds counts = omega (arith, counts.1, counts.2)
+  held_counts (Announce stage) mech own now at held is holds counts = holds_none own.held held is holds
+  held_counts (Enter owner) mech own now at held is holds counts = holds_none own.held held is holds
+  held_counts Drive mech own now at held is holds counts = holds_none own.held held is holds
+  held_counts (Help drives help) mech own now at held is holds counts = holds_none own.held held is holds
+  held_counts Collect mech own now at held is holds counts = holds_none own.held held is holds
   held_counts (Value reference) mech own now at held is holds counts = holds_none own.held held is holds
   held_counts (End reply) mech own now at held is holds counts = holds_none own.held held is holds
 
@@ -257,6 +262,11 @@ module _ {S W : Type 0} (form : NormalForm S W) where
       tells_stay (Generate s step) claims later more is told = none_still form m.before.are adds seat mech own is told
       tells_stay (Apply run stores step) claims later more is told = held_stays known.held refl told
       tells_stay (Wrap w) claims later more is told = held_stays known.held refl told
+      tells_stay (Announce stage) claims later more is told = none_still form m.before.are adds seat mech own is told
+      tells_stay (Enter owner) claims later more is told = none_still form m.before.are adds seat mech own is told
+      tells_stay Drive claims later more is told = none_still form m.before.are adds seat mech own is told
+      tells_stay (Help drives help) claims later more is told = none_still form m.before.are adds seat mech own is told
+      tells_stay Collect claims later more is told = none_still form m.before.are adds seat mech own is told
       tells_stay (Value reference) claims later more is told = right_stays is known.begun (ValueOf reference) told
       tells_stay (End reply) claims later more is told =
           elim told [

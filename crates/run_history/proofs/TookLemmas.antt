@@ -12,7 +12,7 @@ use Rattle.normal_traits.specs.World.{World}
 use Rattle.normal_traits.specs.NormalForm.{NormalForm}
 use Rattle.cas_executor.specs.FastRuns.{exchange_of}
 use Rattle.fast_slow_engine.specs.declared.phases.Phase.{Phase}
-use Rattle.fast_slow_engine.specs.declared.phases.Phase.TheVariants.{Idle, Begin, Look, Generate, Apply, Wrap, Value, End}
+use Rattle.fast_slow_engine.specs.declared.phases.Phase.TheVariants.{Idle, Begin, Look, Generate, Apply, Wrap, Announce, Enter, Drive, Help, Collect, Value, End}
 use Rattle.fast_slow_engine.specs.declared.phases.Applying.TheVariants.{Fill, Execute}
 use Rattle.fast_slow_engine.specs.declared.setup.Setup.{Setup}
 use Rattle.fast_slow_engine.specs.Mechs.{Mech}
@@ -57,6 +57,11 @@ module _ {S W : Type 0} (form : NormalForm S W) where
   loses_inside (Apply run stores (Fill made)) mech words some = tt
   loses_inside (Apply run stores Execute) mech words some = λ lost. entry_inside run.entries run.next (slice_get run.entries run.next) words refl some lost
   loses_inside (Wrap w) mech words some = tt
+  loses_inside (Announce stage) mech words some = tt
+  loses_inside (Enter owner) mech words some = tt
+  loses_inside Drive mech words some = tt
+  loses_inside (Help drives help) mech words some = tt
+  loses_inside Collect mech words some = tt
   loses_inside (Value reference) mech words some = tt
   loses_inside (End reply) mech words some = tt
 
@@ -70,6 +75,11 @@ module _ {S W : Type 0} (form : NormalForm S W) where
   in_mapped (Apply run stores (Fill filled)) before after held more made = (made.0, more 0 made.1)
   in_mapped (Apply run stores Execute) before after held more made = more run.next made
   in_mapped (Wrap w) before after held more made = (more held.stop made.0, made.1)
+  in_mapped (Announce stage) before after held more made = tt
+  in_mapped (Enter owner) before after held more made = tt
+  in_mapped Drive before after held more made = tt
+  in_mapped (Help drives help) before after held more made = tt
+  in_mapped Collect before after held more made = tt
   in_mapped (Value reference) before after held more made = tt
   in_mapped (End reply) before after held more made = tt
 
@@ -145,6 +155,11 @@ module _ {S W : Type 0} (form : NormalForm S W) where
   took_in (Apply run stores (Fill filled)) world held made = (made.0, λ other j same. (took_to world held.list 0 made.1).none other j same (omega arith))
   took_in (Apply run stores Execute) world held made = took_to world held.list run.next made
   took_in (Wrap w) world held made = (took_to world held.list held.stop made.0, made.1)
+  took_in (Announce stage) world held made = tt
+  took_in (Enter owner) world held made = tt
+  took_in Drive world held made = tt
+  took_in (Help drives help) world held made = tt
+  took_in Collect world held made = tt
   took_in (Value reference) world held made = tt
   took_in (End reply) world held made = tt
 

@@ -15,13 +15,15 @@ use Rattle.normal_traits.specs.NormalForm.{NormalForm}
 use Rattle.cas_executor.specs.declared.fast_run.Execution.TheVariants.{Running, Stopped}
 use Rattle.cas_executor.specs.FastRuns.{FastWalk, fast_execution, fast_fed}
 use Rattle.fast_slow_engine.specs.declared.phases.Phase.{Phase}
-use Rattle.fast_slow_engine.specs.declared.phases.Phase.TheVariants.{Idle, Begin, Look, Generate, Apply, Wrap, Value, End}
+use Rattle.fast_slow_engine.specs.declared.phases.Phase.TheVariants.{Idle, Begin, Look, Generate, Apply, Wrap, Announce, Enter, Drive, Help, Collect, Value, End}
 use Rattle.fast_slow_engine.specs.declared.phases.Generating.TheVariants.{Search, LookForBlock, Claim}
 use Rattle.fast_slow_engine.specs.declared.phases.Applying.TheVariants.{Fill, Execute}
 use Rattle.fast_slow_engine.specs.Mechs.{Mech}
-use Rattle.fast_slow_engine.specs.PhaseTable.{executed, holds_none, in_phase, offered, searched, spent, stepped, told, with_hand, wrapped_up}
+use Rattle.fast_slow_engine.specs.Hands.{holds_none}
+use Rattle.fast_slow_engine.specs.PhaseTable.{executed, in_phase, offered, searched, spent, stepped, stores_for, told, with_hand, wrapped_up}
 use Rattle.run_history.specs.Ghosts.{Held, SeatGhost, held_in, stopped_at, stopped_in, list_after, newly_held, offered_block}
 use Rattle.run_history.specs.Lists.{HoldsIn, OffersList}
+use Rattle.run_history.proofs.PlainSteps.{IsPlain, failed_plain, of_plain, slow_plain}
 use Rattle.run_history.proofs.MadeLemmas.{MadeTo, MadeIn, MadeOf, made_quiet, made_won, made_lost}
 use Rattle.run_history.proofs.WinLemmas.{Wins}
 
@@ -39,6 +41,11 @@ module _ {S W : Type 0} (form : NormalForm S W) where
   abbrev Fresh : ℕ → World → Type 0
   Fresh identity world = (list : Listed) → list.identity ≡ identity → MadeTo world list 0
 
+  -- in a plain phase no list is held
+  plain_made : (mech : Mech S W) (world : World) (list : Option (Held S)) → IsPlain mech.phase → Made mech world list
+  plain_made mech world list is =
+      of_plain (λ (p : Phase S W). MadeOf p world (held_in p list)) tt tt tt (λ s. tt) (λ at. tt) (λ owner. tt) tt (λ drives help. tt) tt (λ reference. tt) (λ reply. tt) mech.phase is
+
   told_made : (outcome : Outcome) (mech : Mech S W) (world : World) (list : Option (Held S)) → Made (told outcome mech) world list
   told_made (Plain reply) mech world list = tt
   told_made (ValueOf reference) mech world list = tt
@@ -50,7 +57,7 @@ module _ {S W : Type 0} (form : NormalForm S W) where
   named_made : (identity since : ℕ) (s : S) (mech : Mech S W) (world : World) → Fresh identity world → Made (offered form s mech) world (Some (newly_held form identity s since (offered form s mech)))
   named_made identity since s mech world fresh =
       let offer = form.offer_of s mech.op (offered_block form mech) in
-      filling_made (form.needs_block mech.op) (record { entries = offer.entries; next = 0 }) (record { items = offer.stores }) world (newly_held form identity s since (offered form s mech)) refl (fresh _ refl)
+      filling_made (form.needs_block mech.op) (record { entries = offer.entries; next = 0 }) (record { items = stores_for (form.needs_block mech.op) offer.stores mech }) world (newly_held form identity s since (offered form s mech)) refl (fresh _ refl)
 
   readied_made : (b : Bool) (identity since : ℕ) (s : S) (mech : Mech S W) (world : World) → Fresh identity world
       → (let new = if b then in_phase (Generate s LookForBlock) mech else offered form s mech in Made new world (Some (newly_held form identity s since new)))
@@ -62,7 +69,7 @@ module _ {S W : Type 0} (form : NormalForm S W) where
   searched_made found.Going identity since s mech world fresh = tt
   searched_made found.Ready identity since s mech world fresh = readied_made (form.needs_block mech.op && holds_none mech.hand) identity since s mech world fresh
   searched_made (found.Answer outcome) identity since s mech world fresh = told_made outcome mech world _
-  searched_made found.Contended identity since s mech world fresh = tt
+  searched_made found.Contended identity since s mech world fresh = plain_made (searched form found.Contended s mech) world _ (failed_plain form mech)
 
   looked_made : (b : Bool) (s : S) (mech : Mech S W) (world : World) (list : Mech S W → Option (Held S))
       → (let new = if b then in_phase (Generate s Claim) mech else in_phase (End Exhausted) mech in Made new world (list new))
@@ -77,13 +84,13 @@ module _ {S W : Type 0} (form : NormalForm S W) where
   wrapped_made : (what : Wrapped) (w : W) (mech : Mech S W) (world : World) (held : Held S) → MadeTo world held.list held.stop → held.stop ≤ length held.list.entries → Made (wrapped_up form what w mech) world (Some held)
   wrapped_made wrapped.Going w mech world held made inside = (made, inside)
   wrapped_made (wrapped.Done outcome) w mech world held made inside = told_made outcome mech world (Some held)
-  wrapped_made wrapped.Restart w mech world held made inside = tt
+  wrapped_made wrapped.Restart w mech world held made inside = plain_made (wrapped_up form wrapped.Restart w mech) world (Some held) (failed_plain form mech)
 
   wrap_made : (what : Wrapped) (w old : W) (mech : Mech S W) (before after : World) (held : Option (Held S)) (seen : Seen) → Wins (Wrap old) held seen before after → MadeOf {W = W} (Wrap old) before held
       → Made (wrapped_up form what w mech) after held
   wrap_made wrapped.Going w old mech before after None seen wins made = tt
   wrap_made (wrapped.Done outcome) w old mech before after None seen wins made = told_made outcome mech after None
-  wrap_made wrapped.Restart w old mech before after None seen wins made = tt
+  wrap_made wrapped.Restart w old mech before after None seen wins made = plain_made (wrapped_up form wrapped.Restart w mech) after None (failed_plain form mech)
   wrap_made what w old mech before after (Some held) seen wins made =
       wrapped_made what w mech after held (made_quiet (Wrap old) (Some held) seen before after held.list held.stop wins refl made.0) made.1
 
@@ -137,14 +144,19 @@ module _ {S W : Type 0} (form : NormalForm S W) where
       → Made (stepped form phase seen mech) after (list_after form identity phase seen own (stepped form phase seen mech))
   step_made Idle identity mech seen own before after at is inside wins fresh made = idle_made mech.phase after own.held at
   step_made Begin identity mech seen own before after at is inside wins fresh made = tt
-  step_made Look identity mech seen own before after at is inside wins fresh made = tt
+  step_made Look identity mech seen own before after at is inside wins fresh made = plain_made (stepped form Look seen mech) after own.held (slow_plain form Look seen mech tt)
   step_made (Generate s Search) identity mech seen own before after at is inside wins fresh made = searched_made (form.found_of s seen) identity own.since (form.feed_of s seen) mech after fresh
   step_made (Generate s LookForBlock) identity mech seen own before after at is inside wins fresh made =
       looked_made (nat_lt seen.before mech.setup.cap) s mech after (λ new. Some (newly_held form identity s own.since new))
   step_made (Generate s Claim) identity mech seen own before after at is inside wins fresh made = claimed_made (nat_lt seen.before mech.setup.cap) identity own.since s _ mech after fresh
   step_made (Apply run stores (Fill filled)) identity mech seen own before after at is inside wins fresh made =
-      fill_made (filled + 1 == length stores.items + 3) run stores filled (filled + 1) before after own.held seen wins made
+      fill_made (filled + 1 == length stores.items) run stores filled (filled + 1) before after own.held seen wins made
   step_made (Apply run stores Execute) identity mech seen own before after at is inside wins fresh made = listed_made run stores mech before after own.held seen is inside wins made
   step_made (Wrap w) identity mech seen own before after at is inside wins fresh made = wrap_made (form.wrap_found_of w seen) (form.feed_wrap_of w seen) w mech before after own.held seen wins made
+  step_made (Announce stage) identity mech seen own before after at is inside wins fresh made = plain_made (stepped form (Announce stage) seen mech) after own.held (slow_plain form (Announce stage) seen mech tt)
+  step_made (Enter owner) identity mech seen own before after at is inside wins fresh made = plain_made (stepped form (Enter owner) seen mech) after own.held (slow_plain form (Enter owner) seen mech tt)
+  step_made Drive identity mech seen own before after at is inside wins fresh made = plain_made (stepped form Drive seen mech) after own.held (slow_plain form Drive seen mech tt)
+  step_made (Help drives help) identity mech seen own before after at is inside wins fresh made = plain_made (stepped form (Help drives help) seen mech) after own.held (slow_plain form (Help drives help) seen mech tt)
+  step_made Collect identity mech seen own before after at is inside wins fresh made = plain_made (stepped form Collect seen mech) after own.held (slow_plain form Collect seen mech tt)
   step_made (Value reference) identity mech seen own before after at is inside wins fresh made = tt
   step_made (End reply) identity mech seen own before after at is inside wins fresh made = tt

@@ -1,7 +1,5 @@
 -- What the request of a machine touches, by its phase.
-use Rattle.std.proofs.Common.{◌≡◌, ◌∙◌, refl, sym, subst, ap, ℕ, ◌-◌, ◌==◌, if◌then◌else◌, ◌<◌, ◌≤◌, ◌^◌, Bool, true, false, List, slice_get, Option, Some, None, ◌⊎◌, inl, inr, All, arith, rules}
-use Rattle.std.proofs.lemmas.Bool.{cases_eq}
-use Rattle.std.proofs.lemmas.Bool.Decides.{nat_tests}
+use Rattle.std.proofs.Common.{◌≡◌, ◌∙◌, refl, sym, subst, ap, ℕ, ◌<◌, ◌≤◌, ◌^◌, Bool, true, false, List, slice_get, Option, Some, None, ◌⊎◌, inl, inr, All, arith}
 use Rattle.std.proofs.lemmas.List.Elements.{All-get_or}
 use Rattle.std.proofs.lemmas.Option.{slice_get_within, get_or_from_slice_get}
 use Rattle.arrayvec.specs.ArrayVec.{ArrayVec}
@@ -19,12 +17,13 @@ use Rattle.normal_traits.specs.Steps.{IsOffered}
 use Rattle.normal_traits.specs.Laws.{AsksWell, IsGoodEntry, IsGoodOffer, IsGoodStore, Laws}
 use Rattle.cas_executor.specs.FastRuns.{FastWalk, exchange_of}
 use Rattle.fast_slow_engine.specs.declared.phases.Phase.{Phase}
-use Rattle.fast_slow_engine.specs.declared.phases.Phase.TheVariants.{Idle, Begin, Look, Generate, Apply, Wrap, Value, End}
+use Rattle.fast_slow_engine.specs.declared.phases.Phase.TheVariants.{Idle, Begin, Look, Generate, Apply, Wrap, Announce, Enter, Drive, Help, Collect, Value, End}
 use Rattle.fast_slow_engine.specs.declared.phases.Generating.TheVariants.{Search, LookForBlock, Claim}
 use Rattle.fast_slow_engine.specs.declared.phases.Applying.TheVariants.{Fill, Execute}
 use Rattle.fast_slow_engine.specs.declared.setup.Setup.{Setup}
-use Rattle.fast_slow_engine.specs.Mechs.{Mech, block_of}
-use Rattle.fast_slow_engine.specs.PhaseTable.{fill_request, request_in, store_of}
+use Rattle.fast_slow_engine.specs.Mechs.{Mech}
+use Rattle.fast_slow_engine.specs.OfferStores.{own_stores, stored_by}
+use Rattle.fast_slow_engine.specs.PhaseTable.{request_in}
 use Rattle.fast_slow_engine.specs.Runs.{Move}
 use Rattle.run_laws.specs.Premises.{is_clients}
 use Rattle.run_history.specs.Ghosts.{Held, SeatGhost, ghost_of, world_of}
@@ -32,6 +31,7 @@ use Rattle.run_history.specs.Known.{KnowsFill, KnowsRun, KnowsWrap, OfHeld}
 use Rattle.run_history.specs.Lists.{OffersList}
 use Rattle.run_history.proofs.Before.{Before, HasBlock, mover}
 use Rattle.run_history.proofs.MoverFacts.{KnowsMover, mover_knows}
+use Rattle.run_history.proofs.StoreLemmas.{all_from, own_each}
 
 -- whether a request in this phase may be an exchange
 abbrev pub may_exchange : {S W : Type 0} → Phase S W → Bool
@@ -43,13 +43,6 @@ may_exchange _ = false
 -- no truth value is both
 pub no_both : {A : Type 0} (b : Bool) → b ≡ true → b ≡ false → A
 no_both b is isnt = absurd (cc)
-
--- behind the notes stands what comes last
-after_notes : {A : Type 0} (a b c : Bool) (x y z rest : A) → a ≡ false → b ≡ false → c ≡ false → rest ≡ (if a then x else if b then y else if c then z else rest)
-after_notes true b c x y z rest p q r = absurd (search rules)
-after_notes false true c x y z rest p q r = absurd (search rules)
-after_notes false false true x y z rest p q r = absurd (search rules)
-after_notes false false false x y z rest p q r = refl
 
 -- what holds of each element holds of that at a place
 pub all_at : {X : Type 0} (P : X → Type 0) (xs : List X) (i : ℕ) (x : X) → slice_get xs i ≡ Some x → All P xs → P x
@@ -75,36 +68,31 @@ module _ {S W : Type 0} (form : NormalForm S W) where
 
   -- ---- stores
 
+  -- a store of the machine touches its block
+  abbrev StoreTouches : Phase S W → World → Mech S W → ℕ × ℕ → Type 0
+  StoreTouches phase world mech store = Touches phase world mech (Store store.0 store.1)
+
   note_touch : (phase : Phase S W) (world : World) (mech : Mech S W) (block field value : ℕ) → Laws form → mech.hand ≡ Some block → world.used block ≡ false → 0 < block → field < 12
-      → Touches phase world mech (Store (block_place block field) value)
+      → StoreTouches phase world mech (block_place block field, value)
   note_touch phase world mech block field value laws hand unused some note =
       stores block field value refl hand unused (omega (arith, note)) (λ versioned. no_both _ versioned (laws.notes_plain block field some note))
 
-  store_touch : (phase : Phase S W) (world : World) (mech : Mech S W) (block : ℕ) (store : Option (ℕ × ℕ)) → mech.hand ≡ Some block → world.used block ≡ false
-      → ((s : ℕ × ℕ) → store ≡ Some s → IsGoodStore form block s) → Touches phase world mech (store_of store)
-  store_touch phase world mech block None hand unused good = loads 0 refl
-  store_touch phase world mech block (Some s) hand unused good =
-      let is = good s refl in
+  store_touch : (phase : Phase S W) (world : World) (mech : Mech S W) (block : ℕ) (s : ℕ × ℕ) → mech.hand ≡ Some block → world.used block ≡ false → IsGoodStore form block s → StoreTouches phase world mech s
+  store_touch phase world mech block s hand unused is =
       stores block is.field s.1 (ap (λ p. Store p s.1) is.place) hand unused is.within (λ versioned. is.versioned (ap form.is_versioned is.place ∙ versioned))
 
-  fill_touch : (phase : Phase S W) (world : World) (mech : Mech S W) (block made : ℕ) (list : List (ℕ × ℕ)) → Laws form → mech.hand ≡ Some block → world.used block ≡ false → 0 < block
-      → All (IsGoodStore form block) list → Touches phase world mech (fill_request block mech.seat mech.number mech.op list made)
-  fill_touch phase world mech block made list laws hand unused some good =
+  next_touch : (phase : Phase S W) (world : World) (mech : Mech S W) (store : Option (ℕ × ℕ)) → ((s : ℕ × ℕ) → store ≡ Some s → StoreTouches phase world mech s) → Touches phase world mech (stored_by store)
+  next_touch phase world mech None each = loads 0 refl
+  next_touch phase world mech (Some s) each = each s refl
+
+  -- each store of an offer does
+  fills_touch : (phase : Phase S W) (world : World) (mech : Mech S W) (block : ℕ) (list : List (ℕ × ℕ)) → Laws form → mech.hand ≡ Some block → world.used block ≡ false → 0 < block
+      → All (IsGoodStore form block) list → All (StoreTouches phase world mech) (own_stores block mech.seat mech.number mech.op list)
+  fills_touch phase world mech block list laws hand unused some good =
       let note = λ (field value : ℕ) (low : field < 12). note_touch phase world mech block field value laws hand unused some low in
-      let Filled : ℕ → Type 0 = λ m. Touches phase world mech (fill_request block mech.seat mech.number mech.op list m) in
-      elim (cases_eq made 0) [
-        | inl none ↦ subst Filled (sym none) (note OWNER_FIELD (owner_word mech.seat mech.number) (omega arith))
-        | inr one ↦ elim (cases_eq made 1) [
-          | inl none ↦ subst Filled (sym none) (note OP_FIELD (op_word mech.op.code mech.number mech.op.key) (omega arith))
-          | inr two ↦ elim (cases_eq made 2) [
-            | inl none ↦ subst Filled (sym none) (note VALUE_FIELD (value_word mech.number mech.op.value) (omega arith))
-            | inr three ↦
-                subst (Touches phase world mech)
-                (after_notes (made == 0) (made == 1) (made == 2) _ _ _ (store_of (slice_get list (made - 3))) (grind (arith, nat_tests)) (grind (arith, nat_tests)) (grind (arith, nat_tests)))
-                (store_touch phase world mech block (slice_get list (made - 3)) hand unused (λ s at. all_at (IsGoodStore form block) list (made - 3) s at good))
-          ]
-        ]
-      ]
+      own_each (StoreTouches phase world mech) block mech.seat mech.number mech.op list (note OWNER_FIELD (owner_word mech.seat mech.number) (omega arith))
+      (note OP_FIELD (op_word mech.op.code mech.number mech.op.key) (omega arith)) (note VALUE_FIELD (value_word mech.number mech.op.value) (omega arith))
+      (all_from (IsGoodStore form block) (StoreTouches phase world mech) list (λ s is. store_touch phase world mech block s hand unused is) good)
 
   -- ---- the list of a seat
 
@@ -132,14 +120,16 @@ module _ {S W : Type 0} (form : NormalForm S W) where
   filling_touch : (run : FastWalk) (made : ArrayVec (ℕ × ℕ)) (count : ℕ) (mech : Mech S W) (world : World) (held : Option (Held S)) (cap : ℕ) → Laws form → form.shape world
       → OfHeld (KnowsFill form world run made count mech) held → OffersList form run made mech held → form.needs_block mech.op ≡ true → OfHeld (HasBlock form mech) held
       → ((block : ℕ) → mech.hand ≡ Some block → world.used block ≡ false) → ((block : ℕ) → mech.hand ≡ Some block → (0 < block) × (block ≤ cap))
-      → Touches (Apply run made (Fill count)) world mech (fill_request (block_of mech.hand) mech.seat mech.number mech.op made.items count)
+      → Touches (Apply run made (Fill count)) world mech (stored_by (slice_get made.items count))
   filling_touch run made count mech world None cap laws shape knows offers needs has unused in_hand = absurd knows
   filling_touch run made count mech world (Some held) cap laws shape knows offers needs has unused in_hand =
       let hand = has.needs needs in
+      let block = held.list.block in
       let phase : Phase S W = Apply run made (Fill count) in
-      subst (λ (h : Option ℕ). Touches phase world mech (fill_request (block_of h) mech.seat mech.number mech.op made.items count)) (sym hand)
-      (fill_touch phase world mech held.list.block count made.items laws hand (unused held.list.block hand) (in_hand held.list.block hand).0
-      (subst (All (IsGoodStore form held.list.block)) (sym offers.made) (offer_good world held laws shape knows.offered).stores))
+      let all : All (StoreTouches phase world mech) made.items =
+      subst (All (StoreTouches phase world mech)) (sym knows.filling)
+      (fills_touch phase world mech block (form.offer_of held.offering held.list.call.op block).stores laws hand (unused block hand) (in_hand block hand).0 (offer_good world held laws shape knows.offered).stores) in
+      next_touch phase world mech (slice_get made.items count) (λ s at. all_at (StoreTouches phase world mech) made.items count s at all)
 
   wrap_touch : (w : W) (mech : Mech S W) (world : World) (held : Option (Held S)) → Laws form → form.shape world → OfHeld (KnowsWrap form world w) held
       → Touches (Wrap w) world mech (form.wrap_request_of w)
@@ -163,6 +153,11 @@ module _ {S W : Type 0} (form : NormalForm S W) where
       let good = entries_good world run made mech own.held laws shape known.knows known.holds in
       entry_touch (Apply run made Execute) world mech (slice_get run.entries run.next) refl (λ e at. all_at (IsGoodEntry form world) run.entries run.next e at good)
   touches (Wrap w) mech own world cap laws shape known = wrap_touch w mech world own.held laws shape known.knows
+  touches (Announce stage) mech own world cap laws shape known = absurd known.knows
+  touches (Enter owner) mech own world cap laws shape known = absurd known.knows
+  touches Drive mech own world cap laws shape known = absurd known.knows
+  touches (Help drives help) mech own world cap laws shape known = absurd known.knows
+  touches Collect mech own world cap laws shape known = absurd known.knows
   touches (Value reference) mech own world cap laws shape known = loads _ refl
   touches (End reply) mech own world cap laws shape known = adds 0 1 refl (inl refl) refl
 

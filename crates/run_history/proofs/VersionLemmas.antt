@@ -18,7 +18,7 @@ use Rattle.normal_traits.specs.NormalForm.{NormalForm}
 use Rattle.normal_traits.specs.Laws.{Laws}
 use Rattle.cas_executor.specs.FastRuns.{FastWalk, exchange_of}
 use Rattle.fast_slow_engine.specs.declared.phases.Phase.{Phase}
-use Rattle.fast_slow_engine.specs.declared.phases.Phase.TheVariants.{Idle, Begin, Look, Generate, Apply, Wrap, Value, End}
+use Rattle.fast_slow_engine.specs.declared.phases.Phase.TheVariants.{Idle, Begin, Look, Generate, Apply, Wrap, Announce, Enter, Drive, Help, Collect, Value, End}
 use Rattle.fast_slow_engine.specs.declared.phases.Generating.TheVariants.{Search, LookForBlock, Claim}
 use Rattle.fast_slow_engine.specs.declared.phases.Applying.TheVariants.{Fill, Execute}
 use Rattle.fast_slow_engine.specs.declared.setup.Setup.{Setup}
@@ -124,6 +124,11 @@ module _ {S W : Type 0} (form : NormalForm S W) where
   stepped_longer (Apply run made Execute) mech held seen world at from to may is holds won =
       listed_longer run held seen world at from to (λ e. subst (HoldsIn form (Apply run made Execute) mech) e holds) is won
   stepped_longer (Wrap w) mech held seen world at from to may is holds won = won_longer (form.wrap_request_of w) seen world at from to is won
+  stepped_longer (Announce stage) mech held seen world at from to may is holds won = absurd (search rules)
+  stepped_longer (Enter owner) mech held seen world at from to may is holds won = absurd (search rules)
+  stepped_longer Drive mech held seen world at from to may is holds won = absurd (search rules)
+  stepped_longer (Help drives help) mech held seen world at from to may is holds won = absurd (search rules)
+  stepped_longer Collect mech held seen world at from to may is holds won = absurd (search rules)
   stepped_longer (Value reference) mech held seen world at from to may is holds won = absurd (search rules)
   stepped_longer (End reply) mech held seen world at from to may is holds won = absurd (search rules)
 

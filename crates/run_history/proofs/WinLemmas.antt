@@ -12,7 +12,7 @@ use Rattle.normal_traits.specs.NormalForm.{NormalForm}
 use Rattle.normal_traits.specs.Steps.{exchanged, listed_if, using_block}
 use Rattle.cas_executor.specs.FastRuns.{FastWalk}
 use Rattle.fast_slow_engine.specs.declared.phases.Phase.{Phase}
-use Rattle.fast_slow_engine.specs.declared.phases.Phase.TheVariants.{Idle, Begin, Look, Generate, Apply, Wrap, Value, End}
+use Rattle.fast_slow_engine.specs.declared.phases.Phase.TheVariants.{Idle, Begin, Look, Generate, Apply, Wrap, Announce, Enter, Drive, Help, Collect, Value, End}
 use Rattle.fast_slow_engine.specs.declared.phases.Generating.TheVariants.{Search, LookForBlock, Claim}
 use Rattle.fast_slow_engine.specs.declared.phases.Applying.TheVariants.{Fill, Execute}
 use Rattle.fast_slow_engine.specs.declared.setup.Setup.{Setup}
@@ -101,6 +101,11 @@ module _ {S W : Type 0} (form : NormalForm S W) where
   stepped_wins (Apply run stores (Fill made)) held seen world = nothing tt refl refl
   stepped_wins (Apply run stores Execute) held seen world = listed_wins run stores held seen world
   stepped_wins (Wrap w) held seen world = beside_wins (form.wrap_request_of w) (Wrap w) held seen world refl tt
+  stepped_wins (Announce stage) held seen world = nothing tt refl refl
+  stepped_wins (Enter owner) held seen world = nothing tt refl refl
+  stepped_wins Drive held seen world = nothing tt refl refl
+  stepped_wins (Help drives help) held seen world = nothing tt refl refl
+  stepped_wins Collect held seen world = nothing tt refl refl
   stepped_wins (Value reference) held seen world = nothing tt refl refl
   stepped_wins (End reply) held seen world = nothing tt refl refl
 

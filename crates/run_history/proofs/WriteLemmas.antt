@@ -16,7 +16,7 @@ use Rattle.fast_slow_engine.specs.PhaseTable.{mech_request}
 use Rattle.fast_slow_engine.specs.Runs.{Move, begun, run_of}
 use Rattle.run_laws.specs.Premises.{MoveLeaves, is_clients}
 use Rattle.run_laws.specs.Ticks.{LeavesWord}
-use Rattle.run_laws.proofs.PremiseLemmas.{leaves_elsewhere, leaves_load}
+use Rattle.run_laws.proofs.StorePlaces.{leaves_elsewhere, leaves_load}
 use Rattle.run_laws.proofs.Steps.{some_same}
 use Rattle.run_history.specs.Ghosts.{world_of}
 use Rattle.run_history.proofs.Before.{Before, Writes, mover}

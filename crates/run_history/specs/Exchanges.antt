@@ -1,6 +1,6 @@
 -- The exchanges of a run that were won at versioned places, by its moves and their words alone; and how the journal
 -- of the run tells them.
-use Rattle.std.specs.Prelude.{◌≡◌, ◌≢◌, ℕ, ◌+◌, ◌*◌, ◌≤◌, if◌then◌else◌, Bool, true, List, [], ◌∷◌, ◌++◌, map, length, slice_get, Option, Some, None, All, AllPairs}
+use Rattle.std.specs.Prelude.{◌≡◌, ◌≢◌, ℕ, ◌+◌, ◌*◌, ◌≤◌, if◌then◌else◌, Bool, true, false, List, [], ◌∷◌, ◌++◌, map, length, slice_get, Option, Some, None, All, AllPairs}
 use Rattle.step_memory.specs.declared.steps.Request.{Request}
 use Rattle.step_memory.specs.declared.steps.Request.TheVariants.{Exchange}
 use Rattle.step_memory.specs.Step.{seen_of}
@@ -80,10 +80,10 @@ module _ {S W : Type 0} (form : NormalForm S W) where
     pub called_for : (won : Won) (list : Listed) (j : ℕ) → Among won (world_of form setup moves).journal → won.maker ≡ By list j → IsWonBy setup moves list.call won
     pub once : AllPairs AreOfTwoEntries (world_of form setup moves).journal
 
-  -- so it is of every run
+  -- so it is of every run in which no call is published
   abbrev pub JournalsTell : Type 0
-  JournalsTell = (setup : Setup) (moves : List Move) → AreMoves form setup moves → TellsExchanges setup moves
+  JournalsTell = (setup : Setup) (moves : List Move) → AreMoves form setup moves → setup.publishes ≡ false → TellsExchanges setup moves
 
   -- and the exchanges were won at most once
   abbrev pub ExchangesOnce : Type 0
-  ExchangesOnce = (setup : Setup) (moves : List Move) → AreMoves form setup moves → AreAtMostOnce setup.cap (won_exchanges form setup moves)
+  ExchangesOnce = (setup : Setup) (moves : List Move) → AreMoves form setup moves → setup.publishes ≡ false → AreAtMostOnce setup.cap (won_exchanges form setup moves)

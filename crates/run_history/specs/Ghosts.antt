@@ -22,7 +22,8 @@ use Rattle.fast_slow_engine.specs.declared.phases.Phase.TheVariants as phase
 use Rattle.fast_slow_engine.specs.declared.phases.Generating.TheVariants.{Search}
 use Rattle.fast_slow_engine.specs.declared.phases.Applying.TheVariants.{Execute}
 use Rattle.fast_slow_engine.specs.declared.setup.Setup.{Setup}
-use Rattle.fast_slow_engine.specs.Mechs.{Mech, block_of}
+use Rattle.fast_slow_engine.specs.Hands.{block_of}
+use Rattle.fast_slow_engine.specs.Mechs.{Mech}
 use Rattle.fast_slow_engine.specs.PhaseTable.{mech_request, mech_fed}
 use Rattle.fast_slow_engine.specs.Runs.{Move, RunState, begun, run_of}
 

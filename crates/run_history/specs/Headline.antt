@@ -1,7 +1,7 @@
 -- What every run of command files comes to, in any order of the seats: what a report tells of it, and what is
 -- known of the exchanges behind it. No schedule is named, so that a replay, a load that is generated and a run
 -- of threads are each told by it once their order is known.
-use Rattle.std.specs.Prelude.{◌≡◌, ℕ, List, All}
+use Rattle.std.specs.Prelude.{◌≡◌, ℕ, false, List, All}
 use Rattle.lin_report.specs.declared.calls.Op.{Op}
 use Rattle.lin_report.specs.declared.calls.Receipt.{Receipt}
 use Rattle.lin_report.specs.declared.calls.Reply.TheVariants.{Exhausted}
@@ -35,7 +35,7 @@ pub record MeetsHeadline {S W : Type 0} (form : NormalForm S W) (setup : Setup) 
   pub once : AreAtMostOnce setup.cap (won_exchanges form setup (moves_over form setup files order))
   pub journal : JournalLaws setup.cap (world_of form setup (moves_over form setup files order)).journal
 
--- every run of files that fit does
+-- every run of files that fit does, where no call is published
 abbrev pub FilesMeetHeadline : {S W : Type 0} → NormalForm S W → Type 0
 FilesMeetHeadline form =
-    (setup : Setup) (files : List (List Op)) (order : List ℕ) → FilesFit form.client setup files → MeetsHeadline form setup files order
+    (setup : Setup) (files : List (List Op)) (order : List ℕ) → FilesFit form.client setup files → setup.publishes ≡ false → MeetsHeadline form setup files order

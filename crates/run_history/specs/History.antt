@@ -1,5 +1,5 @@
 -- How the calls of a run stand to its changes, and its ticks to its moments.
-use Rattle.std.specs.Prelude.{◌≡◌, ◌≢◌, ℕ, ◌<◌, List, ◌++◌, length, slice_index, All, AllPairs}
+use Rattle.std.specs.Prelude.{◌≡◌, ◌≢◌, ℕ, ◌<◌, false, List, ◌++◌, length, slice_index, All, AllPairs}
 use Rattle.lin_report.specs.Object.{object_of}
 use Rattle.node_arena.specs.declared.places.TheConstants.{TICKS}
 use Rattle.normal_traits.specs.World.{Change}
@@ -53,9 +53,9 @@ module _ {S W : Type 0} (form : NormalForm S W) where
     pub counted : TicksCounted setup moves
     pub earlier : BeginsEarlier setup moves
 
-  -- what holds after any moves that can follow each other
+  -- what holds after any moves that can follow each other, where no call is published
   abbrev pub OfRuns : (Setup → List Move → Type 0) → Type 0
-  OfRuns P = (setup : Setup) (moves : List Move) → AreMoves form setup moves → P setup moves
+  OfRuns P = (setup : Setup) (moves : List Move) → AreMoves form setup moves → setup.publishes ≡ false → P setup moves
 
   -- so each of these does
   abbrev pub EachCallEnded : Type 0

@@ -1,9 +1,7 @@
 -- What each machine knows of the client's world, by its phase, and what holds of the world of every run.
-use Rattle.std.specs.Prelude.{◌≡◌, ℕ, ◌+◌, ◌<◌, ◌≤◌, true, ◌⊎◌, List, length, Option, Some, None}
+use Rattle.std.specs.Prelude.{◌≡◌, ℕ, ◌<◌, ◌≤◌, true, ◌⊎◌, List, length, slice_get, Option, Some, None}
 use Rattle.arrayvec.specs.ArrayVec.{ArrayVec}
 use Rattle.lin_report.specs.Commands.{IsCommandOf}
-use Rattle.step_memory.specs.declared.steps.Request.{Request}
-use Rattle.step_memory.specs.declared.steps.Request.TheVariants.{Load, Store, Exchange, Add}
 use Rattle.word_fields.specs.Versioned.{versioned_version}
 use Rattle.node_arena.specs.declared.places.TheConstants.{TICKS, CLAIMS, HEAD, TAIL, FIRST_WORDS}
 use Rattle.normal_traits.specs.World.{World, Stopped}
@@ -16,18 +14,15 @@ use Rattle.fast_slow_engine.specs.declared.phases.Generating.TheVariants.{Search
 use Rattle.fast_slow_engine.specs.declared.phases.Applying.TheVariants.{Fill, Execute}
 use Rattle.fast_slow_engine.specs.declared.setup.Setup.{Setup}
 use Rattle.fast_slow_engine.specs.Mechs.{Mech}
-use Rattle.fast_slow_engine.specs.PhaseTable.{fill_request}
+use Rattle.fast_slow_engine.specs.OfferStores.{own_stores}
 use Rattle.fast_slow_engine.specs.Runs.{Move, run_of}
 use Rattle.run_laws.specs.Seats.{EachMech}
 use Rattle.run_laws.specs.Premises.{ClientLeaves}
 use Rattle.run_history.specs.Ghosts.{Held, SeatGhost, ghost_of, world_of}
 
--- what a request stored still stands
-abbrev pub Stands : World → Request → Type 0
-Stands world (Load at) = Unit {0}
-Stands world (Store at value) = world.words at ≡ value
-Stands world (Exchange at from to) = Unit {0}
-Stands world (Add at by) = Unit {0}
+-- a store, which is a place and a word, still stands
+abbrev pub Stands : World → ℕ × ℕ → Type 0
+Stands world store = world.words store.0 ≡ store.1
 
 -- the place is one of those at which a client may have words: head, tail, or behind the first words
 abbrev pub MayBeClients : ℕ → Type 0
@@ -43,12 +38,14 @@ module _ {S W : Type 0} (form : NormalForm S W) where
   abbrev pub IsStillOffered : World → Held S → Type 0
   IsStillOffered world held = IsOffered form world held.list held.offering held.since
 
-  -- a block is being filled for the list: the stores made so far stand
+  -- a block is being filled for the list: the stores are those of its offer into this block for the call of the machine,
+  -- and each of those made so far stands
   pub record KnowsFill (world : World) (run : FastWalk) (stores : ArrayVec (ℕ × ℕ)) (made : ℕ) (mech : Mech S W) (held : Held S) : Type 0 where
     pub offered : IsStillOffered world held
     pub running : IsRunning run
-    pub within : made < length stores.items + 3
-    pub stored : (k : ℕ) → k < made → Stands world (fill_request held.list.block mech.seat mech.number mech.op stores.items k)
+    pub within : made < length stores.items
+    pub filling : stores.items ≡ own_stores held.list.block mech.seat mech.number mech.op (form.offer_of held.offering held.list.call.op held.list.block).stores
+    pub stored : (k : ℕ) (store : ℕ × ℕ) → k < made → slice_get stores.items k ≡ Some store → Stands world store
 
   -- the list is executed: until its first entry takes effect its block stays as it was filled
   pub record KnowsRun (world : World) (run : FastWalk) (mech : Mech S W) (held : Held S) : Type 0 where
@@ -63,7 +60,7 @@ module _ {S W : Type 0} (form : NormalForm S W) where
     pub wraps : form.wraps wrap
     pub follows : form.follows wrap held.list held.stop world
 
-  -- what a machine knows in a phase
+  -- what a machine knows in a phase; no machine is in one of publishing or helping, where no call is published
   abbrev pub KnowsIn : Phase S W → Mech S W → SeatGhost S → World → Type 0
   KnowsIn (phase.Generate s Search) mech own world = form.asks s × form.knows s mech.op world own.since
   KnowsIn (phase.Generate s LookForBlock) mech own world = form.is_ready s × form.knows s mech.op world own.since
@@ -71,6 +68,11 @@ module _ {S W : Type 0} (form : NormalForm S W) where
   KnowsIn (phase.Apply run stores (Fill made)) mech own world = OfHeld (KnowsFill world run stores made mech) own.held
   KnowsIn (phase.Apply run stores Execute) mech own world = OfHeld (KnowsRun world run mech) own.held
   KnowsIn (phase.Wrap wrap) mech own world = OfHeld (KnowsWrap world wrap) own.held
+  KnowsIn (phase.Announce at) mech own world = ⊥
+  KnowsIn (phase.Enter owner) mech own world = ⊥
+  KnowsIn phase.Drive mech own world = ⊥
+  KnowsIn (phase.Help drives help) mech own world = ⊥
+  KnowsIn phase.Collect mech own world = ⊥
   KnowsIn _ mech own world = Unit {0}
 
   -- the operation of a call that runs is a command
@@ -87,7 +89,7 @@ module _ {S W : Type 0} (form : NormalForm S W) where
   abbrev pub VersionsCount : World → Type 0
   VersionsCount world = (place : ℕ) → form.is_versioned place ≡ true → MayBeClients place → versioned_version (world.words place) ≤ length world.journal
 
-  -- what holds of every run of a client with the laws
+  -- what holds of every run of a client with the laws, where no call is published
   pub record IsKept (setup : Setup) (moves : List Move) : Type 0 where
     pub ticks : ClientLeaves form TICKS setup moves
     pub claims : ClientLeaves form CLAIMS setup moves

@@ -1,5 +1,5 @@
--- The reports of runs are linearizable, and what their calls are told.
-use Rattle.std.specs.Prelude.{◌≡◌, ℕ, List, All}
+-- The reports of runs in which no call is published are linearizable, and what their calls are told.
+use Rattle.std.specs.Prelude.{◌≡◌, ℕ, false, List, All}
 use Rattle.lin_report.specs.declared.calls.Op.{Op}
 use Rattle.lin_report.specs.declared.calls.Receipt.{Receipt}
 use Rattle.lin_report.specs.declared.calls.Reply.TheVariants.{Exhausted}
@@ -18,23 +18,23 @@ module _ {S W : Type 0} (form : NormalForm S W) where
   -- in any order of the seats, the report over the command files is linearizable
   abbrev pub FilesLinearizable : Type 0
   FilesLinearizable =
-      (setup : Setup) (files : List (List Op)) (order : List ℕ) → FilesFit form.client setup files
+      (setup : Setup) (files : List (List Op)) (order : List ℕ) → FilesFit form.client setup files → setup.publishes ≡ false
       → IsLinearizable (object_of form.client) (report_of_run (run_of form setup (moves_over form setup files order)))
 
   -- and each reply is one that its command may be given, with its value in range
   abbrev pub RepliesFit : Type 0
   RepliesFit =
-      (setup : Setup) (files : List (List Op)) (order : List ℕ) → FilesFit form.client setup files
+      (setup : Setup) (files : List (List Op)) (order : List ℕ) → FilesFit form.client setup files → setup.publishes ≡ false
       → All (λ (r : Receipt). IsReplyTo r.op r.reply) (run_of form setup (moves_over form setup files order)).receipts
 
   -- a call is told that it found no block only where none was left before it ended, and it changed nothing
   abbrev pub ExhaustedOnlyWhere : Type 0
   ExhaustedOnlyWhere =
-      (setup : Setup) (moves : List Move) → AreMoves form setup moves
+      (setup : Setup) (moves : List Move) → AreMoves form setup moves → setup.publishes ≡ false
       → All (λ (r : Receipt). r.reply ≡ Exhausted → WasRefused form setup moves r) (run_of form setup moves).receipts
 
   -- and where the first entry of each list makes its change, no list of the call won an exchange
   abbrev pub ExhaustedWonNone : Type 0
   ExhaustedWonNone =
-      ChangesAtOnce form → (setup : Setup) (moves : List Move) → AreMoves form setup moves
+      ChangesAtOnce form → (setup : Setup) (moves : List Move) → AreMoves form setup moves → setup.publishes ≡ false
       → All (λ (r : Receipt). r.reply ≡ Exhausted → WonNone form setup moves r) (run_of form setup moves).receipts

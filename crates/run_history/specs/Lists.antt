@@ -8,6 +8,7 @@ use Rattle.fast_slow_engine.specs.declared.phases.Phase.{Phase}
 use Rattle.fast_slow_engine.specs.declared.phases.Phase.TheVariants as phase
 use Rattle.fast_slow_engine.specs.declared.setup.Setup.{Setup}
 use Rattle.fast_slow_engine.specs.Mechs.{Mech}
+use Rattle.fast_slow_engine.specs.PhaseTable.{stores_for}
 use Rattle.fast_slow_engine.specs.Runs.{Move, AreMoves, run_of}
 use Rattle.run_laws.specs.Seats.{EachMech}
 use Rattle.run_history.specs.Ghosts.{Held, offered_block, ghost_of}
@@ -23,12 +24,12 @@ module _ {S W : Type 0} (form : NormalForm S W) where
     pub entries : held.list.entries ≡ (form.offer_of held.offering held.list.call.op held.list.block).entries
 
   -- while its offer is made, it has the block in hand, 0 where the operation needs none, the entries that
-  -- the machine executes, and the stores that it makes
+  -- the machine executes, and the stores that it makes, none where the operation needs no block
   pub record IsOffering (run : FastWalk) (stores : ArrayVec (ℕ × ℕ)) (mech : Mech S W) (held : Held S) : Type 0 where
     pub held_by : IsHeld mech held
     pub block : held.list.block ≡ offered_block form mech
     pub entries : held.list.entries ≡ run.entries
-    pub made : stores.items ≡ (form.offer_of held.offering held.list.call.op held.list.block).stores
+    pub made : stores.items ≡ stores_for (form.needs_block mech.op) (form.offer_of held.offering held.list.call.op held.list.block).stores mech
 
   abbrev pub OffersList : FastWalk → ArrayVec (ℕ × ℕ) → Mech S W → Option (Held S) → Type 0
   OffersList run stores mech None = ⊥

@@ -7,7 +7,7 @@ use Rattle.normal_traits.specs.World.{World}
 use Rattle.normal_traits.specs.NormalForm.{NormalForm}
 use Rattle.normal_traits.specs.Steps.{IsStep}
 use Rattle.fast_slow_engine.specs.declared.phases.Phase.{Phase}
-use Rattle.fast_slow_engine.specs.declared.phases.Phase.TheVariants.{Generate, Apply, Wrap}
+use Rattle.fast_slow_engine.specs.declared.phases.Phase.TheVariants.{Generate, Apply, Wrap, Announce, Enter, Help}
 use Rattle.fast_slow_engine.specs.declared.phases.Generating.TheVariants.{Search}
 use Rattle.fast_slow_engine.specs.declared.setup.Setup.{Setup}
 use Rattle.fast_slow_engine.specs.Mechs.{Mech, Fills}
@@ -15,11 +15,14 @@ use Rattle.fast_slow_engine.specs.PhaseTable.{mech_request}
 use Rattle.fast_slow_engine.specs.Runs.{Move, begun, run_of}
 use Rattle.run_history.specs.Ghosts.{world_of}
 
--- whether the next request is a load of the engine, or an addition to its ticks or claims
+-- whether each request in this phase is a load of the engine, or an addition to its ticks or claims
 abbrev pub is_engines : {S W : Type 0} → Phase S W → Bool
 is_engines (Generate search Search) = false
 is_engines (Apply run stores at) = false
 is_engines (Wrap wrap) = false
+is_engines (Announce at) = false
+is_engines (Enter owner) = false
+is_engines (Help drives help) = false
 is_engines _ = true
 
 -- the place is a field of a block that is not used; so it is of each store of an offer

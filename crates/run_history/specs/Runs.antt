@@ -1,5 +1,5 @@
--- The laws of every run of a client with its laws, over any moves and over command files.
-use Rattle.std.specs.Prelude.{◌≡◌, ◌≢◌, ℕ, ◌+◌, ◌*◌, ◌<◌, ◌≤◌, List, ◌∷◌, length, All, AllPairs}
+-- The laws of every run of a client with its laws, over any moves and over command files, where no call is published.
+use Rattle.std.specs.Prelude.{◌≡◌, ◌≢◌, ℕ, ◌+◌, ◌*◌, ◌<◌, ◌≤◌, false, List, ◌∷◌, length, All, AllPairs}
 use Rattle.lin_report.specs.declared.calls.Op.{Op}
 use Rattle.lin_report.specs.Report.{IsReport}
 use Rattle.word_fields.specs.Versioned.{versioned_version}
@@ -28,24 +28,24 @@ pub record JournalLaws (cap : ℕ) (journal : List Won) : Type 0 where
 module _ {S W : Type 0} (form : NormalForm S W) where
   -- the world of every run has the shape, and each machine knows what its phase says
   abbrev pub RunsAreKept : Type 0
-  RunsAreKept = (setup : Setup) (moves : List Move) → AreMoves form setup moves → IsKept form setup moves
+  RunsAreKept = (setup : Setup) (moves : List Move) → AreMoves form setup moves → setup.publishes ≡ false → IsKept form setup moves
 
   -- each move is an allowed step of the client's world
   abbrev pub MovesAllowed : Type 0
   MovesAllowed =
-      (setup : Setup) (older : List Move) (move : Move) → AreMoves form setup (move ∷ older)
+      (setup : Setup) (older : List Move) (move : Move) → AreMoves form setup (move ∷ older) → setup.publishes ≡ false
       → IsStep form (world_of form setup older) (world_of form setup (move ∷ older))
 
   -- nothing but a begin or a return draws a tick, and nothing but a claim changes the claim counter
   abbrev pub CountersKept : Type 0
-  CountersKept = (setup : Setup) (moves : List Move) → AreMoves form setup moves → KeepsTicks form setup moves × KeepsClaims form setup moves
+  CountersKept = (setup : Setup) (moves : List Move) → AreMoves form setup moves → setup.publishes ≡ false → KeepsTicks form setup moves × KeepsClaims form setup moves
 
   -- the laws of the journal of every run
   abbrev pub JournalsObey : Type 0
-  JournalsObey = (setup : Setup) (moves : List Move) → AreMoves form setup moves → JournalLaws setup.cap (world_of form setup moves).journal
+  JournalsObey = (setup : Setup) (moves : List Move) → AreMoves form setup moves → setup.publishes ≡ false → JournalLaws setup.cap (world_of form setup moves).journal
 
   -- in any order of the seats, the receipts with the calls that run are a report over the command files
   abbrev pub FilesReport : Type 0
   FilesReport =
-      (setup : Setup) (files : List (List Op)) (order : List ℕ) → FilesFit form.client setup files
+      (setup : Setup) (files : List (List Op)) (order : List ℕ) → FilesFit form.client setup files → setup.publishes ≡ false
       → IsReport files (report_of_run (run_of form setup (moves_over form setup files order)))

@@ -1,4 +1,4 @@
-//! The exchanges of a run that were won, and the journal that tells them.
+//! The exchanges of a run that were won, and the journal that tells them, where no call is published.
 ghost use Rattle.run_history.specs.Exchanges.{JournalsTell, ExchangesOnce};
 
 use normal_traits::Normalized;

@@ -1,4 +1,4 @@
-//! What every run of command files comes to.
+//! What every run of command files comes to, where no call is published.
 ghost use Rattle.run_history.specs.Headline.{FilesMeetHeadline};
 
 use normal_traits::Normalized;

@@ -1,4 +1,4 @@
-//! How the calls of a run stand to its changes, and its ticks to its moments.
+//! How the calls of a run stand to its changes, and its ticks to its moments, where no call is published.
 ghost use Rattle.run_history.specs.History.{EachCallEnded, NoneChangedTwice, EachCallPlaced, EachTickDrawn, EachTickCounted, HistoryGrows};
 
 use normal_traits::Normalized;

@@ -1,4 +1,4 @@
-//! The reports of the runs of a client with its laws.
+//! The reports of the runs of a client with its laws, where no call is published.
 ghost use Rattle.run_history.specs.Linearized.{FilesLinearizable, RepliesFit, ExhaustedOnlyWhere, ExhaustedWonNone};
 
 use normal_traits::Normalized;

@@ -1,4 +1,4 @@
-//! The laws of every run of a client with its laws.
+//! The laws of every run of a client with its laws, where no call is published.
 ghost use Rattle.run_history.specs.Runs.{RunsAreKept, MovesAllowed, CountersKept, JournalsObey, FilesReport};
 
 use normal_traits::Normalized;

@@ -8,25 +8,24 @@ use Rattle.std.proofs.lemmas.Option.{slice_get_within}
 use Rattle.lin_report.specs.declared.calls.Client.{Client}
 use Rattle.lin_report.specs.declared.calls.Client.TheVariants as client
 use Rattle.lin_report.specs.declared.calls.Op.{Op}
-use Rattle.lin_report.specs.declared.calls.Reply.TheVariants.{Exhausted}
 use Rattle.step_memory.specs.Step.{seen_of, words_after}
 use Rattle.step_memory.proofs.Words.{length-words_after}
 use Rattle.node_arena.specs.Opening.{opening_word}
 use Rattle.node_arena.proofs.OpeningLemmas.{length-opening_words, opening_each}
 use Rattle.normal_traits.specs.NormalForm.{NormalForm}
 use Rattle.fast_slow_engine.specs.declared.phases.Phase.{Phase}
-use Rattle.fast_slow_engine.specs.declared.phases.Phase.TheVariants.{Idle, Begin, Look, Generate, Apply, Wrap, Value, End}
+use Rattle.fast_slow_engine.specs.declared.phases.Phase.TheVariants.{Idle, Begin, Look, Generate, Apply, Wrap, Announce, Enter, Drive, Help, Collect, Value, End}
 use Rattle.fast_slow_engine.specs.declared.setup.Setup.{Setup}
 use Rattle.fast_slow_engine.specs.Mechs.{Mech}
 use Rattle.fast_slow_engine.specs.PhaseTable.{mech_fed, mech_request, rests}
 use Rattle.fast_slow_engine.specs.Runs.{Move, RunState, CanMove, IsMove, AreMoves, begun, run_of, run_step}
 use Rattle.run_laws.specs.Seats.{EachMech, IsSeated}
-use Rattle.run_laws.specs.Claims.{ClaimsHold, ClaimsRise, ExhaustedSaw, IsClaimed, KeepsClaims, MoveKeepsClaims, asks_for_block, claimed_by, claimed_in, claims_block, claims_of}
+use Rattle.run_laws.specs.Claims.{ClaimsHold, ClaimsRise, IsClaimed, KeepsClaims, MoveKeepsClaims, claimed_by, claimed_in, claims_block, claims_of}
 use Rattle.run_laws.proofs.Pairs.{pairs_append, pairs_nil, pairs_one}
 use Rattle.run_laws.proofs.Steps.{at_set, beside_set, move_steps, some_same}
 use Rattle.run_laws.proofs.SeatLemmas.{new_mech, seats_stay}
 use Rattle.run_laws.proofs.TickLemmas.{each_all, set_sum}
-use Rattle.run_laws.proofs.ClaimKinds.{ClaimKind, claims, finds_none, keeps, at_claim, claim_kind, exhausted_phase}
+use Rattle.run_laws.proofs.ClaimKinds.{ClaimKind, claims, finds_none, keeps, at_claim, claim_kind}
 use Rattle.run_laws.proofs.Summaries.{each_moved}
 
 -- no block is claimed when a run opens
@@ -56,6 +55,11 @@ module _ {S W : Type 0} where
   rests_claims (Generate s at) free = absurd (search rules)
   rests_claims (Apply run stores at) free = absurd (search rules)
   rests_claims (Wrap w) free = absurd (search rules)
+  rests_claims (Announce at) free = absurd (search rules)
+  rests_claims (Enter owner) free = absurd (search rules)
+  rests_claims Drive free = absurd (search rules)
+  rests_claims (Help drives help) free = absurd (search rules)
+  rests_claims Collect free = absurd (search rules)
   rests_claims (Value reference) free = absurd (search rules)
   rests_claims (End reply) free = absurd (search rules)
 
@@ -271,35 +275,3 @@ module _ {S W : Type 0} where
         let state = run_of form setup older in
         let h = claims_moved setup state move (claims_of form setup older) (claims_kept setup older are.0 leaves.0) (seats_stay form setup older are.0) are.1 leaves.1 in
         rises_by h.mech h.new _ _ _ h.kind
-
-    -- ---- Exhausted
-
-    asks_runs : (phase : Phase S W) → asks_for_block phase ≡ true → rests phase ≡ true → ⊥
-    asks_runs Idle asks free = absurd (search rules)
-    asks_runs Begin asks free = absurd (search rules)
-    asks_runs Look asks free = absurd (search rules)
-    asks_runs (Generate s at) asks free = absurd (search rules)
-    asks_runs (Apply run stores at) asks free = absurd (search rules)
-    asks_runs (Wrap w) asks free = absurd (search rules)
-    asks_runs (Value reference) asks free = absurd (search rules)
-    asks_runs (End reply) asks free = absurd (search rules)
-
-    begins_none : (begins : Option Op) (mech : Mech S W) → CanMove form begins mech → asks_for_block mech.phase ≡ true → begun begins mech ≡ mech
-    begins_none None mech can asks = refl
-    begins_none (Some op) mech can asks = absurd (asks_runs mech.phase asks can.0)
-
-    pub exhausted_saw : ExhaustedSaw form
-    exhausted_saw setup older move before after are was is asks ends =
-        let state = run_of form setup older in
-        let by = are.1 in
-        let same : by.mech ≡ before = some_same by.mech before (sym by.seated ∙ was) in
-        let asks : asks_for_block by.mech.phase ≡ true = subst (λ (m : Mech S W). asks_for_block m.phase ≡ true) (sym same) asks in
-        let none = begins_none move.begins by.mech by.can asks in
-        let fed = λ (m : Mech S W). mech_fed form m (seen_of (mech_request form m) state.words) in
-        let stepped = subst (λ (s : RunState S W). slice_get s.mechs move.seat ≡ Some after) (move_steps form state move by.mech by.seated) is in
-        let new : fed (begun move.begins by.mech) ≡ after = some_same (fed (begun move.begins by.mech)) after (sym (at_set state.mechs move.seat (fed (begun move.begins by.mech)) (slice_get_within state.mechs move.seat by.mech by.seated)) ∙ stepped) in
-        let fed_is : fed by.mech ≡ after = ap fed (sym none) ∙ new in
-        let end : (fed by.mech).phase ≡ End Exhausted = ap (λ (m : Mech S W). m.phase) fed_is ∙ ends in
-        let saw = exhausted_phase form by.mech.phase by.mech state.words asks end in
-        let cap = ap (λ (s : Setup). s.cap) ((seats_stay form setup older are.0).own move.seat by.mech by.seated).setup in
-        omega (arith, saw, cap)

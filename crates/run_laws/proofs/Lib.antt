@@ -9,6 +9,11 @@ pub mod Summaries
 pub mod CallLemmas
 pub mod CountLemmas
 pub mod ReportLemmas
+pub mod HelpClaims
 pub mod ClaimKinds
 pub mod ClaimLemmas
+pub mod Exhausted
+pub mod ExhaustedLemmas
+pub mod StorePlaces
+pub mod StoreLemmas
 pub mod PremiseLemmas

@@ -11,7 +11,7 @@ use Rattle.lin_report.specs.Calls as calls
 use Rattle.lin_report.specs.Report.{IsReport, IsCommand, FollowsAnswer, file_of}
 use Rattle.normal_traits.specs.NormalForm.{NormalForm}
 use Rattle.fast_slow_engine.specs.declared.phases.Phase.{Phase}
-use Rattle.fast_slow_engine.specs.declared.phases.Phase.TheVariants.{Idle, Begin, Look, Generate, Apply, Wrap, Value, End}
+use Rattle.fast_slow_engine.specs.declared.phases.Phase.TheVariants.{Idle, Begin, Look, Generate, Apply, Wrap, Announce, Enter, Drive, Help, Collect, Value, End}
 use Rattle.fast_slow_engine.specs.declared.setup.Setup.{Setup}
 use Rattle.fast_slow_engine.specs.Mechs.{Mech}
 use Rattle.fast_slow_engine.specs.PhaseTable.{mech_pending, pending_call, receipt_of, rests, ticks_left}
@@ -38,6 +38,11 @@ module _ {S W : Type 0} where
   runs_open (Generate s at) one = refl
   runs_open (Apply run stores at) one = refl
   runs_open (Wrap w) one = refl
+  runs_open (Announce at) one = refl
+  runs_open (Enter owner) one = refl
+  runs_open Drive one = refl
+  runs_open (Help drives help) one = refl
+  runs_open Collect one = refl
   runs_open (Value reference) one = refl
   runs_open (End reply) one = refl
 

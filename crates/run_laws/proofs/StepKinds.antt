@@ -10,7 +10,7 @@ use Rattle.step_memory.proofs.Words.{add_tells, word_at_place}
 use Rattle.node_arena.specs.declared.places.TheConstants.{TICKS}
 use Rattle.normal_traits.specs.NormalForm.{NormalForm}
 use Rattle.fast_slow_engine.specs.declared.phases.Phase.{Phase}
-use Rattle.fast_slow_engine.specs.declared.phases.Phase.TheVariants.{Idle, Begin, Look, Generate, Apply, Wrap, Value, End}
+use Rattle.fast_slow_engine.specs.declared.phases.Phase.TheVariants.{Idle, Begin, Look, Generate, Apply, Wrap, Announce, Enter, Drive, Help, Collect, Value, End}
 use Rattle.fast_slow_engine.specs.Mechs.{Mech}
 use Rattle.fast_slow_engine.specs.PhaseTable.{pending_call, pending_in, receipt_of, request_in, rests, event_in, stepped, ticks_left, turn_in}
 use Rattle.fast_slow_engine.specs.Runs.{returned}
@@ -38,6 +38,11 @@ module _ {S W : Type 0} where
   rests_none (Generate s at) free = absurd (search rules)
   rests_none (Apply run stores at) free = absurd (search rules)
   rests_none (Wrap w) free = absurd (search rules)
+  rests_none (Announce at) free = absurd (search rules)
+  rests_none (Enter owner) free = absurd (search rules)
+  rests_none Drive free = absurd (search rules)
+  rests_none (Help drives help) free = absurd (search rules)
+  rests_none Collect free = absurd (search rules)
   rests_none (Value reference) free = absurd (search rules)
   rests_none (End reply) free = absurd (search rules)
 
@@ -49,6 +54,11 @@ module _ {S W : Type 0} where
   pending_open (Generate s at) mech one = refl
   pending_open (Apply run stores at) mech one = refl
   pending_open (Wrap w) mech one = refl
+  pending_open (Announce at) mech one = refl
+  pending_open (Enter owner) mech one = refl
+  pending_open Drive mech one = refl
+  pending_open (Help drives help) mech one = refl
+  pending_open Collect mech one = refl
   pending_open (Value reference) mech one = refl
   pending_open (End reply) mech one = refl
 
@@ -59,6 +69,11 @@ module _ {S W : Type 0} where
   pending_none (Generate s at) mech other = absurd (other refl)
   pending_none (Apply run stores at) mech other = absurd (other refl)
   pending_none (Wrap w) mech other = absurd (other refl)
+  pending_none (Announce at) mech other = absurd (other refl)
+  pending_none (Enter owner) mech other = absurd (other refl)
+  pending_none Drive mech other = absurd (other refl)
+  pending_none (Help drives help) mech other = absurd (other refl)
+  pending_none Collect mech other = absurd (other refl)
   pending_none (Value reference) mech other = absurd (other refl)
   pending_none (End reply) mech other = absurd (other refl)
 
@@ -83,6 +98,11 @@ module _ {S W : Type 0} where
     kind_of (Generate s at) mech words runs leaves inside room = quiet (Generate s at) mech words refl refl refl refl refl (leaves refl)
     kind_of (Apply run stores at) mech words runs leaves inside room = quiet (Apply run stores at) mech words refl refl refl refl refl (leaves refl)
     kind_of (Wrap w) mech words runs leaves inside room = quiet (Wrap w) mech words refl refl refl refl refl (leaves refl)
+    kind_of (Announce at) mech words runs leaves inside room = quiet (Announce at) mech words refl refl refl refl refl (leaves refl)
+    kind_of (Enter owner) mech words runs leaves inside room = quiet (Enter owner) mech words refl refl refl refl refl (leaves refl)
+    kind_of Drive mech words runs leaves inside room = quiet Drive mech words refl refl refl refl refl (leaves refl)
+    kind_of (Help drives help) mech words runs leaves inside room = quiet (Help drives help) mech words refl refl refl refl refl (leaves refl)
+    kind_of Collect mech words runs leaves inside room = quiet Collect mech words refl refl refl refl refl (leaves refl)
     kind_of (Value reference) mech words runs leaves inside room = quiet (Value reference) mech words refl refl refl refl refl (leaves refl)
     kind_of (End reply) mech words runs leaves inside room =
         returns reply refl refl (ap (λ tick. receipt_of mech reply tick ∷ []) (add_tells 0 1 words)) refl (drawn words inside room)

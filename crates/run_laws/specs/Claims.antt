@@ -1,11 +1,15 @@
 -- The claim counter, and the blocks that were claimed.
-use Rattle.std.specs.Prelude.{◌≡◌, ℕ, ◌+◌, ◌<◌, ◌≤◌, nat_lt, if◌then◌else◌, Bool, true, false, List, [], ◌∷◌, ◌++◌, slice_get, slice_index, Option, Some, None, All, AllPairs, Contains}
+use Rattle.std.specs.Prelude.{◌≡◌, ℕ, ◌+◌, ◌<◌, ◌≤◌, ◌&&◌, nat_lt, if◌then◌else◌, Bool, true, false, List, [], ◌∷◌, ◌++◌, slice_get, slice_index, Option, Some, None, All, AllPairs, Contains}
 use Rattle.lin_report.specs.declared.calls.Reply.TheVariants.{Exhausted}
 use Rattle.node_arena.specs.declared.places.TheConstants.{CLAIMS}
 use Rattle.normal_traits.specs.NormalForm.{NormalForm}
 use Rattle.fast_slow_engine.specs.declared.phases.Phase.{Phase}
-use Rattle.fast_slow_engine.specs.declared.phases.Phase.TheVariants.{Generate, End}
+use Rattle.fast_slow_engine.specs.declared.phases.Phase.TheVariants.{Generate, Help, End}
 use Rattle.fast_slow_engine.specs.declared.phases.Generating.TheVariants.{LookForBlock, Claim}
+use Rattle.fast_slow_engine.specs.declared.help.Helping.{Helping}
+use Rattle.fast_slow_engine.specs.declared.help.Helping.TheVariants.{Known}
+use Rattle.fast_slow_engine.specs.declared.help.Work.{Work}
+use Rattle.fast_slow_engine.specs.declared.help.Work.TheVariants as work
 use Rattle.fast_slow_engine.specs.declared.setup.Setup.{Setup}
 use Rattle.fast_slow_engine.specs.Mechs.{Mech}
 use Rattle.fast_slow_engine.specs.PhaseTable.{mech_request}
@@ -13,21 +17,54 @@ use Rattle.fast_slow_engine.specs.Runs.{Move, RunState, AreMoves, begun, run_of}
 use Rattle.run_laws.specs.Seats.{EachMech}
 use Rattle.run_laws.specs.Ticks.{LeavesWord}
 
--- whether the next step claims a block
+-- whether the next step of a helper claims a block for the head's call; the block comes into the helper's own hand
+abbrev pub work_claims : {S W : Type 0} → Work S W → Bool
+work_claims (work.Generate op search Claim) = true
+work_claims _ = false
+
+abbrev pub helping_claims : {S W : Type 0} → Helping S W → Bool
+helping_claims (Known word does) = work_claims does
+helping_claims _ = false
+
+-- whether the next step claims a block, for the own call or for that of a head
 abbrev pub claims_block : {S W : Type 0} → Phase S W → Bool
 claims_block (Generate search Claim) = true
+claims_block (Help drives help) = helping_claims help.at
 claims_block _ = false
 
--- whether the next step asks for a block: it looks at the counter, or claims
+-- whether the next step of a helper asks for a block: it looks at the counter, or claims
+abbrev pub work_asks : {S W : Type 0} → Work S W → Bool
+work_asks (work.Generate op search LookForBlock) = true
+work_asks (work.Generate op search Claim) = true
+work_asks _ = false
+
+abbrev pub helping_asks : {S W : Type 0} → Helping S W → Bool
+helping_asks (Known word does) = work_asks does
+helping_asks _ = false
+
+-- whether the next step asks for a block, for the own call or for that of a head
 abbrev pub asks_for_block : {S W : Type 0} → Phase S W → Bool
 asks_for_block (Generate search LookForBlock) = true
 asks_for_block (Generate search Claim) = true
+asks_for_block (Help drives help) = helping_asks help.at
 asks_for_block _ = false
+
+-- the word to which a helper exchanges the record of the head next, if it does
+abbrev pub work_tells : {S W : Type 0} → Work S W → Option ℕ
+work_tells (work.Advance to) = Some to
+work_tells _ = None
+
+abbrev pub helping_tells : {S W : Type 0} → Helping S W → Option ℕ
+helping_tells (Known word does) = work_tells does
+helping_tells _ = None
+
+abbrev pub tells_record : {S W : Type 0} → Phase S W → Option ℕ
+tells_record (Help drives help) = helping_tells help.at
+tells_record _ = None
 
 -- the block that a step claims where it finds the counter at this number
 abbrev pub claimed_in : {S W : Type 0} → Phase S W → ℕ → ℕ → List ℕ
-claimed_in (Generate search Claim) counter cap = if nat_lt counter cap then (counter + 1) ∷ [] else []
-claimed_in _ counter cap = []
+claimed_in phase counter cap = if claims_block phase && nat_lt counter cap then (counter + 1) ∷ [] else []
 
 abbrev pub claimed_by : {S W : Type 0} → Option (Mech S W) → Move → RunState S W → List ℕ
 claimed_by None move state = []
@@ -82,3 +119,11 @@ module _ {S W : Type 0} (form : NormalForm S W) where
       (setup : Setup) (older : List Move) (move : Move) (before after : Mech S W) → AreMoves form setup (move ∷ older)
       → slice_get (run_of form setup older).mechs move.seat ≡ Some before → slice_get (run_of form setup (move ∷ older)).mechs move.seat ≡ Some after
       → asks_for_block before.phase ≡ true → after.phase ≡ End Exhausted → setup.cap ≤ slice_index (run_of form setup older).words CLAIMS
+
+  -- a helper that asks for a block, and goes on to an exchange of the record and not to fill one, has seen that none
+  -- is left; so where it asked, it completes a call with Exhausted on this ground alone
+  abbrev pub HelperSaw : Type 0
+  HelperSaw =
+      (setup : Setup) (older : List Move) (move : Move) (before after : Mech S W) (to : ℕ) → AreMoves form setup (move ∷ older)
+      → slice_get (run_of form setup older).mechs move.seat ≡ Some before → slice_get (run_of form setup (move ∷ older)).mechs move.seat ≡ Some after
+      → asks_for_block before.phase ≡ true → tells_record after.phase ≡ Some to → setup.cap ≤ slice_index (run_of form setup older).words CLAIMS

@@ -1,5 +1,5 @@
 //! Each block is claimed once.
-ghost use Rattle.run_laws.specs.Claims.{ClaimsHold, ClaimsRise, ExhaustedSaw};
+ghost use Rattle.run_laws.specs.Claims.{ClaimsHold, ClaimsRise, ExhaustedSaw, HelperSaw};
 
 use normal_traits::Normalized;
 
@@ -18,4 +18,10 @@ pub fn claims_rise<C: Normalized>()
 /// A call that ends with Exhausted where it asks for a block has seen the claim counter at or above cap.
 pub fn exhausted_saw<C: Normalized>()
     ensures { ExhaustedSaw C.form }
+{}
+
+/// A helper that asks for a block and goes on to an exchange of the record, and so to Exhausted, has seen the claim
+/// counter at or above cap.
+pub fn helper_saw<C: Normalized>()
+    ensures { HelperSaw C.form }
 {}
