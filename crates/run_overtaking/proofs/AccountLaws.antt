@@ -1,0 +1,110 @@
+-- The laws of overtaking.
+use Rattle.std.proofs.Common.{◌≡◌, ◌∙◌, refl, sym, ap, subst, ℕ, ◌<◌, ◌≤◌, true, false, List, Some, None, arith}
+use Rattle.std.specs.Prelude.{◌==◌, ◌&&◌}
+use Rattle.word_fields.specs.Records.{record_phase, record_number}
+use Rattle.word_fields.specs.Seats.{queue_seats}
+use Rattle.normal_traits.specs.NormalForm.{NormalForm}
+use Rattle.help_queue.specs.Gathers.{is_open, leads}
+use Rattle.help_queue_laws.specs.Ghosts.{Ghosts}
+use Rattle.help_queue_laws.specs.Runs.{queue_in, record_in}
+use Rattle.help_queue_laws.proofs.Scenes.{scene_of}
+use Rattle.help_queue_laws.proofs.Results.{seat_word}
+use Rattle.fast_slow_engine.specs.declared.phases.Phase.{Phase}
+use Rattle.fast_slow_engine.specs.declared.phases.Phase.TheVariants as phase
+use Rattle.fast_slow_engine.specs.declared.help.Helping.{Helping}
+use Rattle.fast_slow_engine.specs.declared.help.Helping.TheVariants.{Record, Known, Remove}
+use Rattle.fast_slow_engine.specs.Runs.{run_of}
+use Rattle.help_queue_laws.proofs.Knowledge.{PhaseFacts}
+use Rattle.run_queue.specs.QueueViews.{phase_view, helping_view, next_number}
+use Rattle.run_queue.specs.QueueGhosts.{queue_ghosts}
+use Rattle.run_queue.proofs.Runs.RunMoves.{runs_queued}
+use Rattle.run_overtaking.specs.Counts.{Account, counts_of, held_back, position}
+use Rattle.run_overtaking.specs.Laws.{AccountsHold, FewReturns, KnownHold, KnowsHelping, KnowsSinceLook}
+use Rattle.std.specs.Prelude.{if◌then◌else◌}
+use Rattle.std.proofs.Common.{get_or, inl, inr}
+use Rattle.std.proofs.lemmas.Bool.{cases_Bool, cond-true, cond-false, eq-eqb}
+use Rattle.std.proofs.lemmas.Option.{slice_get-get_or}
+use Rattle.fast_slow_engine.specs.PhaseTable.{mech_new}
+use Rattle.run_overtaking.proofs.Sums.{sum_bound}
+use Rattle.run_overtaking.proofs.Heads.{HeadFacts, LookFacts, known_facts}
+use Rattle.run_overtaking.proofs.Accounts.{runs_counted, inside_of}
+
+pub record_is : (seats : ℕ) → seats ≤ 8 → (words : List ℕ) (ghosts : Ghosts) (s : ℕ) → s < seats → (scene_of words ghosts).records s ≡ record_in words s
+record_is seats few words ghosts s real = seat_word s (record_in words s) (omega (arith, real, few))
+
+module _ {S W : Type 0} (seats : ℕ) (few : seats ≤ 8) (words : List ℕ) (ghosts : Ghosts) (i number n : ℕ) where
+  -- the records of a scene are those of the words where a seat is helped
+  held_same : (p : Phase S W) → PhaseFacts (scene_of words ghosts) seats i number (phase_view p) → held_back (scene_of words ghosts).queue (scene_of words ghosts).records n p ≡ held_back (queue_in words) (record_in words) n p
+  held_same phase.Idle h = refl
+  held_same phase.Begin h = refl
+  held_same phase.Look h = refl
+  held_same (phase.Generate s step) h = refl
+  held_same (phase.Apply run stores step) h = refl
+  held_same (phase.Wrap wrap) h = refl
+  held_same (phase.Announce step) h = refl
+  held_same (phase.Enter owner) h = refl
+  held_same phase.Drive h = refl
+  held_same (phase.Help true help) h = refl
+  held_same (phase.Help false help) h = ap (λ w. leads (queue_in words) help.head && (record_number w == n)) (record_is seats few words ghosts help.head h.0)
+  held_same phase.Collect h = refl
+  held_same (phase.Value reference) h = refl
+  held_same (phase.End reply) h = refl
+
+  known_at : (s : ℕ) (at' : Helping S W) → HeadFacts (scene_of words ghosts) n s (helping_view at') → KnowsHelping n (record_number ((scene_of words ghosts).records s)) at'
+  known_at s (Record None) h = h
+  known_at s (Record (Some k)) h = h
+  known_at s (Known word does) h = known_facts (scene_of words ghosts) n s word does h
+  known_at s (Remove removal) h = (h.0, h.1)
+
+  known_in : (p : Phase S W) → PhaseFacts (scene_of words ghosts) seats i number (phase_view p) → LookFacts (scene_of words ghosts) n (phase_view p) → KnowsSinceLook words n p
+  known_in phase.Idle f h = tt
+  known_in phase.Begin f h = tt
+  known_in phase.Look f h = tt
+  known_in (phase.Generate s step) f h = tt
+  known_in (phase.Apply run stores step) f h = tt
+  known_in (phase.Wrap wrap) f h = tt
+  known_in (phase.Announce step) f h = tt
+  known_in (phase.Enter owner) f h = tt
+  known_in phase.Drive f h = tt
+  known_in (phase.Help true help) f h = tt
+  known_in (phase.Help false help) f h = subst (λ w. KnowsHelping n (record_number w) help.at) (record_is seats few words ghosts help.head f.0) (known_at help.head help.at h)
+  known_in phase.Collect f h = tt
+  known_in (phase.Value reference) f h = tt
+  known_in (phase.End reply) f h = tt
+
+module _ {S W : Type 0} (form : NormalForm S W) where
+  pub known_hold : KnownHold form
+  known_hold setup moves are keeps u mech found =
+      let q = runs_queued form setup moves are keeps in
+      let c = runs_counted form setup moves are keeps in
+      known_in setup.seats setup.few_seats (run_of form setup moves).words (queue_ghosts form setup moves) u (next_number mech.phase mech.number) ((counts_of form setup moves).looked u) mech.phase (q.knows u mech found) (c.looked u mech found)
+
+  pub accounts_hold : AccountsHold form
+  accounts_hold setup moves are keeps x u mech found waits =
+      let q = runs_queued form setup moves are keeps in
+      let c = runs_counted form setup moves are keeps in
+      let words = (run_of form setup moves).words in
+      let ghosts = queue_ghosts form setup moves in
+      let counts = counts_of form setup moves in
+      let inside = inside_of (scene_of words ghosts) setup.seats c.beyond x waits.published in
+      let same = record_is setup.seats setup.few_seats words ghosts x inside in
+      subst (Account setup.seats (counts.returned x u) (position x (queue_seats (queue_in words)))) (held_same setup.seats setup.few_seats words ghosts u (next_number mech.phase mech.number) (counts.looked u) mech.phase (q.knows u mech found))
+      (c.accounts x u mech found waits.published (ap (λ w. is_open (record_phase w)) same ∙ waits.incomplete))
+
+  pub few_returns : FewReturns form
+  few_returns setup moves are keeps x waits =
+      let q = runs_queued form setup moves are keeps in
+      let c = runs_counted form setup moves are keeps in
+      let state = run_of form setup moves in
+      let returned = (counts_of form setup moves).returned x in
+      let inside = inside_of (scene_of state.words (queue_ghosts form setup moves)) setup.seats c.beyond x waits.published in
+      sum_bound setup.seats x (λ u. if u == x then 0 else returned u) inside (cond-true (x == x) 0 (returned x) (eq-eqb x x refl))
+      (λ u less. elim (cases_Bool (u == x)) [
+        | inl same ↦ (let e : (if u == x then 0 else returned u) ≡ 0 = cond-true (u == x) 0 (returned u) same in omega (arith, e))
+        | inr other ↦ (
+            let e : (if u == x then 0 else returned u) ≡ returned u = cond-false (u == x) 0 (returned u) other in
+            let mech = mech_new u setup in
+            let at = slice_get-get_or state.mechs u mech (subst (λ n. u < n) (sym q.count) less) in
+            let l = (accounts_hold setup moves are keeps x u (get_or state.mechs u mech) at waits).loose in
+            omega (arith, e, l))
+      ])

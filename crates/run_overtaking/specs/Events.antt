@@ -1,0 +1,50 @@
+-- The events of a run, of all four kinds: those of the words are read off the words before and after a move.
+use Rattle.std.specs.Prelude.{ℕ, ◌*◌, ◌-◌, ◌≤◌, ◌&&◌, not, if◌then◌else◌, List, [], ◌∷◌, ◌++◌, slice_get, Option, Some, None}
+use Rattle.std.specs.Option.{option_to_list}
+use Rattle.lin_report.specs.declared.events.Event.{Event}
+use Rattle.step_memory.specs.Step.{words_after}
+use Rattle.word_fields.specs.Records.{record_phase, record_number}
+use Rattle.word_fields.specs.Seats.{queue_seats}
+use Rattle.normal_traits.specs.NormalForm.{NormalForm}
+use Rattle.help_queue.specs.Gathers.{holds, is_open}
+use Rattle.help_queue_laws.specs.Runs.{queue_in, record_in}
+use Rattle.fast_slow_engine.specs.declared.setup.Setup.{Setup}
+use Rattle.fast_slow_engine.specs.Mechs.{Mech}
+use Rattle.fast_slow_engine.specs.PhaseTable.{mech_event, mech_request}
+use Rattle.fast_slow_engine.specs.Runs.{Move, RunState, AreMoves, begun, run_of}
+use Rattle.overtaking_law.specs.Order.{publication, completion}
+use Rattle.overtaking_law.specs.Overtaking.{overtaken}
+use Rattle.run_queue.specs.Premises.{KeepsQueue}
+
+-- the seats that enter the queue word, in its order
+abbrev pub published : ℕ → (ℕ → ℕ) → List ℕ → List Event
+published queue records [] = []
+published queue records (t ∷ seats) = if holds queue t then published queue records seats else publication t (record_number (records t)) ∷ published queue records seats
+
+-- the seats whose calls are completed
+abbrev pub completed : (ℕ → ℕ) → (ℕ → ℕ) → List ℕ → List Event
+completed records records' [] = []
+completed records records' (t ∷ seats) =
+    if is_open (record_phase (records t)) && not (is_open (record_phase (records' t))) then completion t (record_number (records t)) ∷ completed records records' seats
+    else completed records records' seats
+
+abbrev pub eight_seats : List ℕ
+eight_seats = 0 ∷ 1 ∷ 2 ∷ 3 ∷ 4 ∷ 5 ∷ 6 ∷ 7 ∷ []
+
+-- the events of a step: no step has events of two kinds
+abbrev pub step_events : {S W : Type 0} → Mech S W → List ℕ → List ℕ → List Event
+step_events mech words words' =
+    completed (record_in words) (record_in words') eight_seats ++ (option_to_list (mech_event mech) ++ published (queue_in words) (record_in words') (queue_seats (queue_in words')))
+
+module _ {S W : Type 0} (form : NormalForm S W) where
+  abbrev pub events_moved : Option (Mech S W) → Move → RunState S W → List Event
+  events_moved None move state = []
+  events_moved (Some mech) move state = step_events (begun move.begins mech) state.words (words_after (mech_request form (begun move.begins mech)) state.words)
+
+  abbrev pub events_of : Setup → List Move → List Event
+  events_of setup [] = []
+  events_of setup (move ∷ older) = let state = run_of form setup older in events_of setup older ++ events_moved (slice_get state.mechs move.seat) move state
+
+  -- no call is overtaken more often than P (P - 1) times
+  abbrev pub OvertakenBounded : Type 0
+  OvertakenBounded = (setup : Setup) (moves : List Move) → AreMoves form setup moves → KeepsQueue form setup moves → (x number : ℕ) → overtaken (events_of setup moves) x number ≤ setup.seats * (setup.seats - 1)

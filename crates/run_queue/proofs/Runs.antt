@@ -1,0 +1,5 @@
+-- The steps put together: every run, and every seat of it.
+pub mod Alone
+pub mod Openings
+pub mod RunMoves
+pub mod SeatViews
