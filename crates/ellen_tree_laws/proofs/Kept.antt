@@ -34,7 +34,7 @@ use Rattle.ellen_tree_laws.proofs.Spares.{Spares, spares}
 module _ (world after : World) (shape : Shape world) (l : Later world after) (s : Spares world after) (list : Listed) where
   -- ---- flags, notes, changes
 
-  pub flagged_later : Flagged world list → Flagged after list
+  unfoldable pub flagged_later : Flagged world list → Flagged after list
   flagged_later flagged = record { node = flagged.node; from = flagged.from; entries = flagged.entries; won = l.journal _ flagged.won }
 
   pub noted_later : Flagged world list → (note : ℕ) → note < 5 → noted after list note ≡ noted world list note

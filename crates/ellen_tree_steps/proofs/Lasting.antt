@@ -100,7 +100,7 @@ module _ (world after : World) (shape : Shape world) (l : Later world after) whe
         ap after.words at ∙ own_later (22 + field) (omega arith) (omega (arith, small)) (inr (omega arith)) ∙ ap world.words (sym at)
 
     -- a change that was made
-    is_made_later : (first : ℕ) → first < 4 → (m : IsMade world list first) → is_node world.changes m.node ≡ true → IsMade after list first
+    pub is_made_later : (first : ℕ) → first < 4 → (m : IsMade world list first) → is_node world.changes m.node ≡ true → IsMade after list first
     is_made_later first small m is = record {
       node = m.node;
       left = m.left;

@@ -1,2 +1,5 @@
 pub mod Exchanges
 pub mod Lasting
+pub mod Made
+pub mod Asides
+pub mod Stored
