@@ -3,3 +3,5 @@ pub mod Lasting
 pub mod Made
 pub mod Asides
 pub mod Stored
+pub mod Journals
+pub mod Assembled
