@@ -84,7 +84,7 @@ module _ (world after : World) (shape : Shape world) (l : Later world after) whe
   -- ---- lists that set a flag
 
   module _ (s : Spares world after) (list : Listed) (flagged : Flagged world list) where
-    note_later : (note : ℕ) → note < 5 → noted after list note ≡ noted world list note
+    pub note_later : (note : ℕ) → note < 5 → noted after list note ≡ noted world list note
     note_later note small = noted_later world after shape l s list flagged note small
 
     -- the fields of the list's block

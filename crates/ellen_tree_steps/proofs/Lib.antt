@@ -5,3 +5,5 @@ pub mod Asides
 pub mod Stored
 pub mod Journals
 pub mod Assembled
+pub mod Waiting
+pub mod KeptQuiet
