@@ -7,3 +7,5 @@ pub mod Journals
 pub mod Assembled
 pub mod Waiting
 pub mod KeptQuiet
+pub mod UpdateWords
+pub mod KeptEnd
