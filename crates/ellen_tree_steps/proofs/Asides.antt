@@ -37,7 +37,7 @@ way_node world shape key node (below above w e) = by_name ((shape.stored above (
 
 
 -- an order is one of its nodes' keys and children alone
-ordered_same : (key key' : ℕ → ℕ) (child child' : ℕ → Bool → ℕ) (on' : ℕ → Bool) (low high : ℕ → ℕ) → Ordered key child on' low high → ((r : ℕ) → on' r ≡ true → key' r ≡ key r)
+pub ordered_same : (key key' : ℕ → ℕ) (child child' : ℕ → Bool → ℕ) (on' : ℕ → Bool) (low high : ℕ → ℕ) → Ordered key child on' low high → ((r : ℕ) → on' r ≡ true → key' r ≡ key r)
     → ((r : ℕ) (left : Bool) → on' r ≡ true → is_internal r ≡ true → child' r left ≡ child r left) → Ordered key' child' on' low high
 ordered_same key key' child child' on' low high o ks cs = record {
   root = o.root;

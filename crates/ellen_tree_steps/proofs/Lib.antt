@@ -9,3 +9,7 @@ pub mod Waiting
 pub mod KeptQuiet
 pub mod UpdateWords
 pub mod KeptEnd
+pub mod KeptMark
+pub mod KeptSet
+pub mod MapSteps
+pub mod ChildWords

@@ -47,7 +47,7 @@ same_flag world list a b =
     let one : flags_at a.node a.from list ≡ flags_at b.node b.from list = ap (head_or (flags_at a.node a.from list)) (sym a.entries ∙ b.entries) in
     (update_same a.node b.node (ap (λ (e : Entry). e.target) one), ap (λ (e : Entry). e.from) one)
 
-flag_states : (op : Op) → (flag_state op ≡ INSERTING) ⊎ (flag_state op ≡ DELETING)
+pub flag_states : (op : Op) → (flag_state op ≡ INSERTING) ⊎ (flag_state op ≡ DELETING)
 flag_states op = by_set (is_set op)
   where
     by_set : (b : Bool) → ((if b then INSERTING else DELETING) ≡ INSERTING) ⊎ ((if b then INSERTING else DELETING) ≡ DELETING)
