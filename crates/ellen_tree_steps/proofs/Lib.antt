@@ -13,3 +13,5 @@ pub mod KeptMark
 pub mod KeptSet
 pub mod MapSteps
 pub mod ChildWords
+pub mod ChildForm
+pub mod LinkForm
