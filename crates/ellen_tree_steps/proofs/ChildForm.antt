@@ -27,7 +27,7 @@ pub kid_of : (world : World) (node : ℕ) (left : Bool) → kids world (inner no
 kid_of world node left = kid_in world (inner node) left (inner_is node) ∙ ap (λ b. child_of world.words b left) (inner_block node)
 
 module _ (world after : World) (g : ℕ) (side : Bool) (to : ℕ) (words : (at : ℕ) → after.words at ≡ with_word (child_at g side) to world.words at) where
-  other : (at : ℕ) → at ≢ child_at g side → after.words at ≡ world.words at
+  pub other : (at : ℕ) → at ≢ child_at g side → after.words at ≡ world.words at
   other at differs = words at ∙ with_other (child_at g side) to world.words at differs
 
   -- ---- keys and values of leaves are none of the words that are exchanged

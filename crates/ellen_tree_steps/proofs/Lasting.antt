@@ -88,7 +88,7 @@ module _ (world after : World) (shape : Shape world) (l : Later world after) whe
     note_later note small = noted_later world after shape l s list flagged note small
 
     -- the fields of the list's block
-    own_later : (field : ℕ) → 12 ≤ field → field < 32 → (field < 19) ⊎ (21 < field) → after.words (block_place list.block field) ≡ world.words (block_place list.block field)
+    pub own_later : (field : ℕ) → 12 ≤ field → field < 32 → (field < 19) ⊎ (21 < field) → after.words (block_place list.block field) ≡ world.words (block_place list.block field)
     own_later field high small far = l.plain (block_place list.block field) (field_word world list.block field (shape.flaggers list flagged).used high small) (plain list.block field small far)
 
     own_leaf : (node field : ℕ) → (node ≡ 1) ⊎ (node ≡ 3) → field < 2 → after.words (node_place (reference_to list.block node) field) ≡ world.words (node_place (reference_to list.block node) field)

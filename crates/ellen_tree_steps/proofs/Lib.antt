@@ -15,3 +15,5 @@ pub mod MapSteps
 pub mod ChildWords
 pub mod ChildForm
 pub mod LinkForm
+pub mod LinkOrder
+pub mod KeptLink
