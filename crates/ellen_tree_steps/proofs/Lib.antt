@@ -17,3 +17,5 @@ pub mod ChildForm
 pub mod LinkForm
 pub mod LinkOrder
 pub mod KeptLink
+pub mod SwingForm
+pub mod KeptSwing
