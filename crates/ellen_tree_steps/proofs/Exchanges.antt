@@ -79,7 +79,7 @@ module _ (world : World) (entry : Entry) where
 module _ (world : World) (shape : Shape world) (list : Listed) where
   -- ---- an insertion
 
-  link_effect : (flag : Flag) (at from : ℕ) (after : World) (seen : Seen) → FollowsInsert (insert.Link flag at from) world list → Requested tree_form (insert_asked (insert.Link flag at from)) world after seen → Effect world after
+  pub link_effect : (flag : Flag) (at from : ℕ) (after : World) (seen : Seen) → FollowsInsert (insert.Link flag at from) world list → Requested tree_form (insert_asked (insert.Link flag at from)) world after seen → Effect world after
   link_effect flag at from after seen f (lost at' from' to differs) = quiet (same_quiet world)
   link_effect flag at from after seen f (won at' from' to stood raised) =
       let flagged = f.0.0.flagged in
@@ -107,7 +107,7 @@ module _ (world : World) (shape : Shape world) (list : Listed) where
 
   -- ---- a swing
 
-  swing_effect : (flag : Flag) (stays at from : ℕ) (after : World) (seen : Seen) → FollowsDelete (delete.Swing flag stays at from) world list → Requested tree_form (delete_asked (delete.Swing flag stays at from)) world after seen → Effect world after
+  pub swing_effect : (flag : Flag) (stays at from : ℕ) (after : World) (seen : Seen) → FollowsDelete (delete.Swing flag stays at from) world list → Requested tree_form (delete_asked (delete.Swing flag stays at from)) world after seen → Effect world after
   swing_effect flag stays at from after seen f (lost at' from' to differs) = quiet (same_quiet world)
   swing_effect flag stays at from after seen f (won at' from' to stood raised) =
       let flagged = f.0.0.flagged in
@@ -154,7 +154,7 @@ module _ (world : World) (shape : Shape world) (list : Listed) where
   ])
   mark_waits flagged rem r stood (inr (inr (inr given))) = absurd (omega (arith, given.passed, ap versioned_version stood))
 
-  mark_effect : (flag : Flag) (at from : ℕ) (after : World) (seen : Seen) → FollowsDelete (delete.Mark flag at from) world list → Requested tree_form (delete_asked (delete.Mark flag at from)) world after seen → Effect world after
+  pub mark_effect : (flag : Flag) (at from : ℕ) (after : World) (seen : Seen) → FollowsDelete (delete.Mark flag at from) world list → Requested tree_form (delete_asked (delete.Mark flag at from)) world after seen → Effect world after
   mark_effect flag at from after seen f (lost at' from' to differs) = quiet (same_quiet world)
   mark_effect flag at from after seen f (won at' from' to stood raised) =
       let flagged = f.0.0.flagged in
@@ -181,7 +181,7 @@ module _ (world : World) (shape : Shape world) (list : Listed) where
 
   -- ---- the end of a flag
 
-  end_effect : (flag : Flag) (after : World) (seen : Seen) → IsFlag world list flag → Changed world list ⊎ IsGone world list → Requested tree_form (delete_asked (delete.Unflag flag true)) world after seen → Effect world after
+  pub end_effect : (flag : Flag) (after : World) (seen : Seen) → IsFlag world list flag → Changed world list ⊎ IsGone world list → Requested tree_form (delete_asked (delete.Unflag flag true)) world after seen → Effect world after
   end_effect flag after seen is done (lost at' from' to differs) = quiet (same_quiet world)
   end_effect flag after seen is done (won at' from' to stood raised) =
       let flagged = is.flagged in

@@ -19,3 +19,5 @@ pub mod LinkOrder
 pub mod KeptLink
 pub mod SwingForm
 pub mod KeptSwing
+pub mod Setting
+pub mod Steps
