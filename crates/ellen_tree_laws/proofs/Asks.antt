@@ -68,10 +68,10 @@ update_versioned node = or_right (is_child (update_at node)) (is_update (update_
 -- ---- helps
 
 module _ (world : World) (shape : Shape world) where
-  node_word : (node field : ℕ) → is_node world.changes node ≡ true → 12 ≤ field → field < 32 → is_word world (block_place node field) ≡ true
+  pub node_word : (node field : ℕ) → is_node world.changes node ≡ true → 12 ≤ field → field < 32 → is_word world (block_place node field) ≡ true
   node_word node field is high small = field_word world node field (shape.stored node is).used high small
 
-  child_word : (node : ℕ) (left : Bool) → is_node world.changes node ≡ true → is_word world (child_at node left) ≡ true
+  pub child_word : (node : ℕ) (left : Bool) → is_node world.changes node ≡ true → is_word world (child_at node left) ≡ true
   child_word node left is = node_word node (child_field left) is (field_high left) (field_small left)
 
   module _ (list : Listed) where
@@ -162,7 +162,7 @@ module _ (world : World) (shape : Shape world) where
 
   -- ---- searches
 
-  leaf_word : (leaf field : ℕ) → field < 2 → IsLeaf world.changes leaf → is_word world (node_place leaf field) ≡ true
+  pub leaf_word : (leaf field : ℕ) → field < 2 → IsLeaf world.changes leaf → is_word world (node_place leaf field) ≡ true
   leaf_word leaf field small is = by_name is.names
     where
       by_name : (leaf ≡ reference_to is.block 1) ⊎ (leaf ≡ reference_to is.block 3) → is_word world (node_place leaf field) ≡ true

@@ -34,7 +34,7 @@ use Rattle.ellen_tree_laws.proofs.Spares.{Spares, spares}
 module _ (world after : World) (shape : Shape world) (l : Later world after) (s : Spares world after) (list : Listed) where
   -- ---- flags, notes, changes
 
-  pub flagged_later : Flagged world list → Flagged after list
+  unfoldable pub flagged_later : Flagged world list → Flagged after list
   flagged_later flagged = record { node = flagged.node; from = flagged.from; entries = flagged.entries; won = l.journal _ flagged.won }
 
   pub noted_later : Flagged world list → (note : ℕ) → note < 5 → noted after list note ≡ noted world list note
@@ -104,7 +104,7 @@ module _ (world after : World) (shape : Shape world) (l : Later world after) (s 
       child = will.child ∙ sym (child_later (not (is_left world.words list.call.op.key gone)) will.marked.marked) ∙ ap (λ b. child_of after.words gone (not b)) (sym left_later);
     }
 
-  was_later : Flagged world list → is_rem list.call.op ≡ true → (gone : ℕ) → WasMarked world list gone → WasMarked after list gone
+  pub was_later : Flagged world list → is_rem list.call.op ≡ true → (gone : ℕ) → WasMarked world list gone → WasMarked after list gone
   was_later flagged rem gone was = record { update = update_later flagged rem gone was.update; marked = marked_later flagged rem gone was.update was.marked }
 
   pub gone_later : Flagged world list → IsGone world list → IsGone after list

@@ -39,7 +39,7 @@ set_yes op pairs set absent =
 
 module _ (world : World) (list : Listed) (shape : Shape world) (flagged : Flagged world list) (set : is_set list.call.op ≡ true) where
   -- while it waits, the map doesn't hold its key
-  link_yes : (i : Inserts world list flagged.node flagged.from) → InsertWaits world list flagged.node flagged.from i.left → (map_apply list.call.op (held_after map_object world.changes)).1 ≡ Yes
+  pub link_yes : (i : Inserts world list flagged.node flagged.from) → InsertWaits world list flagged.node flagged.from i.left → (map_apply list.call.op (held_after map_object world.changes)).1 ≡ Yes
   link_yes i waits =
       let to_leaf : way world.words list.call.op.key flagged.node ≡ versioned_value (noted world list 1) = ap (λ b. child_of world.words flagged.node b) i.side ∙ ap versioned_value waits.child in
       let leaf : IsLeaf world.changes (way world.words list.call.op.key flagged.node) = subst (IsLeaf world.changes) (sym to_leaf) i.leaf in
@@ -55,7 +55,7 @@ module _ (world : World) (list : Listed) (shape : Shape world) (flagged : Flagge
   link_lost i at place differs (inr changed) = changed
 
   -- one that wins finds that it waits
-  link_waits : (i : Inserts world list flagged.node flagged.from) → (at : ℕ) → at ≡ noted world list 0 → world.words at ≡ noted world list 1 → InsertWaits world list flagged.node flagged.from i.left ⊎ Changed world list → InsertWaits world list flagged.node flagged.from i.left
+  pub link_waits : (i : Inserts world list flagged.node flagged.from) → (at : ℕ) → at ≡ noted world list 0 → world.words at ≡ noted world list 1 → InsertWaits world list flagged.node flagged.from i.left ⊎ Changed world list → InsertWaits world list flagged.node flagged.from i.left
   link_waits i at place stands (inl waits) = waits
   link_waits i at place stands (inr changed) = absurd (elim (shape.made (record { list = list; reply = Yes }) changed) [
     | inl made ↦ omega (arith, made.1.passed, ap versioned_version (ap world.words (sym made.1.place ∙ sym place) ∙ stands))

@@ -171,7 +171,7 @@ module _ (world : World) (shape : Shape world) where
 
   -- ---- an insertion
 
-  leaf_bounds : (leaf : ℕ) → IsLeaf world.changes leaf → (world.words (leaf_key_at leaf) < TOP) × (world.words (leaf_value_at leaf) < 2 ^ 32)
+  pub leaf_bounds : (leaf : ℕ) → IsLeaf world.changes leaf → (world.words (leaf_key_at leaf) < TOP) × (world.words (leaf_value_at leaf) < 2 ^ 32)
   leaf_bounds leaf is = by_name is.names
     where
       by_name : (leaf ≡ reference_to is.block 1) ⊎ (leaf ≡ reference_to is.block 3) → (world.words (leaf_key_at leaf) < TOP) × (world.words (leaf_value_at leaf) < 2 ^ 32)

@@ -24,10 +24,10 @@ module _ (world : World) (list : Listed) (node from : ℕ) (up : IsUp world list
   pub up_value : versioned_value (world.words (update_at node)) ≡ 4 * list.block + flag_state list.call.op
   up_value = sym (value-cleared (world.words (update_at node))) ∙ ap versioned_value up ∙ flag_value list small node from
 
-  up_block : block_of (world.words (update_at node)) ≡ list.block
+  pub up_block : block_of (world.words (update_at node)) ≡ list.block
   up_block = ap (λ v. v / 4) (sym (value-cleared (world.words (update_at node))) ∙ ap versioned_value up) ∙ flag_block_is list small node from
 
-child_is : (node : ℕ) (left : Bool) → is_child (child_at node left) ≡ true
+pub child_is : (node : ℕ) (left : Bool) → is_child (child_at node left) ≡ true
 child_is node left =
     let behind : nat_le FIRST_WORDS (child_at node left) ≡ true = le-leb FIRST_WORDS (child_at node left) (block_place_behind node (child_field left)) in
     rw (behind, field_at-block_place node (child_field left) (field_small left)) (by_side left)

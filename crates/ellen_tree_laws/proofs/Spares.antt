@@ -84,7 +84,7 @@ requested_spares world after seen (Store at value) fair r = absurd fair
 requested_spares world after seen (Add at by) fair r = absurd fair
 
 -- the setting of a flag
-flag_fair : (world : World) (list : Listed) (node from : ℕ) → list.block < 2 ^ 17 → state_of from ≡ CLEAN → IsFair world (update_at node) from (flags_at node from list).to
+pub flag_fair : (world : World) (list : Listed) (node from : ℕ) → list.block < 2 ^ 17 → state_of from ≡ CLEAN → IsFair world (update_at node) from (flags_at node from list).to
 flag_fair world list node from small clean = record {
   unmarked = λ updates e. absurd (omega (arith, clean, e));
   marks = λ updates block e. absurd (flag_unmarked list.call.op (omega (arith, e, flag_value list small node from, state_below list small)));
@@ -95,7 +95,7 @@ entry_or : Entry → Option Entry → Entry
 entry_or other None = other
 entry_or other (Some entry) = entry
 
-entry_is : (list : Listed) (entry one : Entry) → list.entries ≡ one ∷ [] → slice_get list.entries 0 ≡ Some entry → one ≡ entry
+pub entry_is : (list : Listed) (entry one : Entry) → list.entries ≡ one ∷ [] → slice_get list.entries 0 ≡ Some entry → one ≡ entry
 unfolding entry_or
 entry_is list entry one is listed = ap (entry_or entry) (sym (ap (λ (es : List Entry). slice_get es 0) is) ∙ listed)
 

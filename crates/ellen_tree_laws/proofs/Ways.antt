@@ -28,7 +28,7 @@ field_low : (left : Bool) → 18 < child_field left
 field_low true = omega arith
 field_low false = omega arith
 
-field_high : (left : Bool) → child_field left < 21
+pub field_high : (left : Bool) → child_field left < 21
 field_high true = omega arith
 field_high false = omega arith
 
@@ -47,13 +47,13 @@ child_key a b l e = absurd (omega (arith, field_low l, same_field b 17 a (child_
 pub child_update : (a b : ℕ) (l : Bool) → update_at b ≢ child_at a l
 child_update a b l e = absurd (omega (arith, field_high l, same_field b 21 a (child_field l) (omega arith) (field_small l) e))
 
-inner_same : (a b : ℕ) → inner a ≡ inner b → a ≡ b
+pub inner_same : (a b : ℕ) → inner a ≡ inner b → a ≡ b
 inner_same a b e = omega (arith, e)
 
 pub inner_is : (block : ℕ) → is_internal (inner block) ≡ true
 inner_is block = eq-eqb (inner block % 4) 2 (omega arith)
 
-inner_block : (block : ℕ) → inner block / 4 ≡ block
+pub inner_block : (block : ℕ) → inner block / 4 ≡ block
 inner_block block = omega arith
 
 pub children_are : (world : World) (node : ℕ) (left : Bool) → children world (inner node) left ≡ child_of world.words node left
@@ -205,7 +205,7 @@ module _ (world after : World) (g gone : ℕ) (side leafside : Bool) (to : ℕ) 
   first_all : (changes : List Change) → first_changes (length changes) changes ≡ changes
   first_all changes = let none : length changes - length changes ≡ 0 = omega arith in ap (λ n. drop n changes) none
 
-  leaf_apart : (changes : List Change) (reference : ℕ) → IsLeaf changes reference → is_internal reference ≡ false
+  pub leaf_apart : (changes : List Change) (reference : ℕ) → IsLeaf changes reference → is_internal reference ≡ false
   leaf_apart changes reference leaf' = elim leaf'.names [
     | inl one ↦ ne_eqb (reference % 4) 2 (λ e. omega (arith, e, one))
     | inr three ↦ ne_eqb (reference % 4) 2 (λ e. omega (arith, e, three))

@@ -151,17 +151,17 @@ module _ (world : World) (list : Listed) (stop : ℕ) (shape : Shape world) wher
 
 -- ---- the flag's end
 
-with_here : (place word : ℕ) (words : ℕ → ℕ) (at : ℕ) → at ≡ place → with_word place word words at ≡ word
+pub with_here : (place word : ℕ) (words : ℕ → ℕ) (at : ℕ) → at ≡ place → with_word place word words at ≡ word
 with_here place word words at same = ap (λ b. if b then word else words at) (eq-eqb at place same)
 
-with_other : (place word : ℕ) (words : ℕ → ℕ) (at : ℕ) → at ≢ place → with_word place word words at ≡ words at
+pub with_other : (place word : ℕ) (words : ℕ → ℕ) (at : ℕ) → at ≢ place → with_word place word words at ≡ words at
 with_other place word words at differs = ap (λ b. if b then word else words at) (ne_eqb at place differs)
 
 and_off : (b : Bool) → (b && (false || false)) ≡ false
 and_off true = refl
 and_off false = refl
 
-no_child : (node : ℕ) → is_child (update_at node) ≡ false
+pub no_child : (node : ℕ) → is_child (update_at node) ≡ false
 no_child node =
     let field : field_at (update_at node) ≡ 21 = field_at-block_place node 21 (omega arith) in
     rw field (and_off (nat_le FIRST_WORDS (update_at node)))
