@@ -1,1 +1,3 @@
 pub mod KnowsKept
+pub mod Known
+pub mod Helping
