@@ -1,3 +1,5 @@
 pub mod KnowsKept
 pub mod Known
 pub mod Helping
+pub mod Passing
+pub mod Answers
