@@ -5,3 +5,5 @@ pub mod Passing
 pub mod Answers
 pub mod Leaves
 pub mod Fed
+pub mod Fitting
+pub mod Laws
