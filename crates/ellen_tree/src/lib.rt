@@ -2,9 +2,11 @@
 #![tactic(auto)]
 
 pub use ellen_tree_laws::{Passed, TreeSearch};
+pub use tree::EllenTree;
 
 mod deciding;
 pub mod offers;
 pub mod search;
+pub mod tree;
 mod words;
 pub mod wrap;

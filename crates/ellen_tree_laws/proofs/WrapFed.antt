@@ -42,7 +42,7 @@ unfolding block_place
 place_is node field small low = omega (arith, small, low)
 
 module _ (world : World) (shape : Shape world) (list : Listed) (stop : ℕ) where
-  abbrev IsWell : World → Help → Seen → Type 0
+  abbrev pub IsWell : World → Help → Seen → Type 0
   IsWell after help seen = WrappedWell tree_form after list stop (help_fed help seen).0 (wrapped_by (help_fed help seen).1)
 
   note_is : (flag : Flag) (note : ℕ) → IsFlag world list flag → world.words (note_at (flag_block flag) note) ≡ noted world list note
@@ -58,7 +58,7 @@ module _ (world : World) (shape : Shape world) (list : Listed) (stop : ℕ) wher
   gone_small : (flagged : Flagged world list) (rem : is_rem list.call.op ≡ true) → (removes world list shape flagged rem).gone < 2 ^ 17
   gone_small flagged rem = (shape.stored (removes world list shape flagged rem).gone (removes world list shape flagged rem).is).small
 
-  insert_well : (it : HelpInsert) (after : World) (seen : Seen) → FollowsInsert it world list → Requested tree_form (insert_asked it) world after seen → IsWell after (helps.Insert it) seen
+  pub insert_well : (it : HelpInsert) (after : World) (seen : Seen) → FollowsInsert it world list → Requested tree_form (insert_asked it) world after seen → IsWell after (helps.Insert it) seen
   insert_well (insert.ReadPlace flag) after seen f (loaded at') =
       let i = inserts world shape list f.0.flagged f.1 in
       (tt, ((f.0, f.1), noted_place flag 0 f.0.flagged.node (child_field i.left) f.0 i.place (node_small f.0.flagged) (field_small i.left)))
@@ -106,7 +106,7 @@ module _ (world : World) (shape : Shape world) (list : Listed) (stop : ℕ) wher
         ),
       )
 
-  delete_well : (it : HelpDelete) (after : World) (seen : Seen) → FollowsDelete it world list → Requested tree_form (delete_asked it) world after seen → IsWell after (helps.Delete it) seen
+  pub delete_well : (it : HelpDelete) (after : World) (seen : Seen) → FollowsDelete it world list → Requested tree_form (delete_asked it) world after seen → IsWell after (helps.Delete it) seen
   delete_well (delete.MarkPlace flag) after seen f (loaded at') =
       let r = removes world list shape f.0.flagged f.1 in
       (tt, ((f.0, f.1), noted_place flag 0 r.gone 21 f.0 r.update (gone_small f.0.flagged f.1) (omega arith)))

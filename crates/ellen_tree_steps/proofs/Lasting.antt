@@ -66,7 +66,7 @@ module _ (world after : World) (shape : Shape world) (l : Later world after) whe
   pub left_later : (key node : ℕ) → is_node world.changes node ≡ true → is_left after.words key node ≡ is_left world.words key node
   left_later key node is = ap (λ k. nat_lt key k) (key_later node is)
 
-  leaf_plain : (leaf field : ℕ) → field < 2 → IsLeaf world.changes leaf → is_versioned (node_place leaf field) ≡ false
+  pub leaf_plain : (leaf field : ℕ) → field < 2 → IsLeaf world.changes leaf → is_versioned (node_place leaf field) ≡ false
   leaf_plain leaf field small is = by_name is.names
     where
       by_name : (leaf ≡ reference_to is.block 1) ⊎ (leaf ≡ reference_to is.block 3) → is_versioned (node_place leaf field) ≡ false

@@ -20,13 +20,13 @@ use Rattle.ellen_tree_steps.proofs.Lasting.{note_later, leaf_later, leaf_field_l
 
 -- ---- who brought a node
 
-record IsBrought (changes : List Change) (block : ℕ) : Type 0 where
-  change : Change
-  among : Among change changes
-  set : is_set change.list.call.op ≡ true
-  block_is : change.list.block ≡ block
+pub record IsBrought (changes : List Change) (block : ℕ) : Type 0 where
+  pub change : Change
+  pub among : Among change changes
+  pub set : is_set change.list.call.op ≡ true
+  pub block_is : change.list.block ≡ block
 
-brought : (changes : List Change) (block : ℕ) → made_node changes block ≡ true → IsBrought changes block
+pub brought : (changes : List Change) (block : ℕ) → made_node changes block ≡ true → IsBrought changes block
 brought [] block is = absurd cc
 brought (change ∷ older) block is = elim (or_cases (brings change block) (made_node older block) is) [
   | inl here ↦ let parts = and_parts (is_set change.list.call.op) (change.list.block == block) here in

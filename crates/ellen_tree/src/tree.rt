@@ -1,0 +1,68 @@
+//! The tree as a structure in normalized form.
+
+use crate::offers::{may_list, offered};
+use crate::search::{asked, begun, fed};
+use crate::wrap::{begun_wrap, wrap_begun, wrap_fed};
+use ellen_tree_laws::TreeSearch;
+use lin_report::{Client, Op};
+use normal_traits::{Found, List, Normalized, Offer, Wrapped};
+use step_memory::{Request, Seen};
+use tree_help::Help;
+
+/// The tree. Its root is node 2 of block 0.
+pub struct EllenTree;
+
+impl Normalized for EllenTree {
+    ghost use Rattle.std.specs.Prelude.{refl};
+    ghost use Rattle.lin_report.specs.declared.calls.Client.{Client};
+    ghost use Rattle.ellen_tree_laws.specs.Form.{tree_form};
+    ghost use Rattle.ellen_tree.specs.ProvedLaws.{tree_laws};
+
+    type Search = TreeSearch;
+
+    type Wrap = Help;
+
+    const CLIENT: Client = Client::Tree;
+
+    ghost CLIENT = { Client.Tree };
+
+    ghost form = { tree_form };
+
+    fn needs_block(op: Op) -> bool {
+        may_list(op)
+    }
+
+    fn begin(op: Op) -> TreeSearch {
+        begun(op)
+    }
+
+    fn request(search: &TreeSearch) -> Request {
+        asked(*search)
+    }
+
+    fn feed(search: &mut TreeSearch, seen: Seen) -> Found {
+        let (after, found) = fed(*search, seen);
+        *search = after;
+        found
+    }
+
+    fn offer(search: &TreeSearch, op: Op, block: u32) -> Offer {
+        offered(*search, op, block)
+    }
+
+    fn begin_wrap(op: Op, list: &List, stop: u32) -> (Help, Wrapped) {
+        (begun_wrap(op, list), wrap_begun(op, list, stop))
+    }
+
+    fn wrap_request(wrap: &Help) -> Request {
+        wrap.request()
+    }
+
+    fn feed_wrap(wrap: &mut Help, seen: Seen) -> Wrapped {
+        wrap_fed(wrap, seen)
+    }
+
+    ghost laws = { tree_laws };
+
+    ghost named = { refl };
+}
