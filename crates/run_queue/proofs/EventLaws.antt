@@ -18,11 +18,11 @@ use Rattle.run_queue.proofs.Runs.RunMoves.{runs_queued, runs_later}
 use Rattle.run_queue.proofs.QueueLaws.{owners}
 
 -- call n of the seat has entered, or a later one was announced
-abbrev HasEntered : ℕ → ℕ → Scene → Type 0
+abbrev pub HasEntered : ℕ → ℕ → Scene → Type 0
 HasEntered t n a = (n < record_number (a.records t)) ⊎ ((record_number (a.records t) ≡ n) × (IsIn a t ⊎ IsDone a t))
 
 -- call n of the seat is completed, or a later one was announced
-abbrev HasCompleted : ℕ → ℕ → Scene → Type 0
+abbrev pub HasCompleted : ℕ → ℕ → Scene → Type 0
 HasCompleted t n a = (n < record_number (a.records t)) ⊎ ((record_number (a.records t) ≡ n) × IsDone a t)
 
 module _ (seats who t n : ℕ) (a b : Scene) (l : Later seats who a b) where
@@ -32,7 +32,7 @@ module _ (seats who t n : ℕ) (a b : Scene) (l : Later seats who a b) where
     | inr changed ↦ elim (changed.leaves t in') [ inl stays ↦ inl stays | inr gone ↦ inr (gone.0, changed.records t) ]
   ]
 
-  entered_later : HasEntered t n a → HasEntered t n b
+  pub entered_later : HasEntered t n a → HasEntered t n b
   entered_later h =
       elim (l.moves t) [
         | inl stays ↦ elim h [
@@ -60,7 +60,7 @@ module _ (seats who t n : ℕ) (a b : Scene) (l : Later seats who a b) where
         ]
       ]
 
-  completed_later : HasCompleted t n a → HasCompleted t n b
+  pub completed_later : HasCompleted t n a → HasCompleted t n b
   completed_later h =
       elim (l.moves t) [
         | inl stays ↦ elim h [
