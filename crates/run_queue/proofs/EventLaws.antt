@@ -1,4 +1,5 @@
--- A seat enters the queue word once a call, and a call is completed once.
+-- A seat enters the queue word once with a call, and a call is completed once. Both follow from what stays true of a call once
+-- it has entered or is completed, through every step that `Later` allows.
 use Rattle.std.proofs.Common.{◌≡◌, refl, ap, sym, subst, ◌∙◌, ℕ, ◌<◌, true, List, [], ◌∷◌, ◌++◌, arith, inl, inr, ◌⊎◌}
 use Rattle.word_fields.specs.Records.{record_phase, record_number}
 use Rattle.normal_traits.specs.NormalForm.{NormalForm}
@@ -76,7 +77,7 @@ module _ (seats who t n : ℕ) (a b : Scene) (l : Later seats who a b) where
         ]
       ]
 
-  -- who enters has an open record
+  -- a seat that enters has an open record
   enters_open : IsOut a t → IsIn b t → IsOpen a t
   enters_open out in' = elim l.queue [ inl same ↦ absurd (not_both (subst (λ q. holds q t ≡ true) same in') out) | inr changed ↦ changed.enters t out in' ]
 
