@@ -68,7 +68,7 @@ module _ {S W : Type 0} (form : NormalForm S W) (mech : Mech S W) (words : List 
   facts_made : (at : queue.Phase) → Facts at → PhaseFacts was seats i (made + 1) at
   facts_made at h = subst (λ n. PhaseFacts was seats i n at) number h
 
-  -- the step of the seat in the queue
+  -- the step of its seat in the world of the queue
   by_caller : (at : queue.Phase) → Facts at → Moved seats i words ghosts at (caller_request (caller_at at)) (caller_fed (caller_at at))
   by_caller at h = caller_moves seats i inside few words ghosts long sound (caller_at at) (omega (arith, some, most)) (record { seat = refl; seats' = refl; knows = facts_made at h })
 

@@ -48,7 +48,7 @@ module _ {S W : Type 0} (form : NormalForm S W) (mech : Mech S W) (words : List 
   abbrev pub Leaves : Phase S W → Type 0
   Leaves phase = LeavesQueue (request_in form phase mech) words
 
-  -- where it is the client's, it does
+  -- it does where it is the client's: the premise on the move
   abbrev pub TheirsLeave : Phase S W → Type 0
   TheirsLeave phase = is_for_client phase ≡ true → Leaves phase
 

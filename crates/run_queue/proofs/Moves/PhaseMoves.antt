@@ -1,4 +1,4 @@
--- Every step of every phase keeps the scene sound and what each seat knows.
+-- Every step of every phase keeps the scene sound and what each seat knows: the phases and works, each by its own lemma.
 use Rattle.std.proofs.Common.{◌≡◌, refl, sym, subst, ℕ, ◌<◌, ◌≤◌, ◌^◌, Bool, true, false, List, length}
 use Rattle.normal_traits.specs.NormalForm.{NormalForm}
 use Rattle.help_queue_laws.specs.declared.phases.Phase.TheVariants as in_queue

@@ -1,4 +1,4 @@
--- The steps of a helper behind its look at the head.
+-- The steps of a helper behind its look at the head: all but the exchange of the record leave the words of the queue.
 use Rattle.std.proofs.Common.{◌≡◌, ℕ, ◌+◌, ◌<◌, ◌≤◌, Bool, true, false, if◌then◌else◌, List, length, refl, ap, ◌∙◌, arith, inl, inr, ◌⊎◌, Option, Some, None, set}
 use Rattle.std.specs.Prelude.{◌==◌, slice_index, slice_get}
 use Rattle.std.proofs.lemmas.Bool.{cases_Bool, cases_eq, cond-false, ne_eqb}

@@ -1,4 +1,4 @@
--- Where no call is published, a call stays with its seat, and its requests leave the words of the queue.
+-- Where no call is published, a call stays in the phases that are its own, and their requests leave the words of the queue.
 use Rattle.std.proofs.Common.{◌≡◌, refl, ap, ◌∙◌, ℕ, ◌+◌, Bool, true, false, if◌then◌else◌, List, Option, None, inl, inr, arith}
 use Rattle.std.specs.Prelude.{nat_lt, ◌&&◌, ◌||◌, not, min}
 use Rattle.std.proofs.lemmas.Bool.{cond-true}

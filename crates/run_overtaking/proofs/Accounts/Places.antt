@@ -1,5 +1,5 @@
--- The arithmetic of the account, and places among seats.
-use Rattle.std.proofs.Common.{◌≡◌, ◌∙◌, refl, sym, ap, ℕ, suc, ◌<◌, ◌≤◌, ◌==◌, Bool, true, false, List, [], ◌∷◌, ◌++◌, drop, length, inl, inr, arith}
+-- Places among the seats of a queue word, and the arithmetic of the account.
+use Rattle.std.proofs.Common.{◌≡◌, ◌∙◌, sym, ap, ℕ, suc, ◌<◌, ◌≤◌, ◌==◌, Bool, true, false, List, append-nil, subst, [], ◌∷◌, ◌++◌, drop, length, inl, inr, arith}
 use Rattle.std.specs.List.{list_any}
 use Rattle.std.proofs.lemmas.Bool.{cases_Bool, or_cases, or_left, or_right, eq-eqb, eqb-true, cond-true, cond-false, true≢false}
 use Rattle.std.proofs.lemmas.Bool.Decides.{Decides-eqb}
@@ -8,16 +8,20 @@ use Rattle.std.proofs.lemmas.Map.Steps.{length-le_from_distinct_below}
 use Rattle.word_fields.specs.Seats.{AreSeats}
 use Rattle.help_queue.specs.Gathers.{among_seats, is_first}
 use Rattle.help_queue_laws.proofs.QueueWords.{not_both}
-use Rattle.run_overtaking.specs.Counts.{position, Account}
+use Rattle.run_overtaking.specs.Accounts.{Account}
+use Rattle.run_overtaking.specs.Waiting.{position}
 
-here : (x s : ℕ) (seats : List ℕ) → (s == x) ≡ true → position x (s ∷ seats) ≡ 0
+pub here : (x s : ℕ) (seats : List ℕ) → (s == x) ≡ true → position x (s ∷ seats) ≡ 0
 here x s seats same = cond-true (s == x) 0 (suc (position x seats)) same
 
-behind : (x s : ℕ) (seats : List ℕ) → (s == x) ≡ false → position x (s ∷ seats) ≡ suc (position x seats)
+pub behind : (x s : ℕ) (seats : List ℕ) → (s == x) ≡ false → position x (s ∷ seats) ≡ suc (position x seats)
 behind x s seats other = cond-false (s == x) 0 (suc (position x seats)) other
 
 pub in_rest : (x s : ℕ) (seats : List ℕ) → among_seats x (s ∷ seats) ≡ true → (s == x) ≡ false → among_seats x seats ≡ true
 in_rest x s seats h other = elim (or_cases (s == x) (among_seats x seats) h) [ inl same ↦ absurd (not_both same other) | inr rest ↦ rest ]
+
+rest_out : (t s : ℕ) (seats : List ℕ) → among_seats t (s ∷ seats) ≡ false → among_seats t seats ≡ false
+rest_out t s seats out = elim (cases_Bool (among_seats t seats)) [ inl in' ↦ absurd (not_both (or_right (s == t) (among_seats t seats) in') out) | inr none ↦ none ]
 
 pub position_below : (x : ℕ) (seats : List ℕ) → among_seats x seats ≡ true → position x seats < length seats
 position_below x [] h = absurd (true≢false (sym h))
@@ -58,13 +62,7 @@ any_flips q (s ∷ seats) h =
 pub few_seats : (n : ℕ) (seats : List ℕ) → AreSeats seats → ((q : ℕ) → among_seats q seats ≡ true → q < n) → length seats ≤ n
 few_seats n seats are below = length-le_from_distinct_below seats n (IsDistinct-from_AllPairs Decides-eqb seats are.differ) (λ q has. below q (any_flips q seats has))
 
--- ---- the account: the call is published; the seat returns; a head leaves; the seat goes on
-
-pub publishes : (seats place : ℕ) (held : Bool) → place < seats → Account seats 0 place held
-publishes seats place held less = record { loose = omega (arith, less); strict = λ _. omega (arith, less) }
-
-pub returns' : (seats returned place : ℕ) (held : Bool) → Account seats returned place false → held ≡ true → Account seats (suc returned) place held
-returns' seats returned place held a back = record { loose = (let s = a.strict refl in omega (arith, s)); strict = λ e. absurd (true≢false (sym back ∙ e)) }
+-- ---- the account: a head leaves; the seat goes on
 
 pub leaves : (seats returned place place' : ℕ) (held held' : Bool) → place ≡ suc place' → Account seats returned place held → Account seats returned place' held'
 leaves seats returned place place' held held' nearer a = record { loose = (let l = a.loose in omega (arith, l, nearer)); strict = λ _. (let l = a.loose in omega (arith, l, nearer)) }
@@ -80,3 +78,32 @@ stays seats returned place place' held held' same on a =
 pub first_among : (t : ℕ) (seats : List ℕ) → is_first t seats ≡ true → among_seats t seats ≡ true
 first_among t [] h = absurd (true≢false (sym h))
 first_among t (s ∷ seats) h = or_left (s == t) (among_seats t seats) h
+
+-- ---- seats that are not there, and the first
+
+-- a seat that is none of these stands behind them
+pub out_behind : (t : ℕ) (seats more : List ℕ) → among_seats t seats ≡ false → length seats ≤ position t (seats ++ more)
+out_behind t [] more out = omega arith
+out_behind t (s ∷ seats) more out =
+    elim (cases_Bool (s == t)) [
+      | inl same ↦ absurd (not_both (or_left (s == t) (among_seats t seats) same) out)
+      | inr other ↦ (
+          let e = behind t s (seats ++ more) other in
+          let rest = out_behind t seats more (rest_out t s seats out) in
+          omega (arith, e, rest))
+    ]
+
+pub out_past : (t : ℕ) (seats : List ℕ) → among_seats t seats ≡ false → length seats ≤ position t seats
+out_past t seats out = subst (λ l. length seats ≤ position t l) (append-nil seats) (out_behind t seats [] out)
+
+-- a seat whose place is within them is among them
+pub place_in : (t : ℕ) (seats : List ℕ) → position t seats < length seats → among_seats t seats ≡ true
+place_in t seats less = elim (cases_Bool (among_seats t seats)) [ inl in' ↦ in' | inr out ↦ (let past = out_past t seats out in absurd (omega (arith, less, past))) ]
+
+pub tail_out : (t : ℕ) (seats : List ℕ) → among_seats t seats ≡ false → among_seats t (drop 1 seats) ≡ false
+tail_out t [] out = out
+tail_out t (s ∷ seats) out = rest_out t s seats out
+
+pub first_place : (t : ℕ) (seats : List ℕ) → is_first t seats ≡ true → position t seats ≡ 0
+first_place t [] h = absurd (true≢false (sym h))
+first_place t (s ∷ seats) h = here t s seats h

@@ -1,5 +1,5 @@
--- No call is overtaken more often than P (P - 1) times.
-use Rattle.std.proofs.Common.{◌≡◌, ◌∙◌, refl, sym, ap, subst, ℕ, zero, suc, ◌+◌, ◌*◌, ◌-◌, ◌<◌, ◌≤◌, Bool, true, false, cond, if◌then◌else◌, List, ◌++◌, inl, inr, arith}
+-- The count of one call, by the events of a step.
+use Rattle.std.proofs.Common.{◌≡◌, ◌∙◌, refl, sym, ap, subst, ℕ, suc, ◌+◌, ◌<◌, ◌≤◌, Bool, true, false, cond, if◌then◌else◌, List, ◌++◌, inl, inr, arith}
 use Rattle.std.specs.Prelude.{◌==◌, ◌&&◌, not}
 use Rattle.std.specs.List.{fold}
 use Rattle.std.specs.Option.{option_to_list}
@@ -12,20 +12,18 @@ use Rattle.fast_slow_engine.specs.Mechs.{Mech}
 use Rattle.fast_slow_engine.specs.PhaseTable.{ends, mech_event}
 use Rattle.overtaking_law.proofs.States.{State, next, completed_stays}
 use Rattle.overtaking_law.proofs.States.State.{Unpublished, Waiting, Completed}
-use Rattle.run_overtaking.specs.Counts.{Counts, Waits, counts_after, enters, overtakers, sum_below}
+use Rattle.run_overtaking.specs.Accounts.{overtakers, most_overtaken}
+use Rattle.run_overtaking.specs.Counts.{Counts, counts_after}
+use Rattle.run_overtaking.specs.Waiting.{Waits, enters}
 use Rattle.run_overtaking.specs.Events.{published, completed, eight_seats, step_events}
-use Rattle.run_overtaking.proofs.Sums.{fold_append, sum_grows}
-use Rattle.run_overtaking.proofs.CallStates.{published_waits, published_none, completed_none, completed_waits, own_waits, own_none}
+use Rattle.run_overtaking.proofs.Accounts.Sums.{fold_append, sum_grows, sum_zero}
+use Rattle.run_overtaking.proofs.Events.CallStates.{published_waits, published_none, completed_none, completed_waits, own_waits, own_none}
 
 -- what the count of call k of x is
 abbrev pub IsTracked : ℕ → List ℕ → Counts → ℕ → ℕ → State → Type 0
 IsTracked seats words counts x k Unpublished = Unit {0}
 IsTracked seats words counts x k (Waiting c) = Waits words x × (record_number (record_in words x) ≡ k) × (c ≡ overtakers seats x (counts.returned x))
-IsTracked seats words counts x k (Completed c) = c ≤ seats * (seats - 1)
-
-sum_zero : (n : ℕ) (f : ℕ → ℕ) → ((u : ℕ) → f u ≡ 0) → sum_below n f ≡ 0
-sum_zero zero f none = refl
-sum_zero (suc n) f none = (let rest = sum_zero n f none in let last = none n in omega (arith, rest, last))
+IsTracked seats words counts x k (Completed c) = c ≤ most_overtaken seats
 
 abbrev tick : Bool → ℕ
 tick b = cond b 1 0
@@ -37,7 +35,7 @@ pub record Steps (seats : ℕ) (words words' : List ℕ) (x : ℕ) : Type 0 wher
   pub eight : Waits words x → among_seats x eight_seats ≡ true
 
 module _ {S W : Type 0} (seats i : ℕ) (inside : i < seats) (words words' : List ℕ) (counts : Counts) (mech : Mech S W) (own : mech.seat ≡ i) (x k : ℕ) (steps : Steps seats words words' x)
-    (few : Waits words x → overtakers seats x (counts.returned x) ≤ seats * (seats - 1)) where
+    (few : Waits words x → overtakers seats x (counts.returned x) ≤ most_overtaken seats) where
   abbrev after : Counts
   after = counts_after i mech.phase words words' counts
 

@@ -22,7 +22,7 @@ use Rattle.help_queue_laws.specs.Runs.{queue_in, record_in}
 use Rattle.help_queue_laws.proofs.Scenes.{Scene, scene_of, IsIn, IsOut, IsSound, Later}
 use Rattle.help_queue_laws.proofs.QueueWords.{not_both}
 use Rattle.help_queue_laws.proofs.Knowledge.{PhaseFacts}
-use Rattle.run_overtaking.proofs.Waiting.{first_among}
+use Rattle.run_overtaking.proofs.Accounts.Places.{first_among}
 use Rattle.help_queue_laws.proofs.Results.{seat_word}
 use Rattle.fast_slow_engine.specs.declared.phases.Phase.{Phase}
 use Rattle.fast_slow_engine.specs.declared.phases.Phase.TheVariants as phase
@@ -36,9 +36,9 @@ use Rattle.fast_slow_engine.specs.PhaseTable.{in_phase, with_hand, told, entered
 use Rattle.run_queue.specs.QueueViews.{phase_view, helping_view, next_number}
 use Rattle.run_queue.specs.Fits.{PhaseFits}
 use Rattle.run_queue.proofs.Views.CallViews.{FastNext, views_told, views_tried, fast_wrapped, fast_generated, fast_applied}
-use Rattle.run_overtaking.specs.Counts.{held_back, number_at, looks}
-use Rattle.run_overtaking.proofs.Scenes.{Dropped, head_goes, number_rises}
-use Rattle.run_overtaking.proofs.Heads.{HeadFacts, LookFacts, help_on, help_ends}
+use Rattle.run_overtaking.specs.Waiting.{held_back, number_at, looks}
+use Rattle.run_overtaking.proofs.Accounts.Scenes.{Dropped, head_goes, number_rises}
+use Rattle.run_overtaking.proofs.Accounts.Heads.{HeadFacts, LookFacts, help_on, help_ends}
 
 module _ {S W : Type 0} where
   -- a phase that the queue sees as no help from a look

@@ -1,5 +1,5 @@
 -- The bound on overtaking, over the events of every run.
-use Rattle.std.proofs.Common.{◌≡◌, ◌∙◌, refl, sym, ap, subst, ℕ, zero, suc, ◌*◌, ◌-◌, ◌<◌, ◌≤◌, true, List, [], ◌∷◌, slice_get, Option, Some, None, inl, inr, arith}
+use Rattle.std.proofs.Common.{◌≡◌, ◌∙◌, refl, sym, ap, subst, ℕ, zero, suc, ◌<◌, ◌≤◌, true, List, [], ◌∷◌, slice_get, Option, Some, None, inl, inr, arith}
 use Rattle.std.specs.List.{fold}
 use Rattle.lin_report.specs.declared.calls.Op.{Op}
 use Rattle.help_queue_laws.proofs.LaterLemmas.{done_closed}
@@ -12,19 +12,26 @@ use Rattle.help_queue_laws.proofs.QueueWords.{not_both}
 use Rattle.fast_slow_engine.specs.declared.setup.Setup.{Setup}
 use Rattle.fast_slow_engine.specs.Mechs.{Mech}
 use Rattle.fast_slow_engine.specs.Runs.{Move, IsMove, AreMoves, begun, moved_by, run_of}
+use Rattle.std.proofs.Common.{get_or}
+use Rattle.std.proofs.lemmas.List.Recursion.{max_least}
+use Rattle.lin_report.specs.declared.events.Event.{Event}
+use Rattle.overtaking_law.specs.Order.{publication}
+use Rattle.overtaking_law.specs.Overtaking.{overtaken, greatest, greatest_overtaken}
 use Rattle.overtaking_law.proofs.States.{State, next, count_of, overtaken_is, state}
 use Rattle.overtaking_law.proofs.States.State.{Unpublished, Waiting, Completed}
 use Rattle.run_queue.specs.QueueGhosts.{queue_ghosts}
 use Rattle.run_queue.specs.Premises.{KeepsQueue}
 use Rattle.run_queue.proofs.Runs.RunMoves.{IsQueued, runs_queued, runs_later}
-use Rattle.run_overtaking.specs.Counts.{Waits, overtakers, counts_moved, counts_of}
-use Rattle.run_overtaking.specs.Events.{OvertakenBounded, eight_seats, events_moved, events_of}
-use Rattle.run_overtaking.proofs.Sums.{fold_append}
-use Rattle.run_overtaking.proofs.Accounts.{inside_of, runs_counted}
+use Rattle.run_overtaking.specs.Accounts.{overtakers, most_overtaken}
+use Rattle.run_overtaking.specs.Counts.{counts_moved, counts_of}
+use Rattle.run_overtaking.specs.Waiting.{Waits}
+use Rattle.run_overtaking.specs.Events.{OvertakenBounded, GreatestBounded, eight_seats, events_moved, events_of}
+use Rattle.run_overtaking.proofs.Accounts.Sums.{fold_append}
+use Rattle.run_overtaking.proofs.Accounts.Runs.{inside_of, runs_counted}
 use Rattle.run_overtaking.proofs.AccountLaws.{few_returns, record_is}
-use Rattle.run_overtaking.proofs.Overtaken.{IsTracked, Steps, step_tracked}
+use Rattle.run_overtaking.proofs.Events.Overtaken.{IsTracked, Steps, step_tracked}
 
-eight_has : (x : ℕ) → x < 8 → among_seats x eight_seats ≡ true
+pub eight_has : (x : ℕ) → x < 8 → among_seats x eight_seats ≡ true
 eight_has zero less = refl
 eight_has (suc zero) less = refl
 eight_has (suc (suc zero)) less = refl
@@ -76,7 +83,7 @@ module _ {S W : Type 0} (form : NormalForm S W) where
 
   moved : (setup : Setup) (move : Move) (older : List Move) (o : Option (Mech S W)) → (let state = run_of form setup older in
       slice_get state.mechs move.seat ≡ o → IsMove form state move → IsQueued setup state (queue_ghosts form setup older) → (x k : ℕ) → Steps setup.seats state.words (moved_by form o move state).words x
-      → (Waits state.words x → overtakers setup.seats x ((counts_of form setup older).returned x) ≤ setup.seats * (setup.seats - 1))
+      → (Waits state.words x → overtakers setup.seats x ((counts_of form setup older).returned x) ≤ most_overtaken setup.seats)
       → (s : State) → IsTracked setup.seats state.words (counts_of form setup older) x k s
       → IsTracked setup.seats (moved_by form o move state).words (counts_moved form o move state (counts_of form setup older)) x k (fold (next x k) s (events_moved form o move state)))
   moved setup move older None at is q x k steps few s h = h
@@ -93,11 +100,19 @@ module _ {S W : Type 0} (form : NormalForm S W) where
       (sym (fold_append (next x k) Unpublished (events_of form setup older) (events_moved form (slice_get st.mechs move.seat) move st)))
       (moved setup move older (slice_get st.mechs move.seat) refl are.1 (runs_queued form setup older are.0 keeps.0) x k (steps_of setup move older are keeps x) (few_returns form setup older are.0 keeps.0 x) (state x k (events_of form setup older)) (tracked setup older are.0 keeps.0 x k))
 
-  count_few : (setup : Setup) (moves : List Move) → AreMoves form setup moves → KeepsQueue form setup moves → (x k : ℕ) (s : State) → IsTracked setup.seats (run_of form setup moves).words (counts_of form setup moves) x k s → count_of s ≤ setup.seats * (setup.seats - 1)
+  count_few : (setup : Setup) (moves : List Move) → AreMoves form setup moves → KeepsQueue form setup moves → (x k : ℕ) (s : State) → IsTracked setup.seats (run_of form setup moves).words (counts_of form setup moves) x k s → count_of s ≤ most_overtaken setup.seats
   count_few setup moves are keeps x k Unpublished h = omega arith
   count_few setup moves are keeps x k (Waiting c) h = (let f = few_returns form setup moves are keeps x h.0 in let e = h.2 in omega (arith, f, e))
   count_few setup moves are keeps x k (Completed c) h = h
 
   pub overtaken_bounded : OvertakenBounded form
   overtaken_bounded setup moves are keeps x k =
-      subst (λ n. n ≤ setup.seats * (setup.seats - 1)) (overtaken_is x k (events_of form setup moves)) (count_few setup moves are keeps x k (state x k (events_of form setup moves)) (tracked setup moves are keeps x k))
+      subst (λ n. n ≤ most_overtaken setup.seats) (overtaken_is x k (events_of form setup moves)) (count_few setup moves are keeps x k (state x k (events_of form setup moves)) (tracked setup moves are keeps x k))
+
+  pub greatest_bounded : GreatestBounded form
+  unfolding greatest_overtaken
+  greatest_bounded setup moves are keeps =
+      let events = events_of form setup moves in
+      let count = λ (event : Event). overtaken events event.seat event.number in
+      max_least (greatest count) count refl (λ x xs. refl) events (publication 0 0) (most_overtaken setup.seats)
+      (λ i less. overtaken_bounded setup moves are keeps (get_or events i (publication 0 0)).seat (get_or events i (publication 0 0)).number)

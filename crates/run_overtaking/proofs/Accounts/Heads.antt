@@ -39,7 +39,7 @@ use Rattle.run_queue.specs.QueueViews.{helping_view, work_view}
 use Rattle.run_queue.specs.Fits.{HelpingFits}
 use Rattle.run_queue.proofs.Moves.WonRecords.{one_first}
 use Rattle.run_queue.proofs.Views.WorkViews.{works_on, goes_on}
-use Rattle.run_overtaking.proofs.Scenes.{Dropped, number_rises, closed_stays}
+use Rattle.run_overtaking.proofs.Accounts.Scenes.{Dropped, number_rises, closed_stays}
 
 -- what a helper knows of the head s, whose call had this number when it looked
 abbrev pub HeadFacts : Scene → ℕ → ℕ → seen_at.Helping → Type 0

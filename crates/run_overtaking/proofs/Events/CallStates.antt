@@ -13,7 +13,7 @@ use Rattle.fast_slow_engine.specs.PhaseTable.{ends, event_in}
 use Rattle.overtaking_law.specs.Order.{publication, completion}
 use Rattle.overtaking_law.proofs.States.{State, next, completed_stays}
 use Rattle.overtaking_law.proofs.States.State.{Unpublished, Waiting, Completed}
-use Rattle.run_overtaking.proofs.Waiting.{in_rest}
+use Rattle.run_overtaking.proofs.Accounts.Places.{in_rest}
 use Rattle.run_overtaking.specs.Events.{published, completed}
 
 module _ (x k : ℕ) where

@@ -1,8 +1,8 @@
--- Sums over seats, and what the events of a step make of the count of one call.
-use Rattle.std.proofs.Common.{◌≡◌, ◌≢◌, ◌∙◌, refl, sym, ap, subst, ℕ, zero, suc, ◌+◌, ◌*◌, ◌-◌, ◌<◌, ◌≤◌, List, [], ◌∷◌, ◌++◌, inl, inr, arith}
+-- Sums over seats.
+use Rattle.std.proofs.Common.{◌≡◌, ◌≢◌, ◌∙◌, refl, sym, ap, subst, ℕ, zero, suc, ◌+◌, ◌*◌, ◌<◌, ◌≤◌, List, [], ◌∷◌, ◌++◌, inl, inr, arith}
 use Rattle.std.specs.List.{fold}
 use Rattle.std.proofs.lemmas.Bool.{cases_eq}
-use Rattle.run_overtaking.specs.Counts.{sum_below}
+use Rattle.run_overtaking.specs.Accounts.{sum_below}
 
 -- ---- sums
 
@@ -28,7 +28,7 @@ sum_most zero m f most = omega arith
 sum_most (suc n) m f most = (let rest = sum_most n m f (λ u less. most u (omega (arith, less))) in let last = most n (omega arith) in let e : suc n * m ≡ n * m + m = omega arith in omega (arith, rest, last, e))
 
 -- one of them is 0
-sum_but : (n m x : ℕ) (f : ℕ → ℕ) → x < n → f x ≡ 0 → ((u : ℕ) → u < n → f u ≤ m) → sum_below n f + m ≤ n * m
+pub sum_but : (n m x : ℕ) (f : ℕ → ℕ) → x < n → f x ≡ 0 → ((u : ℕ) → u < n → f u ≤ m) → sum_below n f + m ≤ n * m
 sum_but zero m x f inside none most = absurd (omega (arith, inside))
 sum_but (suc n) m x f inside none most =
     let e : suc n * m ≡ n * m + m = omega arith in
@@ -41,15 +41,20 @@ sum_but (suc n) m x f inside none most =
           let l = most n (omega arith) in omega (arith, rest, l, e))
     ]
 
-pub sum_bound : (n x : ℕ) (f : ℕ → ℕ) → x < n → f x ≡ 0 → ((u : ℕ) → u < n → f u ≤ n) → sum_below n f ≤ n * (n - 1)
-sum_bound zero x f inside none most = absurd (omega (arith, inside))
-sum_bound (suc n) x f inside none most =
-    let s = sum_but (suc n) (suc n) x f inside none most in
-    let e : suc n * suc n ≡ suc n * n + suc n = omega arith in
-    let k : suc n * (suc n - 1) ≡ suc n * n = (let j : suc n - 1 ≡ n = omega arith in ap (λ y. suc n * y) j) in
-    omega (arith, s, e, k)
+-- each of them is at most another one
+pub sum_le : (n : ℕ) (f g : ℕ → ℕ) → ((u : ℕ) → u < n → f u ≤ g u) → sum_below n f ≤ sum_below n g
+sum_le zero f g le = omega arith
+sum_le (suc n) f g le = (let rest = sum_le n f g (λ u less. le u (omega (arith, less))) in let last = le n (omega arith) in omega (arith, rest, last))
 
--- ---- the state of a call over the events of a step
+pub sum_add : (n : ℕ) (f g : ℕ → ℕ) → sum_below n (λ u. f u + g u) ≡ sum_below n f + sum_below n g
+sum_add zero f g = refl
+sum_add (suc n) f g = (let rest = sum_add n f g in omega (arith, rest))
+
+pub sum_zero : (n : ℕ) (f : ℕ → ℕ) → ((u : ℕ) → f u ≡ 0) → sum_below n f ≡ 0
+sum_zero zero f none = refl
+sum_zero (suc n) f none = (let rest = sum_zero n f none in let last = none n in omega (arith, rest, last))
+
+-- ---- events that come one after another
 
 pub fold_append : {A B : Type 0} (f : B → A → B) (s : B) (xs ys : List A) → fold f s (xs ++ ys) ≡ fold f (fold f s xs) ys
 fold_append f s [] ys = refl

@@ -7,8 +7,8 @@ use Rattle.help_queue.specs.Gathers.{leads, is_first, is_open}
 use Rattle.help_queue_laws.proofs.Scenes.{Scene, IsOpen, IsClosed, IsDone, IsIn, IsOut, IsHead, Later}
 use Rattle.help_queue_laws.proofs.QueueWords.{not_both, head_holds}
 use Rattle.help_queue_laws.proofs.LaterLemmas.{done_closed, closed_later, out_later}
-use Rattle.run_overtaking.specs.Counts.{position}
-use Rattle.run_overtaking.proofs.Waiting.{entered_behind, head_leaves, first_stays}
+use Rattle.run_overtaking.specs.Waiting.{position}
+use Rattle.run_overtaking.proofs.Accounts.Places.{entered_behind, head_leaves, first_stays}
 
 -- the head has left, completed
 pub record Dropped (a b : Scene) : Type 0 where
@@ -43,6 +43,17 @@ module _ (seats who : ℕ) (a b : Scene) (l : Later seats who a b) where
         | inl behind ↦ inl (sym (ap (position x) behind.1 ∙ entered_behind x (queue_seats a.queue) behind.0 in'))
         | inr (inl same) ↦ inl (ap (λ q. position x (queue_seats q)) (sym same))
         | inr (inr d) ↦ inr (nearer x in' opened d)
+      ]
+
+  -- two calls that wait stay where they stand, or both come one nearer
+  pub both_places : (x u : ℕ) → IsIn a x → IsOpen a x → IsIn a u → IsOpen a u
+      → ((position x (queue_seats a.queue) ≡ position x (queue_seats b.queue)) × (position u (queue_seats a.queue) ≡ position u (queue_seats b.queue)))
+      ⊎ ((position x (queue_seats a.queue) ≡ suc (position x (queue_seats b.queue))) × (position u (queue_seats a.queue) ≡ suc (position u (queue_seats b.queue))))
+  both_places x u in' opened in_u opened_u =
+      elim queue_goes [
+        | inl behind ↦ inl (sym (ap (position x) behind.1 ∙ entered_behind x (queue_seats a.queue) behind.0 in'), sym (ap (position u) behind.1 ∙ entered_behind u (queue_seats a.queue) behind.0 in_u))
+        | inr (inl same) ↦ inl (ap (λ q. position x (queue_seats q)) (sym same), ap (λ q. position u (queue_seats q)) (sym same))
+        | inr (inr d) ↦ inr (nearer x in' opened d, nearer u in_u opened_u d)
       ]
 
   -- a call that waits was open in the word, or has just entered
@@ -90,7 +101,7 @@ module _ (seats who : ℕ) (a b : Scene) (l : Later seats who a b) where
         | inr (inr advances) ↦ absurd (not_both advances.opened (closed (sym advances.number ∙ same)))
       ]
 
-  -- ---- seats beyond
+  -- ---- seats that the run has not
 
   pub beyond_later : who < seats → (t : ℕ) → seats ≤ t → IsClosed a t × IsOut a t → IsClosed b t × IsOut b t
   beyond_later inside t past h =
