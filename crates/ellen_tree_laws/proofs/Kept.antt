@@ -104,7 +104,7 @@ module _ (world after : World) (shape : Shape world) (l : Later world after) (s 
       child = will.child ∙ sym (child_later (not (is_left world.words list.call.op.key gone)) will.marked.marked) ∙ ap (λ b. child_of after.words gone (not b)) (sym left_later);
     }
 
-  pub was_later : Flagged world list → is_rem list.call.op ≡ true → (gone : ℕ) → WasMarked world list gone → WasMarked after list gone
+  was_later : Flagged world list → is_rem list.call.op ≡ true → (gone : ℕ) → WasMarked world list gone → WasMarked after list gone
   was_later flagged rem gone was = record { update = update_later flagged rem gone was.update; marked = marked_later flagged rem gone was.update was.marked }
 
   pub gone_later : Flagged world list → IsGone world list → IsGone after list

@@ -57,7 +57,7 @@ stays_plain words place word is at none = with_apart place word words at (λ e. 
 pub same_later : (world : World) → Later world world
 same_later world = record { rises = λ place is. inl refl; plain = λ place is none. refl; used = λ block used. used; journal = λ item among. among; changes = inl refl }
 
-pub grown : (added : Option Listed) (changes : List Change) → (with_change (object tree_form) added changes ≡ changes) ⊎ ((change : Change) × (with_change (object tree_form) added changes ≡ change ∷ changes))
+grown : (added : Option Listed) (changes : List Change) → (with_change (object tree_form) added changes ≡ changes) ⊎ ((change : Change) × (with_change (object tree_form) added changes ≡ change ∷ changes))
 grown None changes = inl refl
 grown (Some list) changes = inr (_, refl)
 

@@ -1,15 +1,15 @@
 -- The link of an insertion, won or lost: afterwards its list has made its change, with the reply Yes.
-use Rattle.std.proofs.Common.{◌≡◌, ◌≢◌, ℕ, ◌^◌, ◌<◌, Bool, true, false, Option, is_some, refl, sym, ap, subst, ◌∙◌, inl, inr, ◌⊎◌, arith}
-use Rattle.std.specs.Prelude.{if◌then◌else◌, Some, None, ◌==◌}
+use Rattle.std.proofs.Common.{◌≡◌, ◌≢◌, ℕ, Bool, true, Option, is_some, sym, ap, subst, ◌∙◌, inl, inr, ◌⊎◌, arith}
+use Rattle.std.specs.Prelude.{if◌then◌else◌, Some, None}
 use Rattle.std.specs.FinMap as map
 use Rattle.std.specs.Ordering.{nat_cmp}
-use Rattle.std.proofs.lemmas.Bool.{eqb-true, eq-eqb, ne_eqb}
+use Rattle.std.proofs.lemmas.Bool.{eqb-true, ne_eqb}
 use Rattle.word_fields.specs.Versioned.{versioned_value, versioned_version}
 use Rattle.lin_report.specs.declared.calls.Op.{Op}
 use Rattle.lin_report.specs.declared.calls.Reply.{Reply}
 use Rattle.lin_report.specs.declared.calls.Reply.TheVariants.{Yes, No}
 use Rattle.lin_report.specs.declared.calls.TheConstants.{SET}
-use Rattle.lin_report.specs.Object.{map_object, map_apply, set_absent}
+use Rattle.lin_report.specs.Object.{map_object, map_apply}
 use Rattle.step_memory.specs.declared.steps.Seen.{Seen}
 use Rattle.normal_traits.specs.World.{Listed, World, Among, held_after}
 use Rattle.normal_traits.specs.Steps.{Requested, with_change, object}
@@ -18,7 +18,7 @@ use Rattle.tree_help.specs.declared.states.Flag.{Flag}
 use Rattle.tree_help.specs.declared.states.Help.TheVariants as helps
 use Rattle.tree_help.specs.declared.states.HelpInsert.TheVariants as insert
 use Rattle.tree_help.specs.Helps.{help_asked, help_fed}
-use Rattle.ellen_tree_laws.specs.Words.{leaf_key_at, leaf_value_at, child_at, is_set}
+use Rattle.ellen_tree_laws.specs.Words.{leaf_key_at, leaf_value_at, is_set}
 use Rattle.ellen_tree_laws.specs.Shape.{Shape, Flagged, Inserts, InsertWaits, Changed, noted, IsLeaf, child_of, way, told_by, adds_beside}
 use Rattle.ellen_tree_laws.specs.Knowledge.{Follows}
 use Rattle.ellen_tree_laws.specs.Form.{tree_form}

@@ -84,7 +84,7 @@ requested_spares world after seen (Store at value) fair r = absurd fair
 requested_spares world after seen (Add at by) fair r = absurd fair
 
 -- the setting of a flag
-pub flag_fair : (world : World) (list : Listed) (node from : ℕ) → list.block < 2 ^ 17 → state_of from ≡ CLEAN → IsFair world (update_at node) from (flags_at node from list).to
+flag_fair : (world : World) (list : Listed) (node from : ℕ) → list.block < 2 ^ 17 → state_of from ≡ CLEAN → IsFair world (update_at node) from (flags_at node from list).to
 flag_fair world list node from small clean = record {
   unmarked = λ updates e. absurd (omega (arith, clean, e));
   marks = λ updates block e. absurd (flag_unmarked list.call.op (omega (arith, e, flag_value list small node from, state_below list small)));

@@ -54,7 +54,7 @@ flag_unmarked op e = by_set (is_set op) e
 
 module _ (world : World) (shape : Shape world) (list : Listed) where
   -- a node at which the flag of the list is up isn't marked
-  pub up_unmarked : (node from : ℕ) → list.block < 2 ^ 17 → IsUp world list node from → state_of (world.words (update_at node)) ≢ MARKED
+  up_unmarked : (node from : ℕ) → list.block < 2 ^ 17 → IsUp world list node from → state_of (world.words (update_at node)) ≢ MARKED
   up_unmarked node from small up e =
       let value = up_value world list node from up small in
       by_set (is_set list.call.op) value

@@ -28,7 +28,7 @@ field_low : (left : Bool) → 18 < child_field left
 field_low true = omega arith
 field_low false = omega arith
 
-pub field_high : (left : Bool) → child_field left < 21
+field_high : (left : Bool) → child_field left < 21
 field_high true = omega arith
 field_high false = omega arith
 
@@ -205,7 +205,7 @@ module _ (world after : World) (g gone : ℕ) (side leafside : Bool) (to : ℕ) 
   first_all : (changes : List Change) → first_changes (length changes) changes ≡ changes
   first_all changes = let none : length changes - length changes ≡ 0 = omega arith in ap (λ n. drop n changes) none
 
-  pub leaf_apart : (changes : List Change) (reference : ℕ) → IsLeaf changes reference → is_internal reference ≡ false
+  leaf_apart : (changes : List Change) (reference : ℕ) → IsLeaf changes reference → is_internal reference ≡ false
   leaf_apart changes reference leaf' = elim leaf'.names [
     | inl one ↦ ne_eqb (reference % 4) 2 (λ e. omega (arith, e, one))
     | inr three ↦ ne_eqb (reference % 4) 2 (λ e. omega (arith, e, three))

@@ -1,6 +1,6 @@
 -- Each step of a wrap-up: it goes on following its list, or its end is right.
-use Rattle.std.proofs.Common.{◌≡◌, ◌≢◌, ℕ, ◌+◌, ◌*◌, ◌%◌, ◌^◌, ◌<◌, Bool, true, false, not, refl, sym, ap, subst, ◌∙◌, inl, inr, ◌⊎◌, arith}
-use Rattle.std.specs.Prelude.{◌==◌, if◌then◌else◌}
+use Rattle.std.proofs.Common.{◌≡◌, ◌≢◌, ℕ, ◌^◌, ◌<◌, true, not, sym, ap, subst, ◌∙◌, inl, inr, ◌⊎◌, arith}
+use Rattle.std.specs.Prelude.{if◌then◌else◌}
 use Rattle.std.proofs.lemmas.Bool.{eq-eqb}
 use Rattle.word_fields.specs.Versioned.{versioned_value}
 use Rattle.lin_report.specs.declared.calls.Reply.TheVariants.{Yes}
@@ -22,8 +22,8 @@ use Rattle.tree_help.specs.Updates.{note_at, place_in, updated}
 use Rattle.tree_help.specs.Helps.{flag_block, help_asked, help_fed, insert_asked, delete_asked}
 use Rattle.ellen_tree_laws.specs.Words.{child_at, child_field, update_at, is_rem}
 use Rattle.ellen_tree_laws.specs.Search.{wrapped_by, WrapsUp}
-use Rattle.ellen_tree_laws.specs.Shape.{Shape, Flagged, Inserts, Removes, RemoveStands, Changed, IsMarked, IsGivenUp, noted, is_left}
-use Rattle.ellen_tree_laws.specs.Knowledge.{Follows, FollowsInsert, FollowsDelete, IsFlag, IsTried, WasMarked, WillStay}
+use Rattle.ellen_tree_laws.specs.Shape.{Shape, Flagged, Removes, RemoveStands, Changed, IsMarked, IsGivenUp, noted, is_left}
+use Rattle.ellen_tree_laws.specs.Knowledge.{Follows, FollowsInsert, FollowsDelete, IsFlag, IsTried}
 use Rattle.ellen_tree_laws.specs.Form.{tree_form}
 use Rattle.ellen_tree_laws.proofs.Plain.{update_same, both_ops}
 use Rattle.ellen_tree_laws.proofs.Ways.{field_small}

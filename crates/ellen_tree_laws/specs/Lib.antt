@@ -3,4 +3,3 @@ pub mod Search
 pub mod Shape
 pub mod Knowledge
 pub mod Form
-pub mod PartLaws

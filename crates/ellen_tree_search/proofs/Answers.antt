@@ -1,14 +1,14 @@
 -- What a search that only observes answers: it is right after some of the changes since the search began.
-use Rattle.std.proofs.Common.{◌≡◌, ◌≢◌, ℕ, ◌+◌, ◌*◌, ◌/◌, ◌^◌, ◌<◌, Bool, true, false, not, ◌||◌, ◌&&◌, Option, is_some, refl, sym, ap, subst, ◌∙◌, inl, inr, ◌⊎◌, arith}
+use Rattle.std.proofs.Common.{◌≡◌, ℕ, ◌/◌, Bool, true, false, ◌||◌, ◌&&◌, is_some, refl, sym, ap, subst, ◌∙◌, inl, inr, ◌⊎◌, arith}
 use Rattle.std.specs.Prelude.{◌==◌, if◌then◌else◌, nat_lt, Some, None}
 use Rattle.std.specs.FinMap as map
 use Rattle.std.specs.Ordering.{nat_cmp}
 use Rattle.std.specs.Cmp.{nat_cmp_total, unsigned_tied}
-use Rattle.std.proofs.lemmas.Bool.{eqb-true, eq-eqb, ne_eqb, or_cases, and_parts, true≢false}
+use Rattle.std.proofs.lemmas.Bool.{eqb-true, eq-eqb, ne_eqb, or_cases, and_parts}
 use Rattle.lin_report.specs.declared.calls.Client.TheVariants as client
 use Rattle.lin_report.specs.declared.calls.Op.{Op}
 use Rattle.lin_report.specs.declared.calls.Reply.{Reply}
-use Rattle.lin_report.specs.declared.calls.Reply.TheVariants.{Yes, No, Value, Absent}
+use Rattle.lin_report.specs.declared.calls.Reply.TheVariants.{Yes, No, Absent}
 use Rattle.lin_report.specs.declared.calls.Outcome.{Outcome}
 use Rattle.lin_report.specs.declared.calls.Outcome.TheVariants.{Plain, ValueOf}
 use Rattle.lin_report.specs.declared.calls.TheConstants.{SET, REM, GET}
@@ -17,12 +17,12 @@ use Rattle.lin_report.specs.Object.{map_object, map_apply, object_of, value_or_a
 use Rattle.node_arena.specs.declared.places.TheConstants.{NODE_VALUE}
 use Rattle.node_arena.specs.MemoryMap.{block_at, node_place, reference_to}
 use Rattle.node_arena.proofs.PlaceLemmas.{block_at-node_place, block-reference_to}
-use Rattle.normal_traits.specs.World.{World, Observes, StandsFor, RightSince, held_after, first_changes}
+use Rattle.normal_traits.specs.World.{World, StandsFor, RightSince, held_after, first_changes}
 use Rattle.normal_traits.specs.Laws.{IsFixed}
 use Rattle.ellen_tree_laws.specs.declared.states.Passed.{Passed}
 use Rattle.ellen_tree_laws.specs.Words.{is_set, is_rem, leaf_key_at, leaf_value_at}
 use Rattle.ellen_tree_laws.specs.Search.{leaf_of, told}
-use Rattle.ellen_tree_laws.specs.Shape.{Shape, IsLeaf, told_by}
+use Rattle.ellen_tree_laws.specs.Shape.{Shape}
 use Rattle.ellen_tree_laws.specs.Knowledge.{HasLeaf}
 use Rattle.ellen_tree_laws.specs.Form.{tree_form}
 use Rattle.ellen_tree_laws.proofs.Later.{same_later}

@@ -1,12 +1,10 @@
 -- A search that is fed with what its step saw knows the world after the step, and what it found is so.
-use Rattle.std.proofs.Common.{◌≡◌, ℕ, ◌+◌, ◌^◌, ◌<◌, ◌≤◌, Bool, true, false, length, Option, refl, sym, ap, subst, ◌∙◌, inl, inr, ◌⊎◌, arith}
-use Rattle.std.specs.Prelude.{◌==◌, nat_lt, Some, None}
+use Rattle.std.proofs.Common.{ℕ, ◌≤◌, true, length, refl, sym, subst}
+use Rattle.std.specs.Prelude.{nat_lt}
 use Rattle.lin_report.specs.declared.calls.Client.TheVariants as client
 use Rattle.lin_report.specs.declared.calls.Op.{Op}
 use Rattle.lin_report.specs.Commands.{IsCommandOf}
 use Rattle.step_memory.specs.declared.steps.Seen.{Seen}
-use Rattle.normal_traits.specs.declared.form.Found.{Found}
-use Rattle.normal_traits.specs.declared.form.Found.TheVariants as found
 use Rattle.normal_traits.specs.World.{Listed, World}
 use Rattle.normal_traits.specs.Steps.{Requested, IsStep}
 use Rattle.normal_traits.specs.Steps.Requested.{loaded}
@@ -14,14 +12,13 @@ use Rattle.normal_traits.specs.Steps.IsStep.{searches}
 use Rattle.tree_help.specs.declared.states.Help.{Help}
 use Rattle.tree_help.specs.declared.states.Helping.{Helping}
 use Rattle.tree_help.specs.declared.states.Helping.TheVariants.{Running, Finished, BackedOut}
-use Rattle.tree_help.specs.Helps.{Fits, help_asked, help_fed}
+use Rattle.tree_help.specs.Helps.{Fits, help_fed}
 use Rattle.ellen_tree_laws.specs.declared.states.TreeSearch.{TreeSearch}
 use Rattle.ellen_tree_laws.specs.declared.states.TreeSearch.TheVariants.{AtUpdate, AtKey, AtChild, AtLeaf, Again, AtValue, SetReady, RemReady, Helps}
-use Rattle.ellen_tree_laws.specs.declared.states.Passed.{Passed}
 use Rattle.ellen_tree_laws.specs.Words.{child_at, update_at, leaf_key_at}
-use Rattle.ellen_tree_laws.specs.Search.{Asks, asked, fed, leaf_of, after_help, came_to}
+use Rattle.ellen_tree_laws.specs.Search.{Asks, asked, fed, leaf_of, after_help}
 use Rattle.ellen_tree_laws.specs.Shape.{Shape}
-use Rattle.ellen_tree_laws.specs.Knowledge.{Knows, Learnt, Follows}
+use Rattle.ellen_tree_laws.specs.Knowledge.{Knows, Follows}
 use Rattle.ellen_tree_laws.specs.Form.{tree_form}
 use Rattle.ellen_tree_laws.proofs.Offers.{key_limit}
 use Rattle.ellen_tree_laws.proofs.Later.{later}

@@ -2,7 +2,6 @@
 use Rattle.std.proofs.Common.{ℕ, Bool, true, false, ◌==◌, ◌||◌, ◌&&◌, not, List, Option, arith}
 use Rattle.std.specs.Prelude.{if◌then◌else◌, Some, None}
 use Rattle.lin_report.specs.declared.calls.Op.{Op}
-use Rattle.lin_report.specs.declared.calls.Outcome.{Outcome}
 use Rattle.lin_report.specs.declared.calls.Outcome.TheVariants.{Plain, ValueOf}
 use Rattle.lin_report.specs.declared.calls.Reply.TheVariants.{No, Absent, Done}
 use Rattle.lin_report.specs.declared.calls.TheConstants.{GET}
@@ -10,7 +9,6 @@ use Rattle.step_memory.specs.declared.steps.Seen.{Seen}
 use Rattle.word_fields.specs.Versioned.{is_modified}
 use Rattle.normal_traits.specs.declared.form.Found.{Found}
 use Rattle.normal_traits.specs.declared.form.Found.TheVariants as found
-use Rattle.normal_traits.specs.declared.form.Wrapped.{Wrapped}
 use Rattle.normal_traits.specs.declared.form.Wrapped.TheVariants as wrapped
 use Rattle.normal_traits.specs.declared.lists.Entry.{Entry}
 use Rattle.normal_traits.specs.Laws.{FitsRecord, FoundFits, WrappedFits}
@@ -24,7 +22,7 @@ use Rattle.ellen_tree_laws.specs.declared.states.TreeSearch.{TreeSearch}
 use Rattle.ellen_tree_laws.specs.declared.states.TreeSearch.TheVariants.{AtUpdate, AtKey, AtChild, AtLeaf, Again, AtValue, SetReady, RemReady, Helps}
 use Rattle.ellen_tree_laws.specs.declared.states.Passed.{Passed}
 use Rattle.ellen_tree_laws.specs.Words.{update_at, is_set, is_rem, may_list}
-use Rattle.ellen_tree_laws.specs.Search.{fed, helped, set_at, rem_at, met_leaf, met_again, told, leaf_of, after_help, wrap_begun_of, wrapped_by, flags}
+use Rattle.ellen_tree_laws.specs.Search.{fed, helped, set_at, rem_at, met_leaf, told, leaf_of, after_help, wrap_begun_of, wrapped_by, flags}
 
 -- a choice fits where both ways do
 either : (b : Bool) (one other : TreeSearch × Found) → FoundFits one.1 → FoundFits other.1 → FoundFits (if b then one else other).1
@@ -50,7 +48,7 @@ rem_fits stay (Some above) last =
     either (is_modified above.update || is_modified last.update) (stay, found.Contended)
     (if not (is_clean above.update) then helped (update_at above.node) above.update else (if not (is_clean last.update) then helped (update_at last.node) last.update else (RemReady above last, found.Ready))) tt
     (either (not (is_clean above.update)) (helped (update_at above.node) above.update) (if not (is_clean last.update) then helped (update_at last.node) last.update else (RemReady above last, found.Ready)) tt
-        (either (not (is_clean last.update)) (helped (update_at last.node) last.update) (RemReady above last, found.Ready) tt tt))
+    (either (not (is_clean last.update)) (helped (update_at last.node) last.update) (RemReady above last, found.Ready) tt tt))
 
 leaf_fits : (stay : TreeSearch) (op : Op) (above : Option Passed) (last : Passed) (key : ℕ) (is : Bool) → FoundFits (met_leaf stay op above last key is).1
 leaf_fits stay op above last key is =

@@ -1,9 +1,9 @@
 -- Each step of a help within a search: it goes on following its list.
-use Rattle.std.proofs.Common.{◌≡◌, ◌≢◌, ℕ, ◌+◌, ◌*◌, ◌/◌, ◌%◌, ◌^◌, ◌<◌, Bool, true, false, not, ◌&&◌, refl, sym, ap, subst, ◌∙◌, inl, inr, ◌⊎◌, arith}
+use Rattle.std.proofs.Common.{◌≡◌, ◌≢◌, ℕ, ◌+◌, ◌*◌, ◌^◌, ◌<◌, Bool, true, false, not, refl, sym, ap, subst, ◌∙◌, inl, inr, ◌⊎◌, arith}
 use Rattle.std.specs.Prelude.{◌==◌, if◌then◌else◌}
 use Rattle.std.proofs.lemmas.Bool.{eqb-true, eq-eqb, and_parts}
-use Rattle.word_fields.specs.Versioned.{versioned_value, versioned_bit, is_modified, cleared_word}
-use Rattle.word_fields.proofs.VersionedLemmas.{bit_below, cleared-clear}
+use Rattle.word_fields.specs.Versioned.{versioned_value, versioned_bit, is_modified}
+use Rattle.word_fields.proofs.VersionedLemmas.{bit_below}
 use Rattle.node_arena.specs.MemoryMap.{block_place}
 use Rattle.step_memory.specs.declared.steps.Seen.{Seen}
 use Rattle.normal_traits.specs.World.{Listed, World}
@@ -15,23 +15,21 @@ use Rattle.tree_help.specs.declared.states.Flag.{Flag}
 use Rattle.tree_help.specs.declared.states.Help.{Help}
 use Rattle.tree_help.specs.declared.states.Help.TheVariants as helps
 use Rattle.tree_help.specs.declared.states.Helping.{Helping}
-use Rattle.tree_help.specs.declared.states.Helping.TheVariants.{Running, Finished, BackedOut}
+use Rattle.tree_help.specs.declared.states.Helping.TheVariants.{Running, Finished}
 use Rattle.tree_help.specs.declared.states.HelpInsert.{HelpInsert}
 use Rattle.tree_help.specs.declared.states.HelpInsert.TheVariants as insert
 use Rattle.tree_help.specs.declared.states.HelpDelete.{HelpDelete}
 use Rattle.tree_help.specs.declared.states.HelpDelete.TheVariants as delete
 use Rattle.tree_help.specs.declared.states.HelpMark.{HelpMark}
 use Rattle.tree_help.specs.declared.states.HelpMark.TheVariants as mark
-use Rattle.tree_help.specs.declared.states.TheConstants.{CLEAN, INSERTING, DELETING, MARKED}
+use Rattle.tree_help.specs.declared.states.TheConstants.{CLEAN, DELETING}
 use Rattle.tree_help.specs.Updates.{state_of, note_at, place_in, flag_place}
-use Rattle.tree_help.specs.Helps.{Fits, NamesBlock, flag_block, has_mark, is_flag_of, flag_found, insert_asked, insert_next, insert_helping, delete_asked, delete_next, delete_helping, mark_asked, mark_fed, help_asked, help_fed}
-use Rattle.ellen_tree_laws.specs.Words.{child_at, child_field, update_at, is_rem}
-use Rattle.ellen_tree_laws.specs.Search.{flag_of}
-use Rattle.ellen_tree_laws.specs.Shape.{Shape, Flagged, HasFlag, HasMark, is_node, noted}
+use Rattle.tree_help.specs.Helps.{Fits, NamesBlock, has_mark, is_flag_of, insert_asked, insert_next, delete_asked, delete_next, mark_asked, mark_fed, help_asked, help_fed}
+use Rattle.ellen_tree_laws.specs.Words.{child_at, update_at, is_rem}
+use Rattle.ellen_tree_laws.specs.Shape.{Shape, Flagged, HasFlag, HasMark, is_node}
 use Rattle.ellen_tree_laws.specs.Knowledge.{Follows, FollowsInsert, FollowsDelete, FollowsMark, IsFlag}
 use Rattle.ellen_tree_laws.specs.Form.{tree_form}
 use Rattle.ellen_tree_laws.proofs.Plain.{marked_value}
-use Rattle.ellen_tree_laws.proofs.Ways.{field_small}
 use Rattle.ellen_tree_laws.proofs.Owners.{up_value}
 use Rattle.ellen_tree_laws.proofs.Swings.{removes}
 use Rattle.ellen_tree_laws.proofs.WrapFed.{insert_well, delete_well}

@@ -1,22 +1,21 @@
 -- What an update word tells that is seen: it is clean, or whose flag or mark it is; and the help that it asks for.
-use Rattle.std.proofs.Common.{◌≡◌, ◌≢◌, ℕ, ◌+◌, ◌*◌, ◌/◌, ◌%◌, ◌^◌, ◌<◌, Bool, true, false, refl, sym, ap, subst, ◌∙◌, inl, inr, ◌⊎◌, arith}
+use Rattle.std.proofs.Common.{◌≡◌, ◌≢◌, ℕ, ◌+◌, ◌*◌, Bool, true, false, refl, sym, ap, subst, ◌∙◌, inl, inr, ◌⊎◌, arith}
 use Rattle.std.specs.Prelude.{◌==◌, if◌then◌else◌}
-use Rattle.std.proofs.lemmas.Bool.{eq-eqb, ne_eqb, eqb-true}
-use Rattle.word_fields.specs.Versioned.{versioned_value, versioned_bit, value_below, cleared_word}
+use Rattle.std.proofs.lemmas.Bool.{eq-eqb, ne_eqb}
+use Rattle.word_fields.specs.Versioned.{versioned_value, versioned_bit, value_below}
 use Rattle.word_fields.proofs.VersionedLemmas.{cleared-clear}
 use Rattle.normal_traits.specs.World.{Listed, World}
 use Rattle.tree_help.specs.declared.states.Flag.{Flag}
-use Rattle.tree_help.specs.declared.states.Help.{Help}
 use Rattle.tree_help.specs.declared.states.Help.TheVariants as helps
 use Rattle.tree_help.specs.declared.states.HelpInsert.TheVariants as insert
 use Rattle.tree_help.specs.declared.states.HelpDelete.TheVariants as delete
 use Rattle.tree_help.specs.declared.states.HelpMark.TheVariants as mark
-use Rattle.tree_help.specs.declared.states.TheConstants.{CLEAN, INSERTING, DELETING, MARKED}
-use Rattle.tree_help.specs.Updates.{state_of, block_of}
+use Rattle.tree_help.specs.declared.states.TheConstants.{INSERTING, DELETING, MARKED}
+use Rattle.tree_help.specs.Updates.{state_of}
 use Rattle.tree_help.specs.Helps.{Fits, flag_block, help_of}
-use Rattle.ellen_tree_laws.specs.Words.{update_at, is_set, is_rem}
+use Rattle.ellen_tree_laws.specs.Words.{update_at, is_set}
 use Rattle.ellen_tree_laws.specs.Search.{flag_of}
-use Rattle.ellen_tree_laws.specs.Shape.{Shape, Flagged, HasFlag, HasMark, IsFlagger, Inserts, Removes, is_node, flags_at, flag_state}
+use Rattle.ellen_tree_laws.specs.Shape.{Shape, HasFlag, HasMark, IsFlagger, Inserts, Removes, is_node, flags_at, flag_state}
 use Rattle.ellen_tree_laws.specs.Knowledge.{Follows, IsFlag, IsKnown}
 use Rattle.ellen_tree_laws.proofs.Plain.{marked_value, both_ops}
 use Rattle.ellen_tree_laws.proofs.Owners.{up_value}
@@ -91,7 +90,7 @@ module _ (world : World) (shape : Shape world) (node : ℕ) (is : is_node world.
           by_set false e = refl
 
   -- a mark, whatever its bit
-  pub mark_known : (m : HasMark world node) → Follows (help_of flag) world m.list
+  mark_known : (m : HasMark world node) → Follows (help_of flag) world m.list
   mark_known m =
       let small = (shape.flaggers m.list m.flagged).small in
       let value = marked_value world m.list node small m.marked in

@@ -1,23 +1,23 @@
 -- What a search of the tree has learnt stays true whatever anyone does.
-use Rattle.std.proofs.Common.{◌≡◌, ◌≢◌, ℕ, suc, ◌+◌, ◌-◌, ◌*◌, ◌<◌, ◌≤◌, Bool, true, false, List, ◌∷◌, length, Option, refl, sym, ap, subst, ◌∙◌, inl, inr, ◌⊎◌, arith}
+use Rattle.std.proofs.Common.{◌≡◌, ℕ, suc, ◌-◌, ◌<◌, ◌≤◌, Bool, true, false, List, ◌∷◌, length, Option, refl, sym, ap, ◌∙◌, inl, inr, ◌⊎◌, arith}
 use Rattle.std.specs.Prelude.{◌==◌, if◌then◌else◌, drop, Some, None}
 use Rattle.std.specs.FinMap as map
-use Rattle.word_fields.specs.Versioned.{versioned_value, versioned_bit, versioned_version}
+use Rattle.word_fields.specs.Versioned.{versioned_version}
 use Rattle.lin_report.specs.declared.calls.Op.{Op}
 use Rattle.lin_report.specs.declared.calls.Client.TheVariants as client
 use Rattle.lin_report.specs.declared.calls.Reply.TheVariants.{Yes}
 use Rattle.lin_report.specs.Commands.{IsCommandOf, KEY_LIMIT}
 use Rattle.lin_report.specs.Object.{map_object}
-use Rattle.normal_traits.specs.World.{Listed, Change, World, held_after, first_changes}
+use Rattle.normal_traits.specs.World.{Change, World, held_after, first_changes}
 use Rattle.normal_traits.specs.Steps.{with_word, IsStep}
 use Rattle.tree_help.specs.declared.states.TheConstants.{CLEAN, INSERTING, DELETING, MARKED}
 use Rattle.tree_help.specs.Updates.{state_of, inner}
 use Rattle.ellen_tree_laws.specs.declared.states.TreeSearch.{TreeSearch}
 use Rattle.ellen_tree_laws.specs.declared.states.TreeSearch.TheVariants.{AtUpdate, AtKey, AtChild, AtLeaf, Again, AtValue, SetReady, RemReady, Helps}
 use Rattle.ellen_tree_laws.specs.declared.states.Passed.{Passed}
-use Rattle.ellen_tree_laws.specs.Words.{is_internal, child_at, update_at, key_at, leaf_key_at, leaf_value_at, is_set, is_rem}
+use Rattle.ellen_tree_laws.specs.Words.{is_internal, child_at, update_at, leaf_key_at, leaf_value_at, is_set}
 use Rattle.ellen_tree_laws.specs.Search.{leaf_of}
-use Rattle.ellen_tree_laws.specs.Shape.{Shape, is_node, IsLeaf, child_of, is_left, flag_state}
+use Rattle.ellen_tree_laws.specs.Shape.{Shape, is_node, is_left, flag_state}
 use Rattle.ellen_tree_laws.specs.Knowledge.{Knows, Learnt, Reaches, WasTold, IsKnown, HasPassed, CameFrom, IsAt, HasLeaf, SawUpdate}
 use Rattle.ellen_tree_laws.specs.Form.{tree_form}
 use Rattle.ellen_tree_laws.proofs.Plain.{both_ops, marked_value}
@@ -186,7 +186,7 @@ module _ (world after : World) (shape : Shape world) (l : Later world after) (s 
         (leaf_kept op.key since limit began effect last k.0, k.1, came_kept op.key since limit began effect (Some above) last.node k.2, k.3, k.4, key_kept op.key since limit began effect last k.0 ∙ k.5)
     learnt_kept (Helps help) k = (k.0, follows_later world after shape l s k.0 help k.1)
 
-    pub knows_later : (search : TreeSearch) → Learnt search op world since → Knows search op after since
+    knows_later : (search : TreeSearch) → Learnt search op world since → Knows search op after since
     knows_later search k = record { began = omega (arith, began, length_later l.changes); learnt = learnt_kept search k }
 
 pub knows_kept : (world after : World) (search : TreeSearch) (op : Op) (since : ℕ) → IsCommandOf client.Tree op → Shape world → Knows search op world since → IsStep tree_form world after → Knows search op after since

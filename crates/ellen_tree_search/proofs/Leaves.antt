@@ -1,5 +1,5 @@
 -- A search at a leaf: what it goes on to, by its operation and the leaf's key.
-use Rattle.std.proofs.Common.{◌≡◌, ◌≢◌, ℕ, ◌+◌, ◌*◌, ◌^◌, ◌<◌, ◌≤◌, Bool, true, false, not, ◌||◌, ◌&&◌, length, Option, refl, sym, ap, subst, ◌∙◌, inl, inr, ◌⊎◌, arith}
+use Rattle.std.proofs.Common.{◌≡◌, ◌≢◌, ℕ, ◌≤◌, Bool, true, false, not, ◌||◌, ◌&&◌, length, Option, refl, sym, ◌∙◌, inl, inr, arith}
 use Rattle.std.specs.Prelude.{◌==◌, if◌then◌else◌, Some, None}
 use Rattle.std.proofs.lemmas.Bool.{eqb-true, eq-eqb, and_parts, true≢false}
 use Rattle.word_fields.specs.Versioned.{versioned_bit, is_modified}
@@ -14,10 +14,10 @@ use Rattle.normal_traits.specs.Laws.{FoundWell}
 use Rattle.tree_help.specs.declared.states.TheConstants.{CLEAN, MARKED}
 use Rattle.tree_help.specs.Updates.{state_of, is_clean}
 use Rattle.ellen_tree_laws.specs.declared.states.TreeSearch.{TreeSearch}
-use Rattle.ellen_tree_laws.specs.declared.states.TreeSearch.TheVariants.{AtLeaf, Again, AtValue, SetReady, RemReady, Helps}
+use Rattle.ellen_tree_laws.specs.declared.states.TreeSearch.TheVariants.{AtLeaf, Again, AtValue, RemReady}
 use Rattle.ellen_tree_laws.specs.declared.states.Passed.{Passed}
-use Rattle.ellen_tree_laws.specs.Words.{update_at, leaf_key_at, leaf_value_at, is_set, is_rem}
-use Rattle.ellen_tree_laws.specs.Search.{Asks, leaf_of, helped, set_at, rem_at, met_leaf, met_again, told, InRange, AboveInRange}
+use Rattle.ellen_tree_laws.specs.Words.{update_at, leaf_key_at, is_set, is_rem}
+use Rattle.ellen_tree_laws.specs.Search.{leaf_of, helped, set_at, rem_at, met_leaf, met_again, told, InRange, AboveInRange}
 use Rattle.ellen_tree_laws.specs.Shape.{Shape}
 use Rattle.ellen_tree_laws.specs.Knowledge.{Knows, Learnt, HasPassed, HasLeaf, CameFrom}
 use Rattle.ellen_tree_laws.specs.Form.{tree_form}

@@ -1,24 +1,22 @@
 -- A search on its way down: the update word, the key and the child of each node.
-use Rattle.std.proofs.Common.{◌≡◌, ◌≢◌, ℕ, ◌+◌, ◌-◌, ◌*◌, ◌/◌, ◌%◌, ◌^◌, ◌<◌, ◌≤◌, Bool, true, false, ◌||◌, List, length, Option, refl, sym, ap, subst, ◌∙◌, inl, inr, ◌⊎◌, arith}
-use Rattle.std.specs.Prelude.{◌==◌, if◌then◌else◌, nat_lt, drop, Some, None}
+use Rattle.std.proofs.Common.{◌≡◌, ◌≢◌, ℕ, ◌-◌, ◌/◌, ◌<◌, ◌≤◌, Bool, true, false, List, length, Option, refl, sym, ap, subst, ◌∙◌, inl, inr, arith}
+use Rattle.std.specs.Prelude.{◌==◌, if◌then◌else◌, nat_lt, drop, Some}
 use Rattle.std.specs.FinMap as map
 use Rattle.std.proofs.lemmas.Bool.{true≢false, or_right}
 use Rattle.word_fields.specs.Versioned.{versioned_value}
 use Rattle.lin_report.specs.declared.calls.Op.{Op}
 use Rattle.lin_report.specs.Commands.{KEY_LIMIT}
 use Rattle.lin_report.specs.Object.{map_object}
-use Rattle.normal_traits.specs.declared.form.Found.TheVariants as found
 use Rattle.normal_traits.specs.World.{Change, World, held_after, first_changes}
-use Rattle.tree_help.specs.declared.states.TheConstants.{MARKED}
-use Rattle.tree_help.specs.Updates.{state_of, inner}
+use Rattle.tree_help.specs.Updates.{inner}
 use Rattle.ellen_tree_laws.specs.declared.states.TreeSearch.{TreeSearch}
-use Rattle.ellen_tree_laws.specs.declared.states.TreeSearch.TheVariants.{AtUpdate, AtKey, AtChild, AtLeaf}
+use Rattle.ellen_tree_laws.specs.declared.states.TreeSearch.TheVariants.{AtUpdate, AtChild, AtLeaf}
 use Rattle.ellen_tree_laws.specs.declared.states.Passed.{Passed}
 use Rattle.ellen_tree_laws.specs.Words.{is_internal, child_at, update_at, key_at}
 use Rattle.ellen_tree_laws.specs.Search.{Asks, came_to, leaf_of}
-use Rattle.ellen_tree_laws.specs.Shape.{Shape, IsBelow, IsLeaf, is_node, made_node, child_of, is_left, way, OnWay}
-use Rattle.ellen_tree_laws.specs.Shape.OnWay.{root, below}
-use Rattle.ellen_tree_laws.specs.Knowledge.{Learnt, Reaches, WasTold, HasPassed, CameFrom, IsAt, HasLeaf, SawUpdate}
+use Rattle.ellen_tree_laws.specs.Shape.{Shape, IsBelow, is_node, made_node, child_of, is_left, way, OnWay}
+use Rattle.ellen_tree_laws.specs.Shape.OnWay.{below}
+use Rattle.ellen_tree_laws.specs.Knowledge.{Learnt, Reaches, WasTold, HasPassed, IsAt, SawUpdate}
 use Rattle.ellen_tree_laws.specs.Knowledge.Reaches.{on, off, told}
 use Rattle.ellen_tree_laws.proofs.Ways.{inner_same, inner_is, inner_block, leaf_names, told_now}
 use Rattle.ellen_tree_steps.proofs.Waiting.{brought}
@@ -102,8 +100,7 @@ module _ (world : World) (shape : Shape world) (op : Op) (since : ℕ) (limit : 
         by_name (inl next) =
             let block : versioned_value (world.words (child_at node (nat_lt op.key key))) / 4 ≡ next.0 = ap (λ r. r / 4) next.2 ∙ inner_block next.0 in
             let again : inner (versioned_value (world.words (child_at node (nat_lt op.key key))) / 4) ≡ versioned_value (world.words (child_at node (nat_lt op.key key))) = ap inner block ∙ sym next.2 in
-            let is_next : is_node world.changes next.0 ≡ true = or_right (next.0 == 0) (made_node world.changes next.0) next.1 in
-            (
+            let is_next : is_node world.changes next.0 ≡ true = or_right (next.0 == 0) (made_node world.changes next.0) next.1 in (
               (
                 refl,
                 record {

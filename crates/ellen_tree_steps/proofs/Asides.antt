@@ -1,19 +1,17 @@
 -- A step that exchanges no child leaves the order, the map and each key's way.
-use Rattle.std.proofs.Common.{◌≡◌, ℕ, ◌+◌, ◌*◌, ◌/◌, ◌%◌, ◌<◌, ◌≤◌, ◌^◌, Bool, true, false, List, length, refl, sym, ap, subst, ◌∙◌, inl, inr, ◌⊎◌, arith}
-use Rattle.std.specs.Prelude.{Option}
+use Rattle.std.proofs.Common.{◌≡◌, ℕ, ◌/◌, ◌%◌, ◌<◌, ◌≤◌, Bool, true, false, List, length, refl, sym, ap, subst, ◌∙◌, inl, inr, arith}
 use Rattle.std.specs.FinMap as map
 use Rattle.std.proofs.lemmas.Bool.{or_right}
 use Rattle.word_fields.specs.Versioned.{versioned_value}
 use Rattle.word_fields.proofs.VersionedLemmas.{value-cleared}
 use Rattle.lin_report.specs.Commands.{KEY_LIMIT}
 use Rattle.lin_report.specs.Object.{map_object}
-use Rattle.node_arena.specs.MemoryMap.{reference_to, node_place}
 use Rattle.node_arena.proofs.PlaceLemmas.{node_place-reference_to}
 use Rattle.normal_traits.specs.World.{Change, World, held_after, first_changes}
-use Rattle.tree_help.specs.declared.states.TheConstants.{CLEAN, MARKED}
+use Rattle.tree_help.specs.declared.states.TheConstants.{MARKED}
 use Rattle.tree_help.specs.Updates.{state_of, inner}
 use Rattle.ellen_tree_laws.specs.Words.{child_at, update_at, key_at, leaf_key_at, is_internal}
-use Rattle.ellen_tree_laws.specs.Shape.{Shape, Ordered, OnWay, IsStored, HasFlag, HasMark, is_node, made_node, child_of, is_left, way, told_by, keys, children, IsLeaf, IsNamed, IsBelow}
+use Rattle.ellen_tree_laws.specs.Shape.{Shape, Ordered, OnWay, is_node, made_node, child_of, is_left, way, told_by, keys, children, IsLeaf, IsNamed, IsBelow}
 use Rattle.ellen_tree_laws.specs.Shape.OnWay.{root, below}
 use Rattle.ellen_tree_laws.specs.Knowledge.{Reaches, WasTold}
 use Rattle.ellen_tree_laws.specs.Knowledge.Reaches.{on, off, told}
@@ -21,10 +19,10 @@ use Rattle.ellen_tree_laws.proofs.Ways.{inner_same, inner_is, inner_block, leaf_
 use Rattle.ellen_tree_laws.proofs.Asks.{node_word}
 use Rattle.ellen_tree_laws.proofs.Later.{Later}
 use Rattle.ellen_tree_laws.proofs.Spares.{Spares}
-use Rattle.ellen_tree_steps.proofs.Lasting.{node_later, leaf_later, named_later, below_later, field_later, key_later, left_later, leaf_field_later, told_later}
+use Rattle.ellen_tree_steps.proofs.Lasting.{node_later, leaf_later, key_later, left_later, leaf_field_later, told_later}
 
 -- each node on a way is one
-pub way_node : (world : World) → Shape world → (key node : ℕ) → OnWay world.words key node → is_node world.changes node ≡ true
+way_node : (world : World) → Shape world → (key node : ℕ) → OnWay world.words key node → is_node world.changes node ≡ true
 way_node world shape key node (root e) = subst (λ n. is_node world.changes n ≡ true) (sym e) refl
 way_node world shape key node (below above w e) = by_name ((shape.stored above (way_node world shape key above w)).leads (is_left world.words key above))
   where
@@ -34,7 +32,6 @@ way_node world shape key node (below above w e) = by_name ((shape.stored above (
         let no : is_internal (inner node) ≡ false = subst (λ r. is_internal r ≡ false) e (leaf_names world.changes (way world.words key above) leaf) in
         let yes : is_internal (inner node) ≡ true = inner_is node in
         absurd cc
-
 
 -- an order is one of its nodes' keys and children alone
 pub ordered_same : (key key' : ℕ → ℕ) (child child' : ℕ → Bool → ℕ) (on' : ℕ → Bool) (low high : ℕ → ℕ) → Ordered key child on' low high → ((r : ℕ) → on' r ≡ true → key' r ≡ key r)

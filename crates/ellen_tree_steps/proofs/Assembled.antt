@@ -1,5 +1,5 @@
 -- The shape after a step, put together from its parts: where no change was made, and behind one more change.
-use Rattle.std.proofs.Common.{◌≡◌, ◌≢◌, ℕ, ◌<◌, ◌≤◌, Bool, true, false, List, ◌∷◌, refl, sym, ap, subst, ◌∙◌, inl, inr, ◌⊎◌, arith}
+use Rattle.std.proofs.Common.{◌≡◌, ◌≢◌, ℕ, ◌<◌, ◌≤◌, Bool, true, false, List, ◌∷◌, sym, ap, subst, ◌∙◌, inl, inr}
 use Rattle.std.specs.Prelude.{AllPairs}
 use Rattle.std.specs.FinMap as map
 use Rattle.std.proofs.lemmas.List.Kept.{AllPairs-cons}
@@ -116,10 +116,10 @@ module _ (world after : World) (shape : Shape world) (l : Later world after) (s 
       effective = subst EachChanges (sym changes) (effective, shape.effective);
       one_list = subst (AllPairs (λ (a b : Change). a.list.identity ≢ b.list.identity)) (sym changes)
           (AllPairs-cons (λ (a b : Change). a.list.identity ≢ b.list.identity) (record { list = list; reply = Yes }) world.changes
-              (all_among (λ (b : Change). list.identity ≢ b.list.identity) world.changes (λ old among e. own_change old among (shape.same_identity old.list list (shape.flagged old among) flagged (sym e)))) shape.one_list);
+          (all_among (λ (b : Change). list.identity ≢ b.list.identity) world.changes (λ old among e. own_change old among (shape.same_identity old.list list (shape.flagged old among) flagged (sym e)))) shape.one_list);
       one_block = subst (AllPairs (λ (a b : Change). 0 < a.list.block → a.list.block ≢ b.list.block)) (sym changes)
           (AllPairs-cons (λ (a b : Change). 0 < a.list.block → a.list.block ≢ b.list.block) (record { list = list; reply = Yes }) world.changes
-              (all_among (λ (b : Change). 0 < list.block → list.block ≢ b.list.block) world.changes (λ old among some e. own_change old among (shape.same_block old.list list (shape.flagged old among) flagged (sym e)))) shape.one_block);
+          (all_among (λ (b : Change). 0 < list.block → list.block ≢ b.list.block) world.changes (λ old among some e. own_change old among (shape.same_block old.list list (shape.flagged old among) flagged (sym e)))) shape.one_block);
       spent = causes.spent;
       causes_differ = causes.differ;
     }

@@ -1,5 +1,5 @@
 -- An exchange of one child word, as the order sees it: one child of an internal node goes elsewhere.
-use Rattle.std.proofs.Common.{◌≡◌, ◌≢◌, ℕ, ◌+◌, ◌-◌, ◌*◌, ◌/◌, ◌%◌, ◌<◌, Bool, true, false, refl, sym, ap, subst, ◌∙◌, inl, inr, ◌⊎◌, arith}
+use Rattle.std.proofs.Common.{◌≡◌, ◌≢◌, ℕ, ◌+◌, ◌-◌, ◌*◌, ◌/◌, ◌%◌, ◌<◌, Bool, true, false, refl, sym, ap, ◌∙◌, inl, inr, arith}
 use Rattle.std.specs.Prelude.{◌==◌, if◌then◌else◌, Some, None}
 use Rattle.std.proofs.lemmas.Bool.{eqb-true}
 use Rattle.word_fields.specs.Versioned.{versioned_value}
@@ -20,7 +20,7 @@ use Rattle.ellen_tree_steps.proofs.ChildWords.{child_cases}
 abbrev pub kids : World → ℕ → Bool → ℕ
 kids world r left = if is_internal r then children world r left else 0
 
-pub kid_in : (world : World) (r : ℕ) (left : Bool) → is_internal r ≡ true → kids world r left ≡ children world r left
+kid_in : (world : World) (r : ℕ) (left : Bool) → is_internal r ≡ true → kids world r left ≡ children world r left
 kid_in world r left is = ap (λ b. if b then children world r left else 0) is
 
 pub kid_of : (world : World) (node : ℕ) (left : Bool) → kids world (inner node) left ≡ child_of world.words node left

@@ -1,12 +1,11 @@
 -- An exchange of one child word, at a node at which a list's flag is up: what it leaves of the other lists, and of the
 -- nodes' words.
-use Rattle.std.proofs.Common.{◌≡◌, ◌≢◌, ℕ, ◌^◌, ◌<◌, Bool, true, false, List, ◌∷◌, refl, sym, ap, subst, ◌∙◌, inl, inr, ◌⊎◌, arith}
+use Rattle.std.proofs.Common.{◌≡◌, ◌≢◌, ℕ, ◌^◌, ◌<◌, Bool, true, ◌∷◌, refl, sym, ap, subst, ◌∙◌, inl, inr, ◌⊎◌, arith}
 use Rattle.std.proofs.lemmas.Bool.{cases_eq}
 use Rattle.word_fields.specs.Versioned.{versioned_value, cleared_word}
 use Rattle.lin_report.specs.declared.calls.Reply.TheVariants.{Yes}
-use Rattle.normal_traits.specs.World.{Listed, Change, World, Among}
+use Rattle.normal_traits.specs.World.{Listed, World, Among}
 use Rattle.normal_traits.specs.Steps.{with_word}
-use Rattle.tree_help.specs.declared.states.TheConstants.{MARKED}
 use Rattle.tree_help.specs.Updates.{state_of}
 use Rattle.ellen_tree_laws.specs.Words.{child_at, update_at}
 use Rattle.ellen_tree_laws.specs.Shape.{Shape, Flagged, Inserts, InsertWaits, Removes, RemoveStands, Changed, IsStored, IsBelow, IsUp, IsMarked, OnWay, noted, is_node, child_of, is_left, way}
@@ -34,7 +33,7 @@ module _ (world after : World) (shape : Shape world) (l : Later world after) (s 
   pub child_here : after.words (child_at flagged_own.node side) ≡ to
   child_here = words (child_at flagged_own.node side) ∙ with_here (child_at flagged_own.node side) to world.words (child_at flagged_own.node side) refl
 
-  pub child_other : (node : ℕ) (left : Bool) → child_at node left ≢ child_at flagged_own.node side → after.words (child_at node left) ≡ world.words (child_at node left)
+  child_other : (node : ℕ) (left : Bool) → child_at node left ≢ child_at flagged_own.node side → after.words (child_at node left) ≡ world.words (child_at node left)
   child_other node left differs = words (child_at node left) ∙ with_other (child_at flagged_own.node side) to world.words (child_at node left) differs
 
   pub child_apart : (node : ℕ) (left : Bool) → node ≢ flagged_own.node → after.words (child_at node left) ≡ world.words (child_at node left)
@@ -43,7 +42,7 @@ module _ (world after : World) (shape : Shape world) (l : Later world after) (s 
   pub update_stays : (node : ℕ) → after.words (update_at node) ≡ world.words (update_at node)
   update_stays node = words (update_at node) ∙ with_other (child_at flagged_own.node side) to world.words (update_at node) (child_update flagged_own.node node side)
 
-  pub way_apart : (key node : ℕ) → is_node world.changes node ≡ true → node ≢ flagged_own.node → way after.words key node ≡ way world.words key node
+  way_apart : (key node : ℕ) → is_node world.changes node ≡ true → node ≢ flagged_own.node → way after.words key node ≡ way world.words key node
   way_apart key node is differs = ap (λ b. child_of after.words node b) (left_later world after shape l key node is) ∙ ap versioned_value (child_apart node (is_left world.words key node) differs)
 
   -- ---- the list whose change it is
@@ -64,7 +63,7 @@ module _ (world after : World) (shape : Shape world) (l : Later world after) (s 
     up_child up = ap cleared_word (update_stays flagged.node) ∙ up
 
     -- a list that waits at this place is the list whose change it is
-    pub own_place : (left : Bool) → IsUp world list flagged.node flagged.from → (flagged.node ≡ flagged_own.node) × (left ≡ side) → own ≡ list
+    own_place : (left : Bool) → IsUp world list flagged.node flagged.from → (flagged.node ≡ flagged_own.node) × (left ≡ side) → own ≡ list
     own_place left up same = same_up world shape own list flagged_own flagged up_own up (sym same.0)
 
     pub inserts_child : (i : Inserts world list flagged.node flagged.from) → (own ≡ list → InsertFate after list flagged.node flagged.from i.left) → (OnWay world.words list.call.op.key flagged.node → IsUp world list flagged.node flagged.from → OnWay after.words list.call.op.key flagged.node)

@@ -1,6 +1,6 @@
 -- The exchanges of a help, won or lost: each that is won is an insertion, a mark, a swing or the end of a flag.
-use Rattle.std.proofs.Common.{◌≡◌, ◌≢◌, ℕ, ◌+◌, ◌*◌, ◌^◌, ◌<◌, Bool, true, false, not, ◌∷◌, Option, refl, sym, ap, subst, ◌∙◌, inl, inr, ◌⊎◌, arith}
-use Rattle.std.specs.Prelude.{◌==◌, if◌then◌else◌, nat_lt, Some, None}
+use Rattle.std.proofs.Common.{◌≡◌, ℕ, ◌+◌, ◌*◌, ◌^◌, ◌<◌, Bool, true, false, not, ◌∷◌, Option, refl, sym, ap, subst, ◌∙◌, inl, inr, ◌⊎◌, arith}
+use Rattle.std.specs.Prelude.{◌==◌, nat_lt, Some, None}
 use Rattle.std.proofs.lemmas.Bool.{eq-eqb, ne_eqb}
 use Rattle.word_fields.specs.Versioned.{versioned_value, versioned_version, value_below}
 use Rattle.word_fields.proofs.VersionedLemmas.{value-changed, changed_below}
@@ -19,9 +19,9 @@ use Rattle.tree_help.specs.declared.states.HelpDelete.TheVariants as delete
 use Rattle.tree_help.specs.declared.states.TheConstants.{CLEAN, MARKED}
 use Rattle.tree_help.specs.Updates.{state_of, block_of, updated, inner}
 use Rattle.tree_help.specs.Helps.{flag_block, insert_asked, delete_asked}
-use Rattle.ellen_tree_laws.specs.Words.{child_at, child_field, update_at, key_at, is_child, is_set, is_rem}
+use Rattle.ellen_tree_laws.specs.Words.{child_at, child_field, update_at, key_at, is_set, is_rem}
 use Rattle.ellen_tree_laws.specs.Search.{flag_of}
-use Rattle.ellen_tree_laws.specs.Shape.{Shape, Flagged, Inserts, InsertWaits, Removes, RemoveStands, Changed, IsGone, IsGivenUp, IsMarked, IsUp, noted, flags_at, flag_over, adds_beside, cause_of, cause_here}
+use Rattle.ellen_tree_laws.specs.Shape.{Shape, Flagged, Removes, RemoveStands, Changed, IsGone, IsGivenUp, IsMarked, IsUp, noted, flags_at, flag_over, adds_beside, cause_of, cause_here}
 use Rattle.ellen_tree_laws.specs.Knowledge.{FollowsInsert, FollowsDelete, IsFlag}
 use Rattle.ellen_tree_laws.specs.Form.{tree_form}
 use Rattle.ellen_tree_laws.proofs.Plain.{update_same, both_ops, marked_value}
@@ -31,7 +31,7 @@ use Rattle.ellen_tree_laws.proofs.Owners.{adds_own, swing_stands, child_is, up_b
 use Rattle.ellen_tree_laws.proofs.Swings.{removes, swing_yes}
 use Rattle.ellen_tree_laws.proofs.Links.{link_yes, link_waits}
 use Rattle.ellen_tree_laws.proofs.Asks.{inserts}
-use Rattle.ellen_tree_steps.specs.Effects.{IsQuiet, IsBeside, Links, Marks, Swings, Ends, Effect}
+use Rattle.ellen_tree_steps.specs.Effects.{IsQuiet, IsBeside, Effect}
 use Rattle.ellen_tree_steps.specs.Effects.Effect.{quiet, links, marks, swings, ends}
 
 -- ---- nothing, and an exchange beside the lists

@@ -1,10 +1,9 @@
 -- The end of a flag keeps the shape.
-use Rattle.std.proofs.Common.{◌≡◌, ◌≢◌, ℕ, ◌+◌, ◌*◌, ◌^◌, ◌<◌, true, refl, sym, ap, subst, ◌∙◌, inl, inr, ◌⊎◌, arith}
-use Rattle.std.proofs.lemmas.Bool.{cases_eq}
+use Rattle.std.proofs.Common.{◌≡◌, ◌≢◌, ℕ, ◌+◌, ◌*◌, ◌^◌, ◌<◌, true, sym, ap, subst, ◌∙◌, inl, inr, ◌⊎◌, arith}
 use Rattle.word_fields.specs.Versioned.{versioned_value, versioned_version, cleared_word}
 use Rattle.word_fields.proofs.VersionedLemmas.{value-changed, cleared-changed}
 use Rattle.normal_traits.specs.World.{Listed, World}
-use Rattle.tree_help.specs.declared.states.TheConstants.{CLEAN, MARKED}
+use Rattle.tree_help.specs.declared.states.TheConstants.{CLEAN}
 use Rattle.tree_help.specs.Updates.{state_of, updated}
 use Rattle.ellen_tree_laws.specs.Words.{update_at}
 use Rattle.ellen_tree_laws.specs.Shape.{Shape, Flagged, IsFlagger, Inserts, InsertWaits, Removes, RemoveStands, Changed, IsGone, IsUp, IsMarked, IsOver, flags_at, flag_state, noted, is_node}

@@ -1,29 +1,27 @@
 -- An insertion keeps the shape.
-use Rattle.std.proofs.Common.{◌≡◌, ◌≢◌, ℕ, ◌+◌, ◌*◌, ◌^◌, ◌%◌, ◌<◌, Bool, true, false, not, ◌||◌, List, ◌∷◌, refl, sym, ap, subst, ◌∙◌, inl, inr, ◌⊎◌, arith}
+use Rattle.std.proofs.Common.{◌≡◌, ℕ, ◌^◌, ◌%◌, ◌<◌, Bool, true, false, not, List, refl, sym, ap, subst, ◌∙◌, inl, inr, arith}
 use Rattle.std.specs.Prelude.{◌==◌, if◌then◌else◌, nat_lt}
 use Rattle.std.proofs.lemmas.Bool.{or_left, eqb-true, eq-eqb, and_parts}
 use Rattle.word_fields.specs.Versioned.{versioned_value, versioned_version}
 use Rattle.lin_report.specs.declared.calls.Reply.TheVariants.{Yes}
 use Rattle.node_arena.specs.MemoryMap.{reference_to}
 use Rattle.normal_traits.specs.World.{Listed, World, Change}
-use Rattle.tree_help.specs.declared.states.TheConstants.{CLEAN}
-use Rattle.tree_help.specs.Updates.{state_of, inner}
-use Rattle.ellen_tree_laws.specs.Words.{is_internal, child_at, child_field, update_at, leaf_key_at, leaf_value_at, is_set}
+use Rattle.ellen_tree_laws.specs.Words.{is_internal, child_at, update_at, leaf_value_at, is_set}
 use Rattle.ellen_tree_laws.specs.Search.{leaf_on, greater}
-use Rattle.ellen_tree_laws.specs.Shape.{Shape, Flagged, Changed, IsFlagger, IsStored, IsBelow, IsLeaf, WasMade, OnWay, noted, is_node, made_node, brings, child_of, keys, TOP}
+use Rattle.ellen_tree_laws.specs.Shape.{Shape, Flagged, Changed, IsFlagger, IsStored, IsLeaf, WasMade, OnWay, is_node, made_node, brings, TOP}
 use Rattle.ellen_tree_laws.proofs.Plain.{both_ops}
 use Rattle.ellen_tree_laws.proofs.InsertWays.{still_way}
 use Rattle.ellen_tree_laws.proofs.Offers.{leaf_bounds}
 use Rattle.ellen_tree_laws.proofs.Later.{Later}
 use Rattle.ellen_tree_laws.proofs.Spares.{Spares}
 use Rattle.ellen_tree_steps.specs.Effects.{Links}
-use Rattle.ellen_tree_steps.proofs.Lasting.{InsertFate, flagger_later, note_later, own_later}
+use Rattle.ellen_tree_steps.proofs.Lasting.{flagger_later, note_later, own_later}
 use Rattle.ellen_tree_steps.proofs.MapSteps.{set_effective}
 use Rattle.ellen_tree_steps.proofs.Waiting.{insert_unmade}
 use Rattle.ellen_tree_steps.proofs.ChildWords.{child_here, child_apart, update_stays, changed_own, inserts_child, waits_child, marked_child, stored_child}
-use Rattle.ellen_tree_steps.proofs.ChildForm.{kid_of, keys_same, value_same}
+use Rattle.ellen_tree_steps.proofs.ChildForm.{keys_same, value_same}
 use Rattle.ellen_tree_steps.proofs.LinkForm as new
-use Rattle.ellen_tree_steps.proofs.LinkOrder.{node_cases, small_value, new_child, is_new, absent, form_link}
+use Rattle.ellen_tree_steps.proofs.LinkOrder.{node_cases, small_value, is_new, absent, form_link}
 use Rattle.ellen_tree_steps.proofs.Journals.{beside_flags, beside_causes}
 use Rattle.ellen_tree_steps.proofs.Assembled.{shape_change}
 
@@ -46,11 +44,11 @@ module _ (world after : World) (shape : Shape world) (l : Later world after) (s 
   flagger_link list flagged =
       flagger_later world after shape l s list flagged
       (λ i waits. inserts_child world after shape l s x.list x.flagged side x.to x.beside.words x.changes x.waits.up list flagged i
-          (λ own. inr (subst (Changed after) own (changed_own world after shape l s x.list x.flagged side x.to x.beside.words x.changes x.waits.up))) (λ w up. reached list.call.op.key flagged.node w) waits)
+      (λ own. inr (subst (Changed after) own (changed_own world after shape l s x.list x.flagged side x.to x.beside.words x.changes x.waits.up))) (λ w up. reached list.call.op.key flagged.node w) waits)
       (λ r stands here. waits_child world after shape l s x.list x.flagged side x.to x.beside.words x.changes x.waits.up list flagged r (λ own. absurd (both_ops list.call.op (ap (λ (y : Listed). is_set y.call.op) (sym own) ∙ x.set) r.rem))
-          (λ w up. reached list.call.op.key flagged.node w) stands here)
+      (λ w up. reached list.call.op.key flagged.node w) stands here)
       (λ r stands marked. marked_child world after shape l s x.list x.flagged side x.to x.beside.words x.changes x.waits.up list flagged r (λ own. absurd (both_ops list.call.op (ap (λ (y : Listed). is_set y.call.op) (sym own) ∙ x.set) r.rem))
-          (λ w up. reached list.call.op.key flagged.node w) stands marked)
+      (λ w up. reached list.call.op.key flagged.node w) stands marked)
 
   -- ---- the new node
 

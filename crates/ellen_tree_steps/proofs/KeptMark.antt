@@ -1,8 +1,6 @@
 -- A mark keeps the shape.
-use Rattle.std.proofs.Common.{◌≡◌, ◌≢◌, ℕ, ◌+◌, ◌*◌, ◌^◌, ◌<◌, true, refl, sym, ap, subst, ◌∙◌, inl, inr, ◌⊎◌, arith}
+use Rattle.std.proofs.Common.{◌≡◌, ◌≢◌, ℕ, ◌^◌, ◌<◌, true, sym, ap, subst, ◌∙◌, inl, inr, arith}
 use Rattle.std.proofs.lemmas.Bool.{cases_eq}
-use Rattle.word_fields.specs.Versioned.{versioned_value}
-use Rattle.word_fields.proofs.VersionedLemmas.{value-changed}
 use Rattle.normal_traits.specs.World.{Listed, World}
 use Rattle.tree_help.specs.declared.states.TheConstants.{CLEAN, MARKED}
 use Rattle.tree_help.specs.Updates.{state_of, updated, inner}

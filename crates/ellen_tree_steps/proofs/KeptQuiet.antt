@@ -1,7 +1,7 @@
 -- A step that exchanges nothing keeps the shape.
 use Rattle.std.proofs.Common.{◌≡◌, ℕ, ◌^◌, ◌<◌, Bool, true, refl, sym, ap, subst, ◌∙◌, inl, inr, ◌⊎◌, arith}
 use Rattle.std.proofs.lemmas.Bool.{true≢false}
-use Rattle.word_fields.specs.Versioned.{versioned_value, versioned_bit, cleared_word}
+use Rattle.word_fields.specs.Versioned.{versioned_bit, cleared_word}
 use Rattle.word_fields.proofs.VersionedLemmas.{bit-cleared, cleared-clear, cleared_below}
 use Rattle.normal_traits.specs.World.{Listed, World}
 use Rattle.ellen_tree_laws.specs.Words.{child_at, child_field, update_at}
@@ -78,7 +78,7 @@ module _ (world after : World) (shape : Shape world) (l : Later world after) (s 
     inserts_quiet i waits =
         let own = (shape.flaggers list flagged).used in
         inl (insert_waits_by world shape after l s list flagged i (up waits.up) (child_is flagged.node i.left at_node) (on_way_stays world after shape l s q.changes child_is list.call.op.key flagged.node waits.reached)
-            (λ left. child_quiet list.block left own) (exact_quiet list.block 0 own waits.new.update zero_clear) waits)
+        (λ left. child_quiet list.block left own) (exact_quiet list.block 0 own waits.new.update zero_clear) waits)
 
     waits_quiet : (r : Removes world list flagged.node flagged.from) → RemoveStands world list flagged.node flagged.from r.left r.gone → world.words (update_at r.gone) ≡ noted world list 1 → RemoveFate after list flagged.node flagged.from r.left r.gone
     waits_quiet r is here = inl (stands r is, exact_quiet r.gone (noted world list 1) (shape.stored r.gone r.is).used here r.clear ∙ sym (note_later world after shape l s list flagged 1 (omega arith)))

@@ -1,5 +1,5 @@
 -- The setting of a flag keeps the shape.
-use Rattle.std.proofs.Common.{◌≡◌, ◌≢◌, ℕ, zero, ◌+◌, ◌*◌, ◌^◌, ◌<◌, true, List, ◌∷◌, refl, sym, ap, subst, ◌∙◌, inl, inr, ◌⊎◌, arith}
+use Rattle.std.proofs.Common.{◌≡◌, ◌≢◌, ℕ, zero, ◌+◌, ◌*◌, true, List, refl, sym, ap, subst, ◌∙◌, inl, inr, ◌⊎◌, arith}
 use Rattle.std.specs.Prelude.{AllPairs}
 use Rattle.std.proofs.lemmas.Bool.{cases_eq, true≢false}
 use Rattle.std.proofs.lemmas.List.Kept.{AllPairs-cons}
@@ -7,10 +7,10 @@ use Rattle.word_fields.specs.Versioned.{versioned_value, versioned_version, clea
 use Rattle.word_fields.proofs.VersionedLemmas.{value-cleared, version-cleared}
 use Rattle.normal_traits.specs.World.{Listed, Maker, Won, Cause, Change, World, Among}
 use Rattle.normal_traits.specs.World.Maker.{By, Beside}
-use Rattle.tree_help.specs.declared.states.TheConstants.{CLEAN, INSERTING, DELETING, MARKED}
+use Rattle.tree_help.specs.declared.states.TheConstants.{CLEAN}
 use Rattle.tree_help.specs.Updates.{state_of}
 use Rattle.ellen_tree_laws.specs.Words.{update_at}
-use Rattle.ellen_tree_laws.specs.Shape.{Shape, Flagged, IsFlagger, IsBy, IsSpent, Removes, RemoveStands, IsUp, flag_won, flags_at, flag_state, noted, is_node}
+use Rattle.ellen_tree_laws.specs.Shape.{Shape, Flagged, IsFlagger, IsBy, IsSpent, Removes, RemoveStands, IsUp, flag_won, flag_state, noted, is_node}
 use Rattle.ellen_tree_laws.proofs.Plain.{all_among, update_same}
 use Rattle.ellen_tree_laws.proofs.Journal.{took_of}
 use Rattle.ellen_tree_laws.proofs.Wraps.{flag_value}
@@ -150,8 +150,8 @@ module _ (world after : World) (shape : Shape world) (l : Later world after) (s 
     ];
     differ = subst (AllPairs (λ (a b : Won). a.cause ≢ b.cause)) (sym x.journal)
         (AllPairs-cons (λ (a b : Won). a.cause ≢ b.cause) (flag_won x.node x.from x.list) world.journal
-            (all_among (λ (b : Won). (flag_won x.node x.from x.list).cause ≢ b.cause) world.journal (λ old among e. let spent = shape.spent old among in new_block spent.list spent.flagged (spent.block ∙ ap (λ (c : Cause). c.block) (sym e))))
-            shape.causes_differ);
+        (all_among (λ (b : Won). (flag_won x.node x.from x.list).cause ≢ b.cause) world.journal (λ old among e. let spent = shape.spent old among in new_block spent.list spent.flagged (spent.block ∙ ap (λ (c : Cause). c.block) (sym e))))
+        shape.causes_differ);
   }
 
   pub shape_set : Shape after

@@ -1,13 +1,13 @@
 -- A swing keeps the shape.
-use Rattle.std.proofs.Common.{◌≡◌, ◌≢◌, ℕ, ◌+◌, ◌*◌, ◌^◌, ◌<◌, Bool, true, false, not, List, ◌∷◌, refl, sym, ap, subst, ◌∙◌, inl, inr, ◌⊎◌, arith}
+use Rattle.std.proofs.Common.{◌≡◌, ◌≢◌, ℕ, ◌^◌, ◌<◌, Bool, true, not, List, sym, ap, subst, ◌∙◌, inl, inr, arith}
 use Rattle.std.specs.Prelude.{◌==◌}
 use Rattle.std.proofs.lemmas.Bool.{and_parts}
 use Rattle.word_fields.specs.Versioned.{versioned_value, versioned_version}
 use Rattle.lin_report.specs.declared.calls.Reply.TheVariants.{Yes}
 use Rattle.normal_traits.specs.World.{Listed, World, Change}
-use Rattle.tree_help.specs.Updates.{state_of, inner}
+use Rattle.tree_help.specs.Updates.{state_of}
 use Rattle.ellen_tree_laws.specs.Words.{child_at, update_at, leaf_value_at, is_set, is_rem}
-use Rattle.ellen_tree_laws.specs.Shape.{Shape, Flagged, Changed, IsFlagger, IsStored, IsBelow, IsUp, WasMade, OnWay, noted, is_node, is_left, child_of, way}
+use Rattle.ellen_tree_laws.specs.Shape.{Shape, Flagged, Changed, IsFlagger, IsStored, IsBelow, IsUp, WasMade, OnWay, is_node, is_left, way}
 use Rattle.ellen_tree_laws.proofs.Plain.{both_ops, marked_value}
 use Rattle.ellen_tree_laws.proofs.Ways.{swung_way}
 use Rattle.ellen_tree_laws.proofs.Later.{Later}
@@ -40,7 +40,7 @@ module _ (world after : World) (shape : Shape world) (l : Later world after) (s 
   small = (shape.flaggers x.list x.flagged).small
 
   -- a node with a flag isn't the marked one
-  pub no_flag : (list : Listed) (flagged : Flagged world list) → IsUp world list flagged.node flagged.from → flagged.node ≢ gone
+  no_flag : (list : Listed) (flagged : Flagged world list) → IsUp world list flagged.node flagged.from → flagged.node ≢ gone
   no_flag list flagged up e =
       up_alive world list flagged.node flagged.from up (shape.flaggers list flagged).small (ap (λ n. state_of (world.words (update_at n))) e ∙ omega (arith, marked_value world x.list gone small x.marked))
 
@@ -62,7 +62,7 @@ module _ (world after : World) (shape : Shape world) (l : Later world after) (s 
   flagger_swing list flagged =
       flagger_later world after shape l s list flagged
       (λ i waits. inserts_child world after shape l s x.list x.flagged side x.to x.beside.words x.changes x.stands.up list flagged i (λ own. absurd (both_ops list.call.op i.set (ap (λ (y : Listed). is_rem y.call.op) (sym own) ∙ x.rem)))
-          (reached list flagged) waits)
+      (reached list flagged) waits)
       (λ r stands here. waits_child world after shape l s x.list x.flagged side x.to x.beside.words x.changes x.stands.up list flagged r (λ own. inr (inr (inl (subst (Changed after) own changed_now)))) (reached list flagged) stands here)
       (λ r stands marked. marked_child world after shape l s x.list x.flagged side x.to x.beside.words x.changes x.stands.up list flagged r (λ own. inr (inr (inl (subst (Changed after) own changed_now)))) (reached list flagged) stands marked)
 

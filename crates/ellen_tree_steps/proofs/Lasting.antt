@@ -1,21 +1,20 @@
 -- What every allowed step leaves of nodes, leaves and the lists that set a flag, but for what is still to come of these.
-use Rattle.std.proofs.Common.{◌≡◌, ◌≢◌, ℕ, zero, suc, ◌+◌, ◌%◌, ◌^◌, ◌<◌, ◌≤◌, Bool, true, false, not, ◌||◌, List, ◌∷◌, refl, sym, ap, subst, ◌∙◌, inl, inr, ◌⊎◌, arith}
+use Rattle.std.proofs.Common.{◌≡◌, ℕ, ◌+◌, ◌%◌, ◌<◌, ◌≤◌, Bool, true, false, not, List, ◌∷◌, refl, sym, ap, subst, ◌∙◌, inl, inr, ◌⊎◌, arith}
 use Rattle.std.specs.Prelude.{◌==◌, if◌then◌else◌, nat_lt, Some, None}
 use Rattle.std.proofs.lemmas.Bool.{or_cases, or_left, or_right}
 use Rattle.word_fields.specs.Versioned.{versioned_value, versioned_bit, versioned_version}
 use Rattle.node_arena.specs.MemoryMap.{block_place, node_place, reference_to}
 use Rattle.node_arena.proofs.PlaceLemmas.{node_place-reference_to}
-use Rattle.normal_traits.specs.World.{Listed, Change, Cause, World, Among}
-use Rattle.tree_help.specs.Updates.{inner, updated}
-use Rattle.ellen_tree_laws.specs.Words.{child_at, update_at, key_at, leaf_key_at, leaf_value_at, is_versioned, is_rem}
+use Rattle.normal_traits.specs.World.{Listed, Change, World}
+use Rattle.ellen_tree_laws.specs.Words.{child_at, update_at, key_at, leaf_key_at, leaf_value_at, is_versioned}
 use Rattle.ellen_tree_laws.specs.Search.{greater}
-use Rattle.ellen_tree_laws.specs.Shape.{Shape, Flagged, IsFlagger, Inserts, InsertWaits, Removes, RemoveStands, Changed, IsMarked, IsGivenUp, IsMade, WasMade, IsOver, IsSpent, flag_state, noted, is_node, made_node, brings, is_left, told_by, IsLeaf, IsNamed, IsBelow}
+use Rattle.ellen_tree_laws.specs.Shape.{Shape, Flagged, IsFlagger, Inserts, InsertWaits, Removes, RemoveStands, Changed, IsMarked, IsGivenUp, IsMade, noted, is_node, made_node, brings, is_left, told_by, IsLeaf, IsNamed, IsBelow}
 use Rattle.ellen_tree_laws.proofs.Fields.{field_word}
 use Rattle.ellen_tree_laws.proofs.Asks.{node_word, child_word, leaf_word}
 use Rattle.ellen_tree_laws.proofs.Offers.{plain}
 use Rattle.ellen_tree_laws.proofs.Later.{Later, passed_on}
 use Rattle.ellen_tree_laws.proofs.Spares.{Spares}
-use Rattle.ellen_tree_laws.proofs.Kept.{flagged_later, noted_later, changed_later, marked_later, given_later}
+use Rattle.ellen_tree_laws.proofs.Kept.{noted_later, changed_later, given_later}
 
 -- what is so of an insertion: it waits, or has made its change
 abbrev pub InsertFate : World → Listed → ℕ → ℕ → Bool → Type 0
@@ -35,7 +34,7 @@ module _ (world after : World) (shape : Shape world) (l : Later world after) whe
   grown_node block (inl same) is = ap (λ (cs : List Change). made_node cs block) same ∙ is
   grown_node block (inr more) is = ap (λ (cs : List Change). made_node cs block) more.1 ∙ or_right (brings more.0 block) (made_node world.changes block) is
 
-  pub made_node_later : (block : ℕ) → made_node world.changes block ≡ true → made_node after.changes block ≡ true
+  made_node_later : (block : ℕ) → made_node world.changes block ≡ true → made_node after.changes block ≡ true
   made_node_later block is = grown_node block l.changes is
 
   pub node_later : (block : ℕ) → is_node world.changes block ≡ true → is_node after.changes block ≡ true
@@ -57,7 +56,7 @@ module _ (world after : World) (shape : Shape world) (l : Later world after) whe
 
   -- ---- words that are never exchanged
 
-  pub field_later : (node field : ℕ) → is_node world.changes node ≡ true → 12 ≤ field → field < 32 → (field < 19) ⊎ (21 < field) → after.words (block_place node field) ≡ world.words (block_place node field)
+  field_later : (node field : ℕ) → is_node world.changes node ≡ true → 12 ≤ field → field < 32 → (field < 19) ⊎ (21 < field) → after.words (block_place node field) ≡ world.words (block_place node field)
   field_later node field is high small far = l.plain (block_place node field) (node_word world shape node field is high small) (plain node field small far)
 
   pub key_later : (node : ℕ) → is_node world.changes node ≡ true → after.words (key_at node) ≡ world.words (key_at node)

@@ -1,24 +1,20 @@
 -- An insertion: the order and the map behind it.
-use Rattle.std.proofs.Common.{◌≡◌, ◌≢◌, ℕ, ◌+◌, ◌*◌, ◌^◌, ◌%◌, ◌<◌, ◌≤◌, Bool, true, false, not, ◌||◌, List, ◌∷◌, Option, refl, sym, ap, subst, ◌∙◌, inl, inr, ◌⊎◌, arith}
-use Rattle.std.specs.Prelude.{◌==◌, if◌then◌else◌, nat_lt, Some, None}
-use Rattle.std.specs.FinMap as map
+use Rattle.std.proofs.Common.{◌≡◌, ◌≢◌, ℕ, ◌%◌, ◌<◌, ◌≤◌, Bool, true, false, not, ◌||◌, refl, sym, ap, subst, ◌∙◌, inl, inr, ◌⊎◌, arith}
+use Rattle.std.specs.Prelude.{◌==◌, if◌then◌else◌, nat_lt}
 use Rattle.std.proofs.lemmas.Bool.{cases_eq, eq-eqb, ne_eqb, eqb-true, or_cases, or_left, or_right, ltb-true, ltb-false, true≢false}
 use Rattle.word_fields.specs.Versioned.{versioned_value}
 use Rattle.lin_report.specs.Commands.{KEY_LIMIT}
-use Rattle.lin_report.specs.Object.{map_object}
 use Rattle.node_arena.specs.MemoryMap.{reference_to}
 use Rattle.node_arena.proofs.PlaceLemmas.{node_place-reference_to}
-use Rattle.normal_traits.specs.World.{World, Change, held_after}
+use Rattle.normal_traits.specs.World.{World}
 use Rattle.tree_help.specs.Updates.{inner}
-use Rattle.ellen_tree_laws.specs.Words.{is_internal, child_at, leaf_key_at, leaf_value_at, key_at}
+use Rattle.ellen_tree_laws.specs.Words.{is_internal, leaf_key_at}
 use Rattle.ellen_tree_laws.specs.Search.{leaf_on, greater}
-use Rattle.ellen_tree_laws.specs.Shape.{Shape, Ordered, IsLeaf, IsNamed, is_node, noted, keys, children, child_of, is_left, way, told_by}
+use Rattle.ellen_tree_laws.specs.Shape.{Shape, IsLeaf, IsNamed, is_node, noted, keys, child_of}
 use Rattle.ellen_tree_laws.proofs.Ways.{InRange, next_in, way_in, inner_same, inner_is, leaf_names}
-use Rattle.ellen_tree_laws.proofs.Insert.{inserted}
 use Rattle.ellen_tree_steps.specs.Effects.{Links}
-use Rattle.ellen_tree_steps.proofs.MapSteps.{set_gets}
 use Rattle.ellen_tree_steps.proofs.Waiting.{insert_new}
-use Rattle.ellen_tree_steps.proofs.ChildForm.{kids, kid_of, keys_same, value_same, told_same, goes, order_in, order_out}
+use Rattle.ellen_tree_steps.proofs.ChildForm.{keys_same}
 
 module _ (world after : World) (shape : Shape world) (x : Links world after) where
   abbrev pub node : ℕ
@@ -63,7 +59,7 @@ module _ (world after : World) (shape : Shape world) (x : Links world after) whe
   pub leaf_old : is_internal old ≡ false
   leaf_old = leaf_names world.changes old x.inserts.leaf
 
-  pub in_old : (shape.low old ≤ k) × (k < shape.high old)
+  in_old : (shape.low old ≤ k) × (k < shape.high old)
   in_old = shape.ordered.leaf old at_old.is leaf_old
 
   -- ---- the new nodes were not there
@@ -71,7 +67,7 @@ module _ (world after : World) (shape : Shape world) (x : Links world after) whe
   pub none : is_node world.changes block ≡ true → ⊥
   none = insert_new world shape x.list x.flagged x.inserts x.waits
 
-  pub inner_leaf : (other : ℕ) → IsLeaf world.changes (inner other) → ⊥
+  inner_leaf : (other : ℕ) → IsLeaf world.changes (inner other) → ⊥
   inner_leaf other leaf = let no : is_internal (inner other) ≡ false = leaf_names world.changes (inner other) leaf in let yes : is_internal (inner other) ≡ true = inner_is other in absurd cc
 
   pub off : (r : ℕ) → (IsNamed world.changes r → ⊥) → shape.on r ≡ false
@@ -108,7 +104,7 @@ module _ (world after : World) (shape : Shape world) (x : Links world after) whe
   is_leaf true = ne_eqb (reference_to block 1 % 4) 2 (λ e. absurd (omega (arith, e)))
   is_leaf false = ne_eqb (reference_to block 3 % 4) 2 (λ e. absurd (omega (arith, e)))
 
-  pub key_n : keys after n ≡ greater K k
+  key_n : keys after n ≡ greater K k
   key_n = keys_same world after node x.inserts.left x.to x.beside.words n ∙ ap world.words (node_place-reference_to block 2 0 (omega arith) (omega arith)) ∙ x.inserts.key
 
   pub key_new : keys after (leaf_on true block) ≡ K
@@ -166,10 +162,10 @@ module _ (world after : World) (shape : Shape world) (x : Links world after) whe
   abbrev pub high' : ℕ → ℕ
   high' r = if r == n then shape.high old else (if r == a then keys after n else (if r == b then shape.high old else shape.high r))
 
-  pub a_n : a ≢ n
+  a_n : a ≢ n
   a_n e = let yes : is_internal a ≡ true = ap is_internal e ∙ inner_is block in true≢false (sym yes ∙ is_leaf (nat_lt K k))
 
-  pub b_n : b ≢ n
+  b_n : b ≢ n
   b_n e = let yes : is_internal b ≡ true = ap is_internal e ∙ inner_is block in true≢false (sym yes ∙ is_leaf (not (nat_lt K k)))
 
   pub a_b : a ≢ b
@@ -203,7 +199,7 @@ module _ (world after : World) (shape : Shape world) (x : Links world after) whe
   pub puts_on : (r : ℕ) → r ≢ old → (shape.on r || (r == n || (r == a || r == b))) ≡ true → on' r ≡ true
   puts_on r differs is = ap (λ t. if t then false else (shape.on r || (r == n || (r == a || r == b)))) (ne_eqb r old differs) ∙ is
 
-  pub not_old : (y : ℕ) → shape.on y ≡ false → y ≢ old
+  not_old : (y : ℕ) → shape.on y ≡ false → y ≢ old
   not_old y none' e = fresh old y at_old.is none' (sym e)
 
   pub on_n : on' n ≡ true

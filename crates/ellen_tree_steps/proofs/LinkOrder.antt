@@ -1,29 +1,29 @@
 -- Behind an insertion the nodes are in order, and the leaves tell the map with the new key.
-use Rattle.std.proofs.Common.{◌≡◌, ◌≢◌, ℕ, ◌+◌, ◌*◌, ◌^◌, ◌%◌, ◌<◌, ◌≤◌, Bool, true, false, not, ◌||◌, List, ◌∷◌, Option, refl, sym, ap, subst, ◌∙◌, inl, inr, ◌⊎◌, arith}
+use Rattle.std.proofs.Common.{◌≡◌, ◌≢◌, ℕ, ◌^◌, ◌<◌, ◌≤◌, Bool, true, false, not, ◌||◌, List, ◌∷◌, refl, sym, ap, subst, ◌∙◌, inl, inr, ◌⊎◌, arith}
 use Rattle.std.specs.Prelude.{◌==◌, if◌then◌else◌, nat_lt, Some, None}
 use Rattle.std.specs.FinMap as map
 use Rattle.std.proofs.lemmas.Bool.{cases_eq, eq-eqb, ne_eqb, eqb-true, or_cases, or_left, or_right, and_parts, true≢false}
 use Rattle.word_fields.specs.Versioned.{versioned_value}
 use Rattle.lin_report.specs.declared.calls.Reply.TheVariants.{Yes}
 use Rattle.lin_report.specs.Commands.{KEY_LIMIT}
-use Rattle.lin_report.specs.Object.{map_object, map_apply}
+use Rattle.lin_report.specs.Object.{map_object}
 use Rattle.node_arena.specs.MemoryMap.{reference_to}
 use Rattle.normal_traits.specs.World.{World, Change, held_after}
 use Rattle.tree_help.specs.declared.states.TheConstants.{MARKED}
 use Rattle.tree_help.specs.Updates.{state_of, inner}
-use Rattle.ellen_tree_laws.specs.Words.{is_internal, child_at, leaf_key_at, leaf_value_at, update_at, is_set}
+use Rattle.ellen_tree_laws.specs.Words.{is_internal, child_at, leaf_value_at, update_at, is_set}
 use Rattle.ellen_tree_laws.specs.Search.{leaf_on}
-use Rattle.ellen_tree_laws.specs.Shape.{Shape, Ordered, IsLeaf, IsNamed, is_node, made_node, brings, keys, children, child_of, told_by}
-use Rattle.ellen_tree_laws.proofs.Ways.{InRange, inner_same, inner_is, child_same, child_update, leaf_names}
+use Rattle.ellen_tree_laws.specs.Shape.{Shape, Ordered, IsNamed, is_node, made_node, brings, keys, children, told_by}
+use Rattle.ellen_tree_laws.proofs.Ways.{inner_is, child_same, child_update}
 use Rattle.ellen_tree_laws.proofs.Insert.{inserted}
 use Rattle.ellen_tree_laws.proofs.SwingLeft.{Goes}
 use Rattle.ellen_tree_laws.proofs.Later.{Later}
 use Rattle.ellen_tree_laws.proofs.Spares.{Spares}
 use Rattle.ellen_tree_steps.specs.Effects.{Links}
 use Rattle.ellen_tree_steps.proofs.MapSteps.{set_gets}
-use Rattle.ellen_tree_steps.proofs.Lasting.{node_later, named_later}
+use Rattle.ellen_tree_steps.proofs.Lasting.{named_later}
 use Rattle.ellen_tree_steps.proofs.Assembled.{Form}
-use Rattle.ellen_tree_steps.proofs.ChildForm.{kids, kid_of, keys_same, value_same, told_same, goes, order_in, order_out, other}
+use Rattle.ellen_tree_steps.proofs.ChildForm.{kids, kid_of, value_same, told_same, goes, order_in, order_out, other}
 use Rattle.ellen_tree_steps.proofs.LinkForm as new
 
 pub small_value : (word : ℕ) → word < 2 ^ 24 → versioned_value word ≡ word
@@ -68,7 +68,7 @@ module _ (world after : World) (shape : Shape world) (l : Later world after) (s 
   -- ---- the order
 
   -- the children of the new node
-  pub new_child : (left : Bool) (w : Bool) → world.words (child_at block left) ≡ leaf_on w block → kids after (inner block) left ≡ leaf_on w block
+  new_child : (left : Bool) (w : Bool) → world.words (child_at block left) ≡ leaf_on w block → kids after (inner block) left ≡ leaf_on w block
   new_child left w is =
       kid_of after block left
       ∙ ap versioned_value (other world after node x.inserts.left x.to x.beside.words (child_at block left) (λ e. new.none world after shape x (subst (λ y. is_node world.changes y ≡ true) (sym (child_same block node left x.inserts.left e).0) (shape.flaggers x.list x.flagged).is)) ∙ is)
@@ -86,16 +86,16 @@ module _ (world after : World) (shape : Shape world) (l : Later world after) (s 
       let bounds = new.between world after shape x in
       order_out world after node x.inserts.left x.to x.beside.words on' low' high'
       (inserted (keys after) (kids world) shape.on shape.low shape.high (order_in world after node x.inserts.left x.to x.beside.words shape.on shape.low shape.high shape.ordered)
-          (inner node) old (inner block) (new.a world after shape x) (new.b world after shape x) x.inserts.left
-          (new.at_node world after shape x).is (inner_is node) (kid_of world node x.inserts.left ∙ new.to_old world after shape x) (new.leaf_old world after shape x)
-          (inner_is block) (new.is_leaf world after shape x (nat_lt K k)) (new.is_leaf world after shape x (not (nat_lt K k))) (new.a_b world after shape x)
-          (new.new_n world after shape x) (new.new_leaf world after shape x (nat_lt K k)) (new.new_leaf world after shape x (not (nat_lt K k)))
-          (bounds.above, bounds.within) (bounds.low_a, bounds.high_a) (bounds.low_b, bounds.high_b)
-          (kids after) on' low' high'
-          (λ r left is. subst (λ y. Goes (kids world) (kids after) (inner node) x.inserts.left y r left) x.value (goes world after node x.inserts.left x.to x.beside.words r left))
-          (new_child true (nat_lt K k) x.waits.new.left) (new_child false (not (nat_lt K k)) x.waits.new.right)
-          (new.is_on world after shape x) (λ r is differs. new.puts_on world after shape x r differs (or_left (shape.on r) (r == inner block || (r == new.a world after shape x || r == new.b world after shape x)) is))
-          (new.on_n world after shape x) (new.on_a world after shape x) (new.on_b world after shape x) (new.same world after shape x) (new.range_n world after shape x) (new.range_a world after shape x) (new.range_b world after shape x))
+      (inner node) old (inner block) (new.a world after shape x) (new.b world after shape x) x.inserts.left
+      (new.at_node world after shape x).is (inner_is node) (kid_of world node x.inserts.left ∙ new.to_old world after shape x) (new.leaf_old world after shape x)
+      (inner_is block) (new.is_leaf world after shape x (nat_lt K k)) (new.is_leaf world after shape x (not (nat_lt K k))) (new.a_b world after shape x)
+      (new.new_n world after shape x) (new.new_leaf world after shape x (nat_lt K k)) (new.new_leaf world after shape x (not (nat_lt K k)))
+      (bounds.above, bounds.within) (bounds.low_a, bounds.high_a) (bounds.low_b, bounds.high_b)
+      (kids after) on' low' high'
+      (λ r left is. subst (λ y. Goes (kids world) (kids after) (inner node) x.inserts.left y r left) x.value (goes world after node x.inserts.left x.to x.beside.words r left))
+      (new_child true (nat_lt K k) x.waits.new.left) (new_child false (not (nat_lt K k)) x.waits.new.right)
+      (new.is_on world after shape x) (λ r is differs. new.puts_on world after shape x r differs (or_left (shape.on r) (r == inner block || (r == new.a world after shape x || r == new.b world after shape x)) is))
+      (new.on_n world after shape x) (new.on_a world after shape x) (new.on_b world after shape x) (new.same world after shape x) (new.range_n world after shape x) (new.range_a world after shape x) (new.range_b world after shape x))
 
   -- ---- nodes
 

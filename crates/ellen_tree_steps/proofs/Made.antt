@@ -1,5 +1,5 @@
 -- What every allowed step leaves of changes that were made and of causes that are over.
-use Rattle.std.proofs.Common.{◌≡◌, ℕ, zero, suc, ◌+◌, ◌<◌, true, sym, ap, subst, ◌∙◌, inl, inr, ◌⊎◌, arith}
+use Rattle.std.proofs.Common.{◌≡◌, ℕ, zero, suc, true, sym, subst, ◌∙◌, inl, inr, ◌⊎◌, arith}
 use Rattle.normal_traits.specs.World.{Listed, Cause, World}
 use Rattle.ellen_tree_laws.specs.Words.{update_at, is_rem}
 use Rattle.ellen_tree_laws.specs.Shape.{Shape, Flagged, Inserts, Removes, WasMade, IsOver, IsSpent, noted, is_node}
@@ -38,7 +38,7 @@ module _ (world after : World) (shape : Shape world) (l : Later world after) (s 
           (gone, update_later world after shape l s list flagged made.0 gone made.2.1, marked_later world after shape l s list flagged made.0 gone made.2.1 made.2.2),
         )
 
-    pub over_later : (kind : ℕ) → IsOver world list kind → IsOver after list kind
+    over_later : (kind : ℕ) → IsOver world list kind → IsOver after list kind
     unfolding flagged_later
     over_later zero over = tt
     over_later (suc zero) over = changed_later world after shape l s list over

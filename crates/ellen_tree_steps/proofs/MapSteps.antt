@@ -1,5 +1,5 @@
 -- What an insertion and a removal make of a map.
-use Rattle.std.proofs.Common.{◌≡◌, ℕ, Bool, true, false, Option, is_some, sym, ap, ◌∙◌}
+use Rattle.std.proofs.Common.{◌≡◌, ℕ, Bool, true, is_some, sym, ap, ◌∙◌}
 use Rattle.std.specs.Prelude.{◌==◌, if◌then◌else◌, Some, None}
 use Rattle.std.specs.FinMap as map
 use Rattle.std.specs.Ordering.{nat_cmp}
@@ -10,7 +10,7 @@ use Rattle.lin_report.specs.declared.calls.Op.{Op}
 use Rattle.lin_report.specs.declared.calls.Reply.{Reply}
 use Rattle.lin_report.specs.declared.calls.Reply.TheVariants.{Yes, No}
 use Rattle.lin_report.specs.declared.calls.TheConstants.{SET, REM}
-use Rattle.lin_report.specs.Object.{map_object, map_apply, yes_if}
+use Rattle.lin_report.specs.Object.{map_object, map_apply}
 use Rattle.normal_traits.specs.World.{Observes}
 use Rattle.ellen_tree_laws.specs.Words.{is_set, is_rem}
 

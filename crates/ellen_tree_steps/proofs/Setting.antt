@@ -1,36 +1,35 @@
 -- The setting of a flag by a list that was offered: what is so of the list from then on.
-use Rattle.std.proofs.Common.{◌≡◌, ◌≢◌, ℕ, zero, ◌+◌, ◌*◌, ◌%◌, ◌^◌, ◌<◌, Bool, true, false, not, List, [], ◌∷◌, refl, sym, ap, subst, ◌∙◌, inl, inr, ◌⊎◌, arith}
+use Rattle.std.proofs.Common.{◌≡◌, ◌≢◌, ℕ, ◌+◌, ◌*◌, ◌^◌, ◌<◌, Bool, true, false, not, ◌∷◌, refl, sym, ap, subst, ◌∙◌, inl, inr, ◌⊎◌, arith}
 use Rattle.std.specs.Prelude.{nat_lt, ◌==◌}
 use Rattle.std.proofs.lemmas.Bool.{true≢false, or_left, eq-eqb}
 use Rattle.word_fields.specs.Versioned.{versioned_value, versioned_bit, versioned_version, cleared_word}
-use Rattle.word_fields.proofs.VersionedLemmas.{version-cleared, version_below, value-cleared, bit_below, word-split}
+use Rattle.word_fields.proofs.VersionedLemmas.{version-cleared, version_below, bit_below, word-split}
 use Rattle.word_fields.specs.Versioned.{value_below}
 use Rattle.lin_report.specs.declared.calls.Client.TheVariants as client
 use Rattle.lin_report.specs.Commands.{IsCommandOf}
 use Rattle.node_arena.specs.MemoryMap.{block_place, node_place, reference_to}
 use Rattle.node_arena.proofs.PlaceLemmas.{node_place-reference_to, same_field}
 use Rattle.normal_traits.specs.declared.lists.Entry.{Entry}
-use Rattle.normal_traits.specs.World.{Listed, Maker, World}
+use Rattle.normal_traits.specs.World.{Listed, World}
 use Rattle.normal_traits.specs.World.Maker.{By}
-use Rattle.normal_traits.specs.Steps.{with_word, using_block, IsOffered, IsFilled}
-use Rattle.tree_help.specs.declared.states.TheConstants.{CLEAN, INSERTING, DELETING, MARKED}
+use Rattle.normal_traits.specs.Steps.{with_word, using_block, IsFilled}
+use Rattle.tree_help.specs.declared.states.TheConstants.{CLEAN, MARKED}
 use Rattle.tree_help.specs.Updates.{state_of, inner}
-use Rattle.ellen_tree_laws.specs.Words.{is_internal, child_at, child_field, update_at, key_at, leaf_key_at, leaf_value_at, is_set, is_rem}
+use Rattle.ellen_tree_laws.specs.Words.{is_internal, child_at, update_at, leaf_key_at, leaf_value_at}
 use Rattle.ellen_tree_laws.specs.declared.states.Passed.{Passed}
 use Rattle.ellen_tree_laws.specs.declared.states.TreeSearch.TheVariants.{SetReady, RemReady}
 use Rattle.ellen_tree_laws.specs.Search.{leaf_of, leaf_on, greater, offered}
-use Rattle.ellen_tree_laws.specs.Shape.{Shape, Ordered, Flagged, HasFlag, HasMark, IsFlagger, Inserts, Removes, RemoveStands, IsGivenUp, IsLeaf, IsUp, cause_here, flags_at, noted, keys, children, child_of, is_left, is_node, way, OnWay}
-use Rattle.ellen_tree_laws.specs.Knowledge.{Knows, HasPassed, HasLeaf, IsClear}
-use Rattle.ellen_tree_laws.specs.Form.{tree_form}
+use Rattle.ellen_tree_laws.specs.Shape.{Shape, Ordered, HasFlag, HasMark, IsFlagger, Inserts, Removes, IsGivenUp, IsLeaf, IsUp, cause_here, flags_at, noted, is_left, is_node, way, OnWay}
+use Rattle.ellen_tree_laws.specs.Knowledge.{Knows, HasPassed}
 use Rattle.ellen_tree_laws.proofs.Plain.{update_same, marked_value}
-use Rattle.ellen_tree_laws.proofs.Ways.{field_small, way_in, inner_is, children_are, child_update}
+use Rattle.ellen_tree_laws.proofs.Ways.{way_in, inner_is, children_are, child_update}
 use Rattle.ellen_tree_laws.proofs.Wraps.{with_here, with_other}
 use Rattle.ellen_tree_laws.proofs.Owners.{up_value}
 use Rattle.ellen_tree_laws.proofs.Offers.{key_limit}
 use Rattle.ellen_tree_laws.proofs.Flags.{Stands, LeafBelow, rem_flags, set_flags}
 use Rattle.ellen_tree_laws.proofs.Later.{Later}
 use Rattle.ellen_tree_laws.proofs.Spares.{Spares}
-use Rattle.ellen_tree_steps.proofs.Lasting.{RemoveFate, node_later, leaf_later, left_later, leaf_field_later}
+use Rattle.ellen_tree_steps.proofs.Lasting.{RemoveFate, leaf_later, left_later, leaf_field_later}
 use Rattle.ellen_tree_steps.proofs.Asides.{on_way_stays, way_stays}
 use Rattle.ellen_tree_steps.proofs.Waiting.{flag_states}
 

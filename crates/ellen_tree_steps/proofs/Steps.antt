@@ -1,17 +1,16 @@
 -- Each allowed step has one of the six effects, and so it keeps the shape.
-use Rattle.std.proofs.Common.{◌≡◌, ◌≢◌, ℕ, ◌+◌, ◌*◌, ◌^◌, ◌<◌, Bool, true, false, List, [], ◌∷◌, Option, refl, sym, ap, subst, ◌∙◌, inl, inr, ◌⊎◌, arith}
-use Rattle.std.specs.Prelude.{slice_get, Some, None}
+use Rattle.std.proofs.Common.{◌≡◌, ℕ, ◌+◌, ◌*◌, ◌^◌, ◌<◌, Bool, true, false, [], ◌∷◌, refl, sym, ap, subst, ◌∙◌, inl, inr, arith}
+use Rattle.std.specs.Prelude.{slice_get, Some}
 use Rattle.std.proofs.lemmas.Bool.{true≢false, cases_eq}
-use Rattle.word_fields.specs.Versioned.{versioned_value, versioned_version, cleared_word}
+use Rattle.word_fields.specs.Versioned.{cleared_word}
 use Rattle.word_fields.proofs.VersionedLemmas.{changed_below}
 use Rattle.lin_report.specs.declared.calls.Op.{Op}
-use Rattle.step_memory.specs.declared.steps.Request.{Request}
 use Rattle.step_memory.specs.declared.steps.Request.TheVariants.{Load}
 use Rattle.step_memory.specs.declared.steps.Seen.{Seen}
 use Rattle.normal_traits.specs.declared.lists.Entry.{Entry}
 use Rattle.normal_traits.specs.World.{Listed, World, is_word}
-use Rattle.normal_traits.specs.Steps.{with_word, IsExchanged, IsFresh, IsFilled, IsOffered, Requested, IsStep}
-use Rattle.normal_traits.specs.Steps.Requested.{loaded, lost, won}
+use Rattle.normal_traits.specs.Steps.{IsExchanged, IsFresh, IsFilled, IsOffered, Requested, IsStep}
+use Rattle.normal_traits.specs.Steps.Requested.{loaded}
 use Rattle.normal_traits.specs.Steps.IsStep.{nothing, elsewhere, clears, searches, wraps, first, first_of_block, second}
 use Rattle.tree_help.specs.declared.states.Help.{Help}
 use Rattle.tree_help.specs.declared.states.Help.TheVariants as helps
@@ -21,21 +20,21 @@ use Rattle.tree_help.specs.declared.states.HelpDelete.{HelpDelete}
 use Rattle.tree_help.specs.declared.states.HelpDelete.TheVariants as delete
 use Rattle.tree_help.specs.declared.states.HelpMark.{HelpMark}
 use Rattle.tree_help.specs.declared.states.HelpMark.TheVariants as mark
-use Rattle.tree_help.specs.declared.states.TheConstants.{CLEAN, INSERTING, DELETING}
+use Rattle.tree_help.specs.declared.states.TheConstants.{CLEAN}
 use Rattle.tree_help.specs.Updates.{state_of}
 use Rattle.tree_help.specs.Helps.{help_asked, insert_asked, delete_asked, mark_asked}
 use Rattle.ellen_tree_laws.specs.declared.states.TreeSearch.{TreeSearch}
 use Rattle.ellen_tree_laws.specs.declared.states.TreeSearch.TheVariants.{AtUpdate, AtKey, AtChild, AtLeaf, Again, AtValue, SetReady, RemReady, Helps}
 use Rattle.ellen_tree_laws.specs.Words.{update_at, is_update, is_set, is_rem}
 use Rattle.ellen_tree_laws.specs.Search.{Asks, asked, offered}
-use Rattle.ellen_tree_laws.specs.Shape.{Shape, IsFlagger, flag_state, flags_at, is_node}
+use Rattle.ellen_tree_laws.specs.Shape.{Shape, IsFlagger, flag_state, flags_at}
 use Rattle.ellen_tree_laws.specs.Knowledge.{Knows, Follows, FollowsInsert, FollowsDelete, FollowsMark}
 use Rattle.ellen_tree_laws.specs.Form.{tree_form}
 use Rattle.ellen_tree_laws.proofs.Plain.{both_ops, offered_entries}
 use Rattle.ellen_tree_laws.proofs.Wraps.{with_here, with_other, state_below}
 use Rattle.ellen_tree_laws.proofs.Later.{Later, later, no_second}
 use Rattle.ellen_tree_laws.proofs.Spares.{Spares, spares, entry_is}
-use Rattle.ellen_tree_steps.specs.Effects.{IsQuiet, Sets, Effect}
+use Rattle.ellen_tree_steps.specs.Effects.{Effect}
 use Rattle.ellen_tree_steps.specs.Effects.Effect.{quiet, sets, links, marks, swings, ends}
 use Rattle.ellen_tree_steps.proofs.Exchanges.{same_quiet, link_effect, swing_effect, mark_effect, end_effect}
 use Rattle.ellen_tree_steps.proofs.Setting.{won_by, cleared_fits, flagger_insert, flagger_remove}
@@ -182,7 +181,7 @@ effect_of world after shape (first_of_block list search since entry word offered
     set_effect world shape list since entry word fresh some offered'.small unused listed stood to (later world after shape step) (spares world after shape step) search offered' filled
 effect_of world after shape (second list search since entry word offered' took untook listed stood to) = absurd (no_second list.entries _ entry (offered_entries world list search since offered').2 listed)
 
-pub kept_by : (world after : World) → Shape world → Later world after → Spares world after → Effect world after → Shape after
+kept_by : (world after : World) → Shape world → Later world after → Spares world after → Effect world after → Shape after
 kept_by world after shape l s (quiet x) = shape_quiet world after shape l s x
 kept_by world after shape l s (sets x) = shape_set world after shape l s x
 kept_by world after shape l s (links x) = shape_link world after shape l s x

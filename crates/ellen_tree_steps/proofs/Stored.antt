@@ -1,12 +1,12 @@
 -- What every allowed step leaves of the words of a node.
-use Rattle.std.proofs.Common.{◌≡◌, ℕ, ◌+◌, ◌*◌, ◌%◌, ◌^◌, ◌<◌, Bool, true, refl, sym, ap, subst, ◌∙◌, inl, inr, ◌⊎◌, arith}
+use Rattle.std.proofs.Common.{◌≡◌, ℕ, ◌%◌, ◌^◌, ◌<◌, Bool, true, refl, sym, ap, ◌∙◌, inl, inr, ◌⊎◌, arith}
 use Rattle.word_fields.specs.Versioned.{versioned_value, cleared_word}
 use Rattle.word_fields.proofs.VersionedLemmas.{value-cleared}
 use Rattle.node_arena.specs.MemoryMap.{reference_to}
 use Rattle.normal_traits.specs.World.{World}
 use Rattle.tree_help.specs.declared.states.TheConstants.{CLEAN}
 use Rattle.tree_help.specs.Updates.{state_of}
-use Rattle.ellen_tree_laws.specs.Words.{child_at, update_at, leaf_key_at, leaf_value_at}
+use Rattle.ellen_tree_laws.specs.Words.{child_at, update_at}
 use Rattle.ellen_tree_laws.specs.Shape.{Shape, IsStored, HasFlag, HasMark, IsLeaf, IsBelow, is_node, child_of}
 use Rattle.ellen_tree_laws.proofs.Later.{Later}
 use Rattle.ellen_tree_laws.proofs.Spares.{Spares}
@@ -18,11 +18,11 @@ abbrev pub State : World → ℕ → Type 0
 State world block = (state_of (world.words (update_at block)) ≡ CLEAN) ⊎ (HasFlag world block ⊎ HasMark world block)
 
 -- two words with one value have one state
-pub same_state : (word after : ℕ) → cleared_word after ≡ cleared_word word → state_of after ≡ state_of word
+same_state : (word after : ℕ) → cleared_word after ≡ cleared_word word → state_of after ≡ state_of word
 same_state word after same = ap (λ v. v % 4) (sym (value-cleared after) ∙ ap versioned_value same ∙ value-cleared word)
 
 module _ (world after : World) (shape : Shape world) (l : Later world after) (s : Spares world after) where
-  pub mark_later : (block : ℕ) → HasMark world block → HasMark after block
+  mark_later : (block : ℕ) → HasMark world block → HasMark after block
   mark_later block m = record {
     list = m.list;
     flagged = flagged_later world after shape l s m.list m.flagged;

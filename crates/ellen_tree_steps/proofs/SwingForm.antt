@@ -1,18 +1,18 @@
 -- A swing: the order and the map behind it.
-use Rattle.std.proofs.Common.{◌≡◌, ◌≢◌, ℕ, ◌+◌, ◌*◌, ◌^◌, ◌<◌, ◌≤◌, Bool, true, false, not, ◌||◌, List, ◌∷◌, Option, refl, sym, ap, subst, ◌∙◌, inl, inr, ◌⊎◌, arith}
+use Rattle.std.proofs.Common.{◌≡◌, ◌≢◌, ℕ, ◌<◌, ◌≤◌, Bool, true, false, not, List, Option, refl, sym, ap, subst, ◌∙◌, inl, inr, ◌⊎◌, arith}
 use Rattle.std.specs.Prelude.{◌==◌, if◌then◌else◌, Some, None}
 use Rattle.std.specs.FinMap as map
 use Rattle.std.proofs.lemmas.Bool.{cases_eq, eq-eqb, ne_eqb, and_parts, true≢false}
 use Rattle.word_fields.specs.Versioned.{versioned_value}
 use Rattle.lin_report.specs.declared.calls.Reply.TheVariants.{Yes}
 use Rattle.lin_report.specs.Commands.{KEY_LIMIT}
-use Rattle.lin_report.specs.Object.{map_object, map_apply}
+use Rattle.lin_report.specs.Object.{map_object}
 use Rattle.node_arena.proofs.PlaceLemmas.{node_place-reference_to}
 use Rattle.normal_traits.specs.World.{World, Change, held_after}
 use Rattle.tree_help.specs.declared.states.TheConstants.{MARKED}
 use Rattle.tree_help.specs.Updates.{state_of, inner}
 use Rattle.ellen_tree_laws.specs.Words.{is_internal, leaf_key_at, leaf_value_at, update_at, is_set}
-use Rattle.ellen_tree_laws.specs.Shape.{Shape, Ordered, IsNamed, is_node, keys, children, child_of, is_left, way, told_by, TOP}
+use Rattle.ellen_tree_laws.specs.Shape.{Shape, Ordered, IsNamed, is_node, keys, child_of, is_left, way, TOP}
 use Rattle.ellen_tree_laws.specs.Shape.OnWay.{below}
 use Rattle.ellen_tree_laws.proofs.Plain.{both_ops, marked_value}
 use Rattle.ellen_tree_laws.proofs.Ways.{InRange, way_in, inner_same, inner_is, leaf_names, child_update, told_now}
@@ -156,7 +156,7 @@ module _ (world after : World) (shape : Shape world) (l : Later world after) (s 
     high = shape.high;
     ordered = order_out world after node side x.to x.beside.words on' (λ r. if shape.low r == keys after p then shape.low p else shape.low r) shape.high
         (swing_left (keys after) (kids world) shape.on shape.low shape.high order (inner node) p leaf_gone (kids world p false) side at_node.is (inner_is node) (kid_of world node side ∙ to_gone) (inner_is gone) no_root (to_leaf true e) leaf_out refl
-            (kids after) on' (λ r. if shape.low r == keys after p then shape.low p else shape.low r) (goes_to true e) stays still (moved shape.low (shape.low p)));
+        (kids after) on' (λ r. if shape.low r == keys after p then shape.low p else shape.low r) (goes_to true e) stays still (moved shape.low (shape.low p)));
     named = named_swing;
     living = living_swing;
     tells = λ r q is out from to small. tells_left (keys after) (kids world) shape.on shape.low shape.high order (inner node) p leaf_gone (kids world p false) side at_node.is (inner_is node) (kid_of world node side ∙ to_gone) (inner_is gone) no_root (to_leaf true e) leaf_out refl
@@ -169,7 +169,7 @@ module _ (world after : World) (shape : Shape world) (l : Later world after) (s 
     high = λ r. if shape.high r == keys after p then shape.high p else shape.high r;
     ordered = order_out world after node side x.to x.beside.words on' shape.low (λ r. if shape.high r == keys after p then shape.high p else shape.high r)
         (swing_right (keys after) (kids world) shape.on shape.low shape.high order (inner node) p leaf_gone (kids world p true) side at_node.is (inner_is node) (kid_of world node side ∙ to_gone) (inner_is gone) no_root (to_leaf false e) leaf_out refl
-            (kids after) on' (λ r. if shape.high r == keys after p then shape.high p else shape.high r) (goes_to false e) stays still (moved shape.high (shape.high p)) key_small);
+        (kids after) on' (λ r. if shape.high r == keys after p then shape.high p else shape.high r) (goes_to false e) stays still (moved shape.high (shape.high p)) key_small);
     named = named_swing;
     living = living_swing;
     tells = λ r q is out from to small. tells_right (keys after) (kids world) shape.on shape.low shape.high order (inner node) p leaf_gone (kids world p true) side at_node.is (inner_is node) (kid_of world node side ∙ to_gone) (inner_is gone) no_root (to_leaf false e) leaf_out refl

@@ -1,6 +1,5 @@
 -- An exchange of one node's update word: what it leaves of lists whose flag is at other nodes, and of the nodes' words.
 use Rattle.std.proofs.Common.{◌≡◌, ◌≢◌, ℕ, ◌^◌, ◌<◌, Bool, true, refl, sym, ap, subst, ◌∙◌, inl, inr, arith}
-use Rattle.std.specs.Prelude.{if◌then◌else◌}
 use Rattle.std.proofs.lemmas.Bool.{cases_eq}
 use Rattle.word_fields.specs.Versioned.{cleared_word}
 use Rattle.normal_traits.specs.World.{Listed, World}
@@ -25,7 +24,7 @@ module _ (world after : World) (shape : Shape world) (l : Later world after) (s 
   pub update_here : after.words (update_at x) ≡ to
   update_here = words (update_at x) ∙ with_here (update_at x) to world.words (update_at x) refl
 
-  pub update_other : (node : ℕ) → node ≢ x → after.words (update_at node) ≡ world.words (update_at node)
+  update_other : (node : ℕ) → node ≢ x → after.words (update_at node) ≡ world.words (update_at node)
   update_other node differs = words (update_at node) ∙ with_other (update_at x) to world.words (update_at node) (λ e. differs (update_same node x e))
 
   pub child_same_word : (node : ℕ) (left : Bool) → after.words (child_at node left) ≡ world.words (child_at node left)
@@ -44,7 +43,7 @@ module _ (world after : World) (shape : Shape world) (l : Later world after) (s 
     inserts_other i waits =
         let new : list.block ≢ x = λ e. insert_new world shape list flagged i waits (subst (λ n. is_node world.changes n ≡ true) (sym e) is_x) in
         inl (insert_waits_by world shape after l s list flagged i (up_other waits.up) (child_same_word flagged.node i.left) (on_way_stays world after shape l s changes child_is list.call.op.key flagged.node waits.reached)
-            (child_same_word list.block) (update_other list.block new ∙ waits.new.update) waits)
+        (child_same_word list.block) (update_other list.block new ∙ waits.new.update) waits)
 
     pub stands_other : (r : Removes world list flagged.node flagged.from) → RemoveStands world list flagged.node flagged.from r.left r.gone → RemoveStands after list flagged.node flagged.from r.left r.gone
     stands_other r stands =

@@ -1,5 +1,5 @@
 -- Lists that wait: what keeps them waiting, and what they exclude.
-use Rattle.std.proofs.Common.{◌≡◌, ◌≢◌, ℕ, ◌+◌, ◌*◌, ◌/◌, ◌^◌, ◌<◌, Bool, true, false, not, ◌||◌, ◌&&◌, List, [], ◌∷◌, refl, sym, ap, subst, ◌∙◌, inl, inr, ◌⊎◌, arith}
+use Rattle.std.proofs.Common.{◌≡◌, ◌≢◌, ℕ, ◌/◌, ◌^◌, ◌<◌, Bool, true, false, not, List, [], ◌∷◌, refl, sym, ap, subst, ◌∙◌, inl, inr, ◌⊎◌, arith}
 use Rattle.std.specs.Prelude.{◌==◌, if◌then◌else◌, nat_lt}
 use Rattle.std.proofs.lemmas.Bool.{or_cases, and_parts, eqb-true}
 use Rattle.word_fields.specs.Versioned.{versioned_value, versioned_version}
@@ -98,7 +98,7 @@ module _ (world : World) (shape : Shape world) where
           let b = brought world.changes list.block made in
           let same : b.change.list ≡ list = shape.same_block b.change.list list (shape.flagged b.change b.among) flagged b.block_is in
           insert_unmade i waits (subst (λ (y : Listed). Among (record { list = y; reply = Yes }) world.changes) same
-              (subst (λ r. Among (record { list = b.change.list; reply = r }) world.changes) (shape.yes b.change b.among) b.among))
+          (subst (λ r. Among (record { list = b.change.list; reply = r }) world.changes) (shape.yes b.change b.among) b.among))
     ]
 
   -- ---- what keeps a list waiting

@@ -1,6 +1,6 @@
 -- What an allowed step does to the tree: it exchanges nothing, or it makes one of five exchanges. Each effect has what
 -- its exchange finds.
-use Rattle.std.specs.Prelude.{◌≡◌, ℕ, ◌+◌, ◌^◌, ◌<◌, Bool, true, false, not, ◌⊎◌, [], ◌∷◌}
+use Rattle.std.specs.Prelude.{◌≡◌, ℕ, ◌+◌, ◌^◌, ◌<◌, true, false, not, ◌⊎◌, [], ◌∷◌}
 use Rattle.lin_report.specs.declared.calls.Reply.TheVariants.{Yes}
 use Rattle.word_fields.specs.Versioned.{versioned_value, versioned_version, cleared_word}
 use Rattle.normal_traits.specs.World.{Listed, Won, World, is_word}
