@@ -1,4 +1,4 @@
--- The laws of overtaking.
+-- The laws of the accounts, from scenes to words; and that the returns of all other seats are within the bound.
 use Rattle.std.proofs.Common.{◌≡◌, ◌∙◌, refl, sym, ap, subst, ℕ, ◌<◌, ◌≤◌, true, false, Some, None, arith}
 use Rattle.std.specs.Prelude.{◌==◌, ◌&&◌}
 use Rattle.word_fields.specs.Records.{record_phase, record_number}
@@ -42,7 +42,7 @@ pub record_is : (seats : ℕ) → seats ≤ 8 → (words : List ℕ) (ghosts : G
 record_is seats few words ghosts s real = seat_word s (record_in words s) (omega (arith, real, few))
 
 module _ {S W : Type 0} (seats : ℕ) (few : seats ≤ 8) (words : List ℕ) (ghosts : Ghosts) (i number n : ℕ) where
-  -- the records of a scene are those of the words where a seat is helped
+  -- who is held back, by the records of the scene as by those of the words
   held_same : (p : Phase S W) → PhaseFacts (scene_of words ghosts) seats i number (phase_view p) → held_back (scene_of words ghosts).queue (scene_of words ghosts).records n p ≡ held_back (queue_in words) (record_in words) n p
   held_same phase.Idle h = refl
   held_same phase.Begin h = refl

@@ -1,4 +1,4 @@
--- The bound on overtaking, over the events of every run.
+-- The bound on overtaking, over the events of every run: the count of a call is tracked through the events of each step.
 use Rattle.std.proofs.Common.{◌≡◌, ◌∙◌, refl, sym, ap, subst, ℕ, zero, suc, ◌<◌, ◌≤◌, true, List, [], ◌∷◌, slice_get, Option, Some, None, inl, inr, arith}
 use Rattle.std.specs.List.{fold}
 use Rattle.lin_report.specs.declared.calls.Op.{Op}

@@ -69,7 +69,7 @@ eight_low t in' = low_among t eight_seats (omega arith, (omega arith, (omega ari
 -- ---- runs
 
 module _ {S W : Type 0} where
-  -- the events are ordered, and tell of the queue and of each machine
+  -- the events are ordered, and tell of the queue and of each machine: the invariant of the induction over moves
   record IsTold (events : List Event) (a : Scene) (mechs : List (Mech S W)) : Type 0 where
     pub ordered : AreOrdered events
     pub queue : TellsQueue events a

@@ -1,4 +1,4 @@
--- One call, one seat, one step: the account goes on.
+-- One call, one seat, one step: the account is opened where the call is published, and goes on while it waits.
 use Rattle.std.proofs.Common.{◌≡◌, ◌∙◌, refl, sym, ap, subst, ℕ, suc, ◌-◌, ◌<◌, ◌≤◌, Bool, true, false, if◌then◌else◌, drop, length, length-drop, inl, inr, ◌⊎◌, arith}
 use Rattle.std.specs.Prelude.{◌&&◌, not, nat_lt}
 use Rattle.std.proofs.lemmas.Bool.{cases_Bool, cases_lt, cond-false, lt-ltb, le-ltb, ltb-true, and_parts}

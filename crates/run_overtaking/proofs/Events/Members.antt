@@ -1,4 +1,4 @@
--- Events among others, and events that may come one after another.
+-- Which events a step has, read off its lists of completions and publications, and when they may come one after another.
 use Rattle.std.proofs.Common.{◌≡◌, ◌≢◌, ◌∙◌, refl, sym, ap, subst, ℕ, zero, suc, ◌<◌, Bool, true, false, List, [], ◌∷◌, ◌++◌, append-nil, append_assoc, inl, inr, ◌⊎◌, arith}
 use Rattle.std.specs.Prelude.{Contains, AllPairs, ◌&&◌, ◌==◌, not, if◌then◌else◌}
 use Rattle.std.proofs.lemmas.Bool.{cases_Bool, cases_eq, and_parts, eq-eqb, ne_eqb, or_left, or_right, true≢false}
