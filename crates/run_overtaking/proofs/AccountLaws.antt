@@ -7,14 +7,14 @@ use Rattle.normal_traits.specs.NormalForm.{NormalForm}
 use Rattle.help_queue.specs.Gathers.{is_open, leads}
 use Rattle.help_queue_laws.specs.Ghosts.{Ghosts}
 use Rattle.help_queue_laws.specs.Runs.{queue_in, record_in}
-use Rattle.help_queue_laws.proofs.Scenes.{scene_of}
-use Rattle.help_queue_laws.proofs.Results.{seat_word}
+use Rattle.help_queue_laws.proofs.Known.Scenes.{scene_of}
+use Rattle.help_queue_laws.proofs.Steps.Results.{seat_word}
 use Rattle.fast_slow_engine.specs.declared.phases.Phase.{Phase}
 use Rattle.fast_slow_engine.specs.declared.phases.Phase.TheVariants as phase
 use Rattle.fast_slow_engine.specs.declared.help.Helping.{Helping}
 use Rattle.fast_slow_engine.specs.declared.help.Helping.TheVariants.{Record, Known, Remove}
 use Rattle.fast_slow_engine.specs.Runs.{run_of}
-use Rattle.help_queue_laws.proofs.Knowledge.{PhaseFacts}
+use Rattle.help_queue_laws.proofs.Known.Knowledge.{PhaseFacts}
 use Rattle.run_queue.specs.QueueViews.{phase_view, helping_view, next_number}
 use Rattle.run_queue.specs.QueueGhosts.{queue_ghosts}
 use Rattle.run_queue.proofs.Runs.RunMoves.{runs_queued}

@@ -14,10 +14,10 @@ use Rattle.normal_traits.specs.NormalForm.{NormalForm}
 use Rattle.help_queue.specs.Gathers.{among_seats, holds, is_open}
 use Rattle.help_queue_laws.specs.Ghosts.{Ghosts, no_ghosts}
 use Rattle.help_queue_laws.specs.Runs.{record_in}
-use Rattle.help_queue_laws.proofs.QueueWords.{not_both}
-use Rattle.help_queue_laws.proofs.Results.{seat_word}
-use Rattle.help_queue_laws.proofs.RunLemmas.{at_set, beside_set, same_some}
-use Rattle.help_queue_laws.proofs.Scenes.{Scene, scene_of, IsIn, Later}
+use Rattle.help_queue_laws.proofs.Known.QueueWords.{not_both}
+use Rattle.help_queue_laws.proofs.Steps.Results.{seat_word}
+use Rattle.help_queue_laws.proofs.Runs.RunLemmas.{at_set, beside_set, same_some}
+use Rattle.help_queue_laws.proofs.Known.Scenes.{Scene, scene_of, IsIn, Later}
 use Rattle.fast_slow_engine.specs.declared.setup.Setup.{Setup}
 use Rattle.fast_slow_engine.specs.Mechs.{Mech}
 use Rattle.fast_slow_engine.specs.PhaseTable.{mech_event, mech_fed, mech_request}

@@ -23,10 +23,10 @@ use Rattle.help_queue_laws.specs.declared.phases.Helping.TheVariants as at
 use Rattle.help_queue_laws.specs.declared.phases.Phase as queue
 use Rattle.help_queue_laws.specs.declared.phases.Phase.TheVariants as in_queue
 use Rattle.help_queue_laws.specs.Ghosts.{Ghosts}
-use Rattle.help_queue_laws.proofs.Scenes.{Scene, scene_of, IsClosed, IsDone, IsHead, IsSound, Later}
-use Rattle.help_queue_laws.proofs.Knowledge.{HelpFacts, RemoveFacts, IsRemovalOf}
-use Rattle.help_queue_laws.proofs.QueueWords.{not_both, head_holds}
-use Rattle.help_queue_laws.proofs.Results.{seat_word, exchange_tells, won_word}
+use Rattle.help_queue_laws.proofs.Known.Scenes.{Scene, scene_of, IsClosed, IsDone, IsHead, IsSound, Later}
+use Rattle.help_queue_laws.proofs.Known.Knowledge.{HelpFacts, RemoveFacts, IsRemovalOf}
+use Rattle.help_queue_laws.proofs.Known.QueueWords.{not_both, head_holds}
+use Rattle.help_queue_laws.proofs.Steps.Results.{seat_word, exchange_tells, won_word}
 use Rattle.fast_slow_engine.specs.declared.help.Helping.{Helping}
 use Rattle.fast_slow_engine.specs.declared.help.Helping.TheVariants.{Record, Known, Remove}
 use Rattle.fast_slow_engine.specs.declared.help.Work.{Work}

@@ -7,7 +7,7 @@ use Rattle.std.proofs.lemmas.Map.Made.{IsDistinct-from_AllPairs}
 use Rattle.std.proofs.lemmas.Map.Steps.{length-le_from_distinct_below}
 use Rattle.word_fields.specs.Seats.{AreSeats}
 use Rattle.help_queue.specs.Gathers.{among_seats, is_first}
-use Rattle.help_queue_laws.proofs.QueueWords.{not_both}
+use Rattle.help_queue_laws.proofs.Known.QueueWords.{not_both}
 use Rattle.run_overtaking.specs.Accounts.{Account}
 use Rattle.run_overtaking.specs.Waiting.{position}
 

@@ -14,11 +14,11 @@ use Rattle.normal_traits.specs.NormalForm.{NormalForm}
 use Rattle.help_queue.specs.Gathers.{holds, is_open}
 use Rattle.help_queue_laws.specs.Ghosts.{Ghosts, no_ghosts}
 use Rattle.help_queue_laws.specs.Runs.{queue_in, record_in}
-use Rattle.help_queue_laws.proofs.Scenes.{Scene, scene_of, IsOpen, IsClosed, IsIn, IsOut, IsSound, Later}
-use Rattle.help_queue_laws.proofs.Knowledge.{PhaseFacts}
-use Rattle.help_queue_laws.proofs.QueueWords.{not_both}
-use Rattle.help_queue_laws.proofs.Results.{seat_word}
-use Rattle.help_queue_laws.proofs.RunLemmas.{at_set, beside_set, same_some, zero_phase}
+use Rattle.help_queue_laws.proofs.Known.Scenes.{Scene, scene_of, IsOpen, IsClosed, IsIn, IsOut, IsSound, Later}
+use Rattle.help_queue_laws.proofs.Known.Knowledge.{PhaseFacts}
+use Rattle.help_queue_laws.proofs.Known.QueueWords.{not_both}
+use Rattle.help_queue_laws.proofs.Steps.Results.{seat_word}
+use Rattle.help_queue_laws.proofs.Runs.RunLemmas.{at_set, beside_set, same_some, zero_phase}
 use Rattle.fast_slow_engine.specs.declared.setup.Setup.{Setup}
 use Rattle.fast_slow_engine.specs.declared.phases.Phase.{Phase}
 use Rattle.fast_slow_engine.specs.declared.phases.Phase.TheVariants as phase

@@ -20,11 +20,11 @@ use Rattle.help_queue_laws.specs.declared.phases.Phase as queue
 use Rattle.help_queue_laws.specs.declared.phases.Phase.TheVariants as in_queue
 use Rattle.help_queue_laws.specs.Ghosts.{Ghosts}
 use Rattle.help_queue_laws.specs.Runs.{queue_in, record_in}
-use Rattle.help_queue_laws.proofs.Scenes.{Scene, scene_of, IsIn, IsOut, IsSound, Later}
-use Rattle.help_queue_laws.proofs.QueueWords.{not_both}
-use Rattle.help_queue_laws.proofs.Knowledge.{PhaseFacts}
+use Rattle.help_queue_laws.proofs.Known.Scenes.{Scene, scene_of, IsIn, IsOut, IsSound, Later}
+use Rattle.help_queue_laws.proofs.Known.QueueWords.{not_both}
+use Rattle.help_queue_laws.proofs.Known.Knowledge.{PhaseFacts}
 use Rattle.run_overtaking.proofs.Accounts.Places.{first_among}
-use Rattle.help_queue_laws.proofs.Results.{seat_word}
+use Rattle.help_queue_laws.proofs.Steps.Results.{seat_word}
 use Rattle.fast_slow_engine.specs.declared.phases.Phase.{Phase}
 use Rattle.fast_slow_engine.specs.declared.phases.Phase.TheVariants as phase
 use Rattle.fast_slow_engine.specs.declared.phases.Announcing.TheVariants as announcing
