@@ -1,4 +1,4 @@
--- The laws of overtaking.
+-- The laws of the accounts, from scenes to words; and that the returns of all other seats are within the bound.
 use Rattle.std.proofs.Common.{◌≡◌, ◌∙◌, refl, sym, ap, subst, ℕ, ◌<◌, ◌≤◌, true, false, Some, None, arith}
 use Rattle.std.specs.Prelude.{◌==◌, ◌&&◌}
 use Rattle.word_fields.specs.Records.{record_phase, record_number}
@@ -7,14 +7,14 @@ use Rattle.normal_traits.specs.NormalForm.{NormalForm}
 use Rattle.help_queue.specs.Gathers.{is_open, leads}
 use Rattle.help_queue_laws.specs.Ghosts.{Ghosts}
 use Rattle.help_queue_laws.specs.Runs.{queue_in, record_in}
-use Rattle.help_queue_laws.proofs.Scenes.{scene_of}
-use Rattle.help_queue_laws.proofs.Results.{seat_word}
+use Rattle.help_queue_laws.proofs.Known.Scenes.{scene_of}
+use Rattle.help_queue_laws.proofs.Steps.Results.{seat_word}
 use Rattle.fast_slow_engine.specs.declared.phases.Phase.{Phase}
 use Rattle.fast_slow_engine.specs.declared.phases.Phase.TheVariants as phase
 use Rattle.fast_slow_engine.specs.declared.help.Helping.{Helping}
 use Rattle.fast_slow_engine.specs.declared.help.Helping.TheVariants.{Record, Known, Remove}
 use Rattle.fast_slow_engine.specs.Runs.{run_of}
-use Rattle.help_queue_laws.proofs.Knowledge.{PhaseFacts}
+use Rattle.help_queue_laws.proofs.Known.Knowledge.{PhaseFacts}
 use Rattle.run_queue.specs.QueueViews.{phase_view, helping_view, next_number}
 use Rattle.run_queue.specs.QueueGhosts.{queue_ghosts}
 use Rattle.run_queue.proofs.Runs.RunMoves.{runs_queued}
@@ -42,7 +42,7 @@ pub record_is : (seats : ℕ) → seats ≤ 8 → (words : List ℕ) (ghosts : G
 record_is seats few words ghosts s real = seat_word s (record_in words s) (omega (arith, real, few))
 
 module _ {S W : Type 0} (seats : ℕ) (few : seats ≤ 8) (words : List ℕ) (ghosts : Ghosts) (i number n : ℕ) where
-  -- the records of a scene are those of the words where a seat is helped
+  -- who is held back, by the records of the scene as by those of the words
   held_same : (p : Phase S W) → PhaseFacts (scene_of words ghosts) seats i number (phase_view p) → held_back (scene_of words ghosts).queue (scene_of words ghosts).records n p ≡ held_back (queue_in words) (record_in words) n p
   held_same phase.Idle h = refl
   held_same phase.Begin h = refl

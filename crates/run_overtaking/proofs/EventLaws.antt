@@ -1,14 +1,14 @@
--- The bound on overtaking, over the events of every run.
+-- The bound on overtaking, over the events of every run: the count of a call is tracked through the events of each step.
 use Rattle.std.proofs.Common.{◌≡◌, ◌∙◌, refl, sym, ap, subst, ℕ, zero, suc, ◌<◌, ◌≤◌, true, List, [], ◌∷◌, slice_get, Option, Some, None, inl, inr, arith}
 use Rattle.std.specs.List.{fold}
 use Rattle.lin_report.specs.declared.calls.Op.{Op}
-use Rattle.help_queue_laws.proofs.LaterLemmas.{done_closed}
+use Rattle.help_queue_laws.proofs.Acts.LaterLemmas.{done_closed}
 use Rattle.std.proofs.lemmas.Option.{slice_get_within}
 use Rattle.word_fields.specs.Records.{record_phase, record_number}
 use Rattle.normal_traits.specs.NormalForm.{NormalForm}
 use Rattle.help_queue.specs.Gathers.{among_seats, holds, is_open}
-use Rattle.help_queue_laws.proofs.Scenes.{scene_of}
-use Rattle.help_queue_laws.proofs.QueueWords.{not_both}
+use Rattle.help_queue_laws.proofs.Known.Scenes.{scene_of}
+use Rattle.help_queue_laws.proofs.Known.QueueWords.{not_both}
 use Rattle.fast_slow_engine.specs.declared.setup.Setup.{Setup}
 use Rattle.fast_slow_engine.specs.Mechs.{Mech}
 use Rattle.fast_slow_engine.specs.Runs.{Move, IsMove, AreMoves, begun, moved_by, run_of}

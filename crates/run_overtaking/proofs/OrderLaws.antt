@@ -14,10 +14,10 @@ use Rattle.normal_traits.specs.NormalForm.{NormalForm}
 use Rattle.help_queue.specs.Gathers.{among_seats, holds, is_open}
 use Rattle.help_queue_laws.specs.Ghosts.{Ghosts, no_ghosts}
 use Rattle.help_queue_laws.specs.Runs.{record_in}
-use Rattle.help_queue_laws.proofs.QueueWords.{not_both}
-use Rattle.help_queue_laws.proofs.Results.{seat_word}
-use Rattle.help_queue_laws.proofs.RunLemmas.{at_set, beside_set, same_some}
-use Rattle.help_queue_laws.proofs.Scenes.{Scene, scene_of, IsIn, Later}
+use Rattle.help_queue_laws.proofs.Known.QueueWords.{not_both}
+use Rattle.help_queue_laws.proofs.Steps.Results.{seat_word}
+use Rattle.help_queue_laws.proofs.Runs.RunLemmas.{at_set, beside_set, same_some}
+use Rattle.help_queue_laws.proofs.Known.Scenes.{Scene, scene_of, IsIn, Later}
 use Rattle.fast_slow_engine.specs.declared.setup.Setup.{Setup}
 use Rattle.fast_slow_engine.specs.Mechs.{Mech}
 use Rattle.fast_slow_engine.specs.PhaseTable.{mech_event, mech_fed, mech_request}
@@ -69,7 +69,7 @@ eight_low t in' = low_among t eight_seats (omega arith, (omega arith, (omega ari
 -- ---- runs
 
 module _ {S W : Type 0} where
-  -- the events are ordered, and tell of the queue and of each machine
+  -- the events are ordered, and tell of the queue and of each machine: the invariant of the induction over moves
   record IsTold (events : List Event) (a : Scene) (mechs : List (Mech S W)) : Type 0 where
     pub ordered : AreOrdered events
     pub queue : TellsQueue events a

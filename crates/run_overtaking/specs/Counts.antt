@@ -23,8 +23,8 @@ pub record Counts : Type 0 where
 abbrev pub no_counts : Counts
 no_counts = record { returned = λ x u. 0; allowed = λ x u. 0; looked = λ u. 0 }
 
--- how many returns of u are allowed while x waits, by the seats of the word that x enters: one more than x has before it. A
--- seat ahead of x returns only once it is the head and its call is completed, so those before it don't count
+-- how many returns of u are allowed while x waits, by the seats of the word that x has entered: one more than the place of x.
+-- Where u stands ahead it is allowed as many fewer as its own place says, since it returns only once it is the head
 abbrev pub allowance : ℕ → ℕ → List ℕ → ℕ
 allowance x u seats = suc (position x seats) - (if nat_lt (position u seats) (position x seats) then position u seats else 0)
 
@@ -42,6 +42,7 @@ module _ {S W : Type 0} (form : NormalForm S W) where
   abbrev pub counts_stepped : ℕ → Mech S W → List ℕ → Counts → Counts
   counts_stepped i mech words counts = counts_after i mech.phase words (words_after (mech_request form mech) words) counts
 
+  -- after a move
   abbrev pub counts_moved : Option (Mech S W) → Move → RunState S W → Counts → Counts
   counts_moved None move state counts = counts
   counts_moved (Some mech) move state counts = counts_stepped move.seat (begun move.begins mech) state.words counts

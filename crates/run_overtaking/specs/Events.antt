@@ -1,8 +1,10 @@
 -- The events of a run, of all four kinds. Begin and Return are the machine's own; publications and completions are read off
 -- the words before and after a move.
-use Rattle.std.specs.Prelude.{ℕ, ◌≤◌, ◌&&◌, not, if◌then◌else◌, List, [], ◌∷◌, ◌++◌, slice_get, Option, Some, None}
+use Rattle.std.specs.Prelude.{◌≡◌, Bool, true, false, filter, ℕ, ◌≤◌, ◌&&◌, not, if◌then◌else◌, List, [], ◌∷◌, ◌++◌, slice_get, Option, Some, None}
 use Rattle.std.specs.Option.{option_to_list}
 use Rattle.lin_report.specs.declared.events.Event.{Event}
+use Rattle.lin_report.specs.declared.events.EventKind.{EventKind}
+use Rattle.lin_report.specs.declared.events.EventKind.TheVariants as kind
 use Rattle.step_memory.specs.Step.{words_after}
 use Rattle.word_fields.specs.Records.{record_phase, record_number}
 use Rattle.word_fields.specs.Seats.{queue_seats}
@@ -39,7 +41,15 @@ abbrev pub step_events : {S W : Type 0} → Mech S W → List ℕ → List ℕ �
 step_events mech words words' =
     completed (record_in words) (record_in words') eight_seats ++ (option_to_list (mech_event mech) ++ published (queue_in words) (record_in words') (queue_seats (queue_in words')))
 
+-- whether an event is a machine's own, by its kind
+abbrev pub is_own : EventKind → Bool
+is_own kind.Begin = true
+is_own kind.Return = true
+is_own kind.Publish = false
+is_own kind.Complete = false
+
 module _ {S W : Type 0} (form : NormalForm S W) where
+  -- the events of a move
   abbrev pub events_moved : Option (Mech S W) → Move → RunState S W → List Event
   events_moved None move state = []
   events_moved (Some mech) move state = step_events (begun move.begins mech) state.words (words_after (mech_request form (begun move.begins mech)) state.words)
@@ -60,3 +70,7 @@ module _ {S W : Type 0} (form : NormalForm S W) where
   -- each event may come behind those before it
   abbrev pub EventsOrdered : Type 0
   EventsOrdered = (setup : Setup) (moves : List Move) → AreMoves form setup moves → KeepsQueue form setup moves → AreOrdered (events_of setup moves)
+
+  -- those of the machines, in this order, are the events of the run: the others are added to them
+  abbrev pub OwnEventsAgree : Type 0
+  OwnEventsAgree = (setup : Setup) (moves : List Move) → filter (λ event. is_own event.kind) (events_of setup moves) ≡ (run_of form setup moves).events

@@ -1,5 +1,5 @@
 //! The events of every run: in which order they come, and how often they say that a call is overtaken.
-ghost use Rattle.run_overtaking.specs.Events.{OvertakenBounded, GreatestBounded, EventsOrdered};
+ghost use Rattle.run_overtaking.specs.Events.{OvertakenBounded, GreatestBounded, EventsOrdered, OwnEventsAgree};
 
 use normal_traits::Normalized;
 
@@ -17,4 +17,9 @@ pub fn greatest_bounded<C: Normalized>()
 /// other call of its seat is open.
 pub fn events_ordered<C: Normalized>()
     ensures { EventsOrdered C.form }
+{}
+
+/// Those of the machines among them are the events of the run, in the same order.
+pub fn own_events_agree<C: Normalized>()
+    ensures { OwnEventsAgree C.form }
 {}

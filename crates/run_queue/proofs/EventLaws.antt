@@ -5,11 +5,11 @@ use Rattle.word_fields.specs.Records.{record_phase, record_number}
 use Rattle.normal_traits.specs.NormalForm.{NormalForm}
 use Rattle.help_queue.specs.Gathers.{holds, is_open}
 use Rattle.help_queue_laws.specs.Runs.{record_in}
-use Rattle.help_queue_laws.proofs.Scenes.{Scene, scene_of, IsOpen, IsDone, IsIn, IsOut, IsHead, Later}
-use Rattle.help_queue_laws.proofs.LaterLemmas.{done_closed}
-use Rattle.help_queue_laws.proofs.QueueWords.{not_both, head_holds}
-use Rattle.help_queue_laws.proofs.Results.{seat_word}
-use Rattle.help_queue_laws.proofs.SceneLaws.{open_generate}
+use Rattle.help_queue_laws.proofs.Known.Scenes.{Scene, scene_of, IsOpen, IsDone, IsIn, IsOut, IsHead, Later}
+use Rattle.help_queue_laws.proofs.Acts.LaterLemmas.{done_closed}
+use Rattle.help_queue_laws.proofs.Known.QueueWords.{not_both, head_holds}
+use Rattle.help_queue_laws.proofs.Steps.Results.{seat_word}
+use Rattle.help_queue_laws.proofs.Known.SceneLaws.{open_generate}
 use Rattle.fast_slow_engine.specs.declared.setup.Setup.{Setup}
 use Rattle.fast_slow_engine.specs.Runs.{Move, AreMoves, run_of}
 use Rattle.run_queue.specs.QueueGhosts.{queue_ghosts}

@@ -1,4 +1,5 @@
--- What the seats are allowed while a call waits adds up to the bound.
+-- What the other seats are allowed while a call waits is within the bound: the places of the seats ahead are 0, 1, 2 .., each
+-- once, and each of them is taken off once.
 use Rattle.std.proofs.Common.{◌≡◌, ◌≢◌, ◌∙◌, refl, sym, ap, subst, ℕ, zero, suc, ◌+◌, ◌*◌, ◌-◌, ◌/◌, ◌<◌, ◌≤◌, ◌==◌, if◌then◌else◌, Bool, true, false, List, [], ◌∷◌, inl, inr, get_or, arith}
 use Rattle.std.specs.Prelude.{nat_lt, AllPairs}
 use Rattle.std.proofs.lemmas.Bool.{cases_Bool, cases_lt, cond-true, cond-false, eq-eqb, ne_eqb, lt-ltb, le-ltb, or_left, or_right, true≢false}
@@ -13,7 +14,7 @@ use Rattle.run_overtaking.proofs.Accounts.Sums.{sum_add, sum_but, sum_grows, sum
 lt_suc : (a b : ℕ) → nat_lt (suc a) (suc b) ≡ nat_lt a b
 lt_suc a b = elim (cases_lt a b) [ inl less ↦ lt-ltb (suc a) (suc b) (omega (arith, less)) ∙ sym (lt-ltb a b less) | inr past ↦ le-ltb (suc a) (suc b) (omega (arith, past)) ∙ sym (le-ltb a b past) ]
 
--- k + (k + 1) + .., p summands
+-- k + (k + 1) + .., p summands: the sum of the places ahead
 abbrev rising : ℕ → ℕ → ℕ
 rising k zero = 0
 rising k (suc p) = k + rising (suc k) p

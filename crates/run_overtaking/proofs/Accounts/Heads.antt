@@ -1,5 +1,5 @@
--- The missing fact of helpers: the number known of a head is at least that at the helper's look. So helping from a look
--- ends only where the head with its call of then has left.
+-- What a seat that helps since its look knows of its head: the number that it knows is at least that of the call at the look.
+-- So its helping ends only once that head, with that call, has left the queue word.
 use Rattle.std.proofs.Common.{◌≡◌, ◌∙◌, refl, sym, ap, subst, ℕ, ◌<◌, ◌≤◌, Bool, true, false, if◌then◌else◌, List, ◌++◌, drop, length, Option, Some, None, inl, inr, arith}
 use Rattle.std.specs.Prelude.{◌==◌, ◌&&◌, not, slice_index}
 use Rattle.std.proofs.lemmas.Bool.{cond-true, eq-eqb, eqb-true, and_parts, true≢false}
@@ -23,10 +23,10 @@ use Rattle.help_queue_laws.specs.declared.phases.Helping.TheVariants as at
 use Rattle.help_queue_laws.specs.declared.phases.Phase as queue
 use Rattle.help_queue_laws.specs.declared.phases.Phase.TheVariants as in_queue
 use Rattle.help_queue_laws.specs.Ghosts.{Ghosts}
-use Rattle.help_queue_laws.proofs.Scenes.{Scene, scene_of, IsClosed, IsDone, IsHead, IsSound, Later}
-use Rattle.help_queue_laws.proofs.Knowledge.{HelpFacts, RemoveFacts, IsRemovalOf}
-use Rattle.help_queue_laws.proofs.QueueWords.{not_both, head_holds}
-use Rattle.help_queue_laws.proofs.Results.{seat_word, exchange_tells, won_word}
+use Rattle.help_queue_laws.proofs.Known.Scenes.{Scene, scene_of, IsClosed, IsDone, IsHead, IsSound, Later}
+use Rattle.help_queue_laws.proofs.Known.Knowledge.{HelpFacts, RemoveFacts, IsRemovalOf}
+use Rattle.help_queue_laws.proofs.Known.QueueWords.{not_both, head_holds}
+use Rattle.help_queue_laws.proofs.Steps.Results.{seat_word, exchange_tells, won_word}
 use Rattle.fast_slow_engine.specs.declared.help.Helping.{Helping}
 use Rattle.fast_slow_engine.specs.declared.help.Helping.TheVariants.{Record, Known, Remove}
 use Rattle.fast_slow_engine.specs.declared.help.Work.{Work}
@@ -41,7 +41,8 @@ use Rattle.run_queue.proofs.Moves.WonRecords.{one_first}
 use Rattle.run_queue.proofs.Views.WorkViews.{works_on, goes_on}
 use Rattle.run_overtaking.proofs.Accounts.Scenes.{Dropped, number_rises, closed_stays}
 
--- what a helper knows of the head s, whose call had this number when it looked
+-- what a helper knows of its head s, whose call had the number n at the look. A removal of number m knows besides that a
+-- record with that number is closed: else it would find the call not completed, and end while the head still stands
 abbrev pub HeadFacts : Scene → ℕ → ℕ → seen_at.Helping → Type 0
 HeadFacts a n s (at.Record None) = n ≤ record_number (a.records s)
 HeadFacts a n s (at.Record (Some known)) = (n ≤ known) × (known ≤ record_number (a.records s))
@@ -49,7 +50,7 @@ HeadFacts a n s (at.Head word) = (n ≤ record_number word) × (record_number wo
 HeadFacts a n s (at.Complete word) = (n ≤ record_number word) × (record_number word ≤ record_number (a.records s))
 HeadFacts a n s (at.Removes removal) = (n ≤ removal.number) × (removal.number ≤ record_number (a.records s)) × (record_number (a.records s) ≡ removal.number → IsClosed a s)
 
--- so knows a seat that helps from its look
+-- so knows a seat that helps since its look
 abbrev pub LookFacts : Scene → ℕ → queue.Phase → Type 0
 LookFacts a n (in_queue.Helps s false at') = HeadFacts a n s at'
 LookFacts a n _ = Unit {0}

@@ -1,12 +1,12 @@
--- One call, one seat, one step: the account goes on.
+-- One call, one seat, one step: the account is opened where the call is published, and goes on while it waits.
 use Rattle.std.proofs.Common.{◌≡◌, ◌∙◌, refl, sym, ap, subst, ℕ, suc, ◌-◌, ◌<◌, ◌≤◌, Bool, true, false, if◌then◌else◌, drop, length, length-drop, inl, inr, ◌⊎◌, arith}
 use Rattle.std.specs.Prelude.{◌&&◌, not, nat_lt}
 use Rattle.std.proofs.lemmas.Bool.{cases_Bool, cases_lt, cond-false, lt-ltb, le-ltb, ltb-true, and_parts}
 use Rattle.word_fields.specs.Records.{record_phase}
 use Rattle.word_fields.specs.Seats.{queue_seats}
 use Rattle.help_queue.specs.Gathers.{holds, is_open}
-use Rattle.help_queue_laws.proofs.Scenes.{Scene, IsOpen, IsClosed, IsIn, IsSound, Later}
-use Rattle.help_queue_laws.proofs.QueueWords.{not_both}
+use Rattle.help_queue_laws.proofs.Known.Scenes.{Scene, IsOpen, IsClosed, IsIn, IsSound, Later}
+use Rattle.help_queue_laws.proofs.Known.QueueWords.{not_both}
 use Rattle.run_overtaking.specs.Waiting.{position, enters, waits_ahead}
 use Rattle.run_overtaking.specs.Counts.{allowance}
 use Rattle.run_overtaking.specs.Accounts.{Account, KeepsAccount}

@@ -7,7 +7,7 @@ use Rattle.std.proofs.lemmas.Map.Made.{IsDistinct-from_AllPairs}
 use Rattle.std.proofs.lemmas.Map.Steps.{length-le_from_distinct_below}
 use Rattle.word_fields.specs.Seats.{AreSeats}
 use Rattle.help_queue.specs.Gathers.{among_seats, is_first}
-use Rattle.help_queue_laws.proofs.QueueWords.{not_both}
+use Rattle.help_queue_laws.proofs.Known.QueueWords.{not_both}
 use Rattle.run_overtaking.specs.Accounts.{Account}
 use Rattle.run_overtaking.specs.Waiting.{position}
 
@@ -40,7 +40,7 @@ entered_behind x (s ∷ seats) more h =
       | inr other ↦ behind x s (seats ++ more) other ∙ ap suc (entered_behind x seats more (in_rest x s seats h other)) ∙ sym (behind x s seats other)
     ]
 
--- where another head leaves, the seat comes one nearer
+-- where another seat leaves at the head, the seat comes one nearer
 pub head_leaves : (x : ℕ) (seats more : List ℕ) → among_seats x seats ≡ true → is_first x seats ≡ false → position x seats ≡ suc (position x (drop 1 seats ++ more))
 head_leaves x [] more h other = absurd (true≢false (sym h))
 head_leaves x (s ∷ seats) more h other = behind x s seats other ∙ ap suc (sym (entered_behind x seats more (in_rest x s seats h other)))

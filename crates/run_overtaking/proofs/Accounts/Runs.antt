@@ -1,4 +1,4 @@
--- The account of overtaking is kept by every move.
+-- The accounts of all calls and seats, kept by every move of every run.
 use Rattle.std.proofs.Common.{◌+◌, ◌*◌, ◌-◌, ◌≡◌, ◌≢◌, ◌∙◌, refl, sym, ap, subst, ℕ, ◌<◌, ◌≤◌, Bool, true, false, if◌then◌else◌, List, [], ◌∷◌, slice_get, slice_set, Option, Some, None, inl, inr, ◌⊎◌, arith}
 use Rattle.std.specs.Prelude.{◌==◌, ◌&&◌, not, nat_lt, slice_index}
 use Rattle.std.proofs.lemmas.Bool.{cases_Bool, cases_eq, cases_lt, cond-false, le-ltb, eq-eqb, ne_eqb, eqb-true, and_parts, true≢false}
@@ -14,11 +14,11 @@ use Rattle.normal_traits.specs.NormalForm.{NormalForm}
 use Rattle.help_queue.specs.Gathers.{holds, is_open}
 use Rattle.help_queue_laws.specs.Ghosts.{Ghosts, no_ghosts}
 use Rattle.help_queue_laws.specs.Runs.{queue_in, record_in}
-use Rattle.help_queue_laws.proofs.Scenes.{Scene, scene_of, IsOpen, IsClosed, IsIn, IsOut, IsSound, Later}
-use Rattle.help_queue_laws.proofs.Knowledge.{PhaseFacts}
-use Rattle.help_queue_laws.proofs.QueueWords.{not_both}
-use Rattle.help_queue_laws.proofs.Results.{seat_word}
-use Rattle.help_queue_laws.proofs.RunLemmas.{at_set, beside_set, same_some, zero_phase}
+use Rattle.help_queue_laws.proofs.Known.Scenes.{Scene, scene_of, IsOpen, IsClosed, IsIn, IsOut, IsSound, Later}
+use Rattle.help_queue_laws.proofs.Known.Knowledge.{PhaseFacts}
+use Rattle.help_queue_laws.proofs.Known.QueueWords.{not_both}
+use Rattle.help_queue_laws.proofs.Steps.Results.{seat_word}
+use Rattle.help_queue_laws.proofs.Runs.RunLemmas.{at_set, beside_set, same_some, zero_phase}
 use Rattle.fast_slow_engine.specs.declared.setup.Setup.{Setup}
 use Rattle.fast_slow_engine.specs.declared.phases.Phase.{Phase}
 use Rattle.fast_slow_engine.specs.declared.phases.Phase.TheVariants as phase
@@ -42,7 +42,7 @@ use Rattle.run_overtaking.proofs.Accounts.Scenes.{Dropped, opened_before, beyond
 use Rattle.run_overtaking.proofs.Accounts.Heads.{LookFacts, look_later}
 use Rattle.run_overtaking.proofs.Accounts.Steps.{step_facts, step_held, other_held}
 
--- the seats of a word without seats beyond
+-- the seats of a queue word are those of the run
 pub inside_of : (a : Scene) (seats : ℕ) → ((t : ℕ) → seats ≤ t → IsClosed a t × IsOut a t) → (t : ℕ) → IsIn a t → t < seats
 inside_of a seats beyond t in' = elim (cases_lt t seats) [ inl inside ↦ inside | inr past ↦ absurd (not_both in' (beyond t past).1) ]
 
@@ -52,14 +52,14 @@ place_low a seats x beyond in' =
     let few = few_seats seats (queue_seats a.queue) (queue_seats_are a.queue) (inside_of a seats beyond) in
     omega (arith, less, few)
 
--- ---- what is folded
+-- ---- a seat that returns
 
 and_none : (x : Bool) → (x && false) ≡ false
 and_none true = refl
 and_none false = refl
 
 module _ {S W : Type 0} where
-  -- a seat that returns has made the look of its call, and is between calls
+  -- a seat that draws its end tick isn't held back before, and is after: its next call looks again
   end_held : (form : NormalForm S W) (q n q' n' : ℕ) (r r' : ℕ → ℕ) (seen : Seen) (mech : Mech S W) (p : Phase S W) → ends p ≡ true → (held_back q r n p ≡ false) × (held_back q' r' n' (stepped form p seen mech).phase ≡ true)
   end_held form q n q' n' r r' seen mech phase.Idle is = absurd (true≢false (sym is))
   end_held form q n q' n' r r' seen mech phase.Begin is = absurd (true≢false (sym is))
@@ -91,7 +91,7 @@ module _ {S W : Type 0} where
   ended_closed a seats i number (phase.Value reference) is h = absurd (true≢false (sym is))
   ended_closed a seats i number (phase.End reply) is h = h.closed
 
-  -- what holds of the counts of a state
+  -- what holds of the counts of every state: the invariant of the induction. Seats that the run has not are never in the word
   pub record IsCounted (seats : ℕ) (state : RunState S W) (a : Scene) (counts : Counts) : Type 0 where
     pub looked : (u : ℕ) (mech : Mech S W) → slice_get state.mechs u ≡ Some mech → LookFacts a (counts.looked u) (phase_view mech.phase)
     pub beyond : (t : ℕ) → seats ≤ t → IsClosed a t × IsOut a t

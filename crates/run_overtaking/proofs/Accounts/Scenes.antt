@@ -1,16 +1,16 @@
--- What a step leaves of a call that waits, of the head that a seat helps, and of the seats beyond the run's.
+-- What any step leaves of a call that waits, of the head that a seat helps, and of the seats that the run has not.
 use Rattle.std.proofs.Common.{◌≡◌, ◌≢◌, ◌∙◌, sym, ap, ℕ, suc, ◌<◌, ◌≤◌, List, ◌++◌, drop, inl, inr, ◌⊎◌, arith}
 use Rattle.std.proofs.lemmas.Bool.{cases_Bool}
 use Rattle.word_fields.specs.Records.{record_phase, record_number}
 use Rattle.word_fields.specs.Seats.{queue_seats}
 use Rattle.help_queue.specs.Gathers.{leads, is_first, is_open}
-use Rattle.help_queue_laws.proofs.Scenes.{Scene, IsOpen, IsClosed, IsDone, IsIn, IsOut, IsHead, Later}
-use Rattle.help_queue_laws.proofs.QueueWords.{not_both, head_holds}
-use Rattle.help_queue_laws.proofs.LaterLemmas.{done_closed, closed_later, out_later}
+use Rattle.help_queue_laws.proofs.Known.Scenes.{Scene, IsOpen, IsClosed, IsDone, IsIn, IsOut, IsHead, Later}
+use Rattle.help_queue_laws.proofs.Known.QueueWords.{not_both, head_holds}
+use Rattle.help_queue_laws.proofs.Acts.LaterLemmas.{done_closed, closed_later, out_later}
 use Rattle.run_overtaking.specs.Waiting.{position}
 use Rattle.run_overtaking.proofs.Accounts.Places.{entered_behind, head_leaves, first_stays}
 
--- the head has left, completed
+-- the head, whose call was completed, has left the queue word, and seats may have entered behind
 pub record Dropped (a b : Scene) : Type 0 where
   pub more : List ℕ
   pub seats : queue_seats b.queue ≡ drop 1 (queue_seats a.queue) ++ more
@@ -56,7 +56,7 @@ module _ (seats who : ℕ) (a b : Scene) (l : Later seats who a b) where
         | inr (inr d) ↦ inr (nearer x in' opened d, nearer u in_u opened_u d)
       ]
 
-  -- a call that waits was open in the word, or has just entered
+  -- a seat that was in the word and has an open record had one before
   pub opened_before : (x : ℕ) → IsIn a x → IsOpen b x → IsOpen a x
   opened_before x in' opened =
       elim (l.moves x) [

@@ -1,4 +1,5 @@
--- A step of a machine: it keeps what it knows since its look, and is held back as before unless the head has left.
+-- A step of a machine: it keeps what the machine knows since its look, and leaves it held back if it was, unless the head has
+-- left. So the strict half of an account is asked for only where the place has come nearer.
 use Rattle.std.proofs.Common.{◌≡◌, ◌∙◌, refl, sym, ap, subst, ℕ, ◌<◌, ◌≤◌, Bool, true, false, if◌then◌else◌, List, [], ◌∷◌, length, Option, Some, None, inl, inr, ◌⊎◌, arith}
 use Rattle.std.specs.Prelude.{◌==◌, ◌&&◌, nat_lt, slice_index}
 use Rattle.std.proofs.lemmas.Bool.{eq-eqb, eqb-true, and_parts, true≢false, ltb-true, lt-ltb}
@@ -19,11 +20,11 @@ use Rattle.help_queue_laws.specs.declared.phases.Phase as queue
 use Rattle.help_queue_laws.specs.declared.phases.Phase.TheVariants as in_queue
 use Rattle.help_queue_laws.specs.Ghosts.{Ghosts}
 use Rattle.help_queue_laws.specs.Runs.{queue_in, record_in}
-use Rattle.help_queue_laws.proofs.Scenes.{Scene, scene_of, IsIn, IsOut, IsSound, Later}
-use Rattle.help_queue_laws.proofs.QueueWords.{not_both}
-use Rattle.help_queue_laws.proofs.Knowledge.{PhaseFacts}
+use Rattle.help_queue_laws.proofs.Known.Scenes.{Scene, scene_of, IsIn, IsOut, IsSound, Later}
+use Rattle.help_queue_laws.proofs.Known.QueueWords.{not_both}
+use Rattle.help_queue_laws.proofs.Known.Knowledge.{PhaseFacts}
 use Rattle.run_overtaking.proofs.Accounts.Places.{first_among}
-use Rattle.help_queue_laws.proofs.Results.{seat_word}
+use Rattle.help_queue_laws.proofs.Steps.Results.{seat_word}
 use Rattle.fast_slow_engine.specs.declared.phases.Phase.{Phase}
 use Rattle.fast_slow_engine.specs.declared.phases.Phase.TheVariants as phase
 use Rattle.fast_slow_engine.specs.declared.phases.Announcing.TheVariants as announcing
@@ -140,7 +141,7 @@ module _ {S W : Type 0} (form : NormalForm S W) (mech : Mech S W) (seats who : �
   held_if true y z h k = h refl
   held_if false y z h k = k refl
 
-  -- the head of a word that holds a seat
+  -- a look at a word that holds a seat finds a head, and so the call is held back
   look_held : (qs : List ℕ) (x : ℕ) (m : Mech S W) → m.setup.seats ≡ seats → qs ≡ queue_seats b.queue → (among_seats x qs ≡ true) → ((t : ℕ) → among_seats t qs ≡ true → t < seats) → ((t : ℕ) → t < 8 → b.records t ≡ record_in words t)
       → n' ≡ number_at (first_of qs) (record_in words) → Held (head_helped form (first_of qs) false m)
   look_held [] x m of' is in' below same number = absurd (true≢false (sym in'))
@@ -196,7 +197,7 @@ module _ {S W : Type 0} (form : NormalForm S W) (mech : Mech S W) (seats who : �
   step_held (phase.Value reference) x runs none in' below keeps looked wrote same facts h held = absurd (true≢false (sym held))
   step_held (phase.End reply) x runs none in' below keeps looked wrote same facts h held = absurd (true≢false (sym held))
 
--- the machine of another seat
+-- the machines of all other seats are held back as before, unless the head has left
 pub other_held : {S W : Type 0} (seats who : ℕ) (a b : Scene) (l : Later seats who a b) (n : ℕ) (p : Phase S W) → held_back a.queue a.records n p ≡ true → (held_back b.queue b.records n p ≡ true) ⊎ Dropped a b
 other_held seats who a b l n phase.Idle held = inl refl
 other_held seats who a b l n phase.Begin held = inl refl

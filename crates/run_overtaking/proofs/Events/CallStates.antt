@@ -1,4 +1,4 @@
--- What the events of a step make of the count of one call.
+-- What each part of the events of a step makes of the count of call k of seat x.
 use Rattle.std.proofs.Common.{◌≡◌, ◌∙◌, refl, sym, ap, subst, ℕ, ◌+◌, Bool, true, false, cond, if◌then◌else◌, List, [], ◌∷◌, inl, inr, ◌⊎◌, arith}
 use Rattle.std.specs.Prelude.{◌==◌, ◌&&◌, not}
 use Rattle.std.specs.List.{fold}
@@ -61,7 +61,7 @@ module _ (x k : ℕ) where
         ]
       ]
 
-  -- completions tell nothing of a call that apart published
+  -- completions leave a call that isn't published
   pub completed_none : (r r' : ℕ → ℕ) (seats : List ℕ) → fold (next x k) Unpublished (completed r r' seats) ≡ Unpublished
   completed_none r r' [] = refl
   completed_none r r' (t ∷ seats) =

@@ -1,4 +1,4 @@
--- Events among others, and events that may come one after another.
+-- Which events a step has, read off its lists of completions and publications, and when they may come one after another.
 use Rattle.std.proofs.Common.{◌≡◌, ◌≢◌, ◌∙◌, refl, sym, ap, subst, ℕ, zero, suc, ◌<◌, Bool, true, false, List, [], ◌∷◌, ◌++◌, append-nil, append_assoc, inl, inr, ◌⊎◌, arith}
 use Rattle.std.specs.Prelude.{Contains, AllPairs, ◌&&◌, ◌==◌, not, if◌then◌else◌}
 use Rattle.std.proofs.lemmas.Bool.{cases_Bool, cases_eq, and_parts, eq-eqb, ne_eqb, or_left, or_right, true≢false}
@@ -6,7 +6,7 @@ use Rattle.std.proofs.lemmas.List.Elements.{Contains-append_cases, Contains-appe
 use Rattle.lin_report.specs.declared.events.Event.{Event}
 use Rattle.word_fields.specs.Records.{record_phase, record_number}
 use Rattle.help_queue.specs.Gathers.{among_seats, holds, is_open}
-use Rattle.help_queue_laws.proofs.QueueWords.{not_both}
+use Rattle.help_queue_laws.proofs.Known.QueueWords.{not_both}
 use Rattle.overtaking_law.specs.Order.{publication, completion, IsOpen, MayFollow, AreOrdered}
 use Rattle.overtaking_law.proofs.Ordered.{are_ordered-push}
 use Rattle.run_overtaking.specs.Events.{published, completed}

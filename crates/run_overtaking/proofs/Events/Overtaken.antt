@@ -1,4 +1,4 @@
--- The count of one call, by the events of a step.
+-- The count of one call over the events of a step: it is what the seats have returned while the call waits.
 use Rattle.std.proofs.Common.{◌≡◌, ◌∙◌, refl, sym, ap, subst, ℕ, suc, ◌+◌, ◌<◌, ◌≤◌, Bool, true, false, cond, if◌then◌else◌, List, ◌++◌, inl, inr, arith}
 use Rattle.std.specs.Prelude.{◌==◌, ◌&&◌, not}
 use Rattle.std.specs.List.{fold}
@@ -19,7 +19,8 @@ use Rattle.run_overtaking.specs.Events.{published, completed, eight_seats, step_
 use Rattle.run_overtaking.proofs.Accounts.Sums.{fold_append, sum_grows, sum_zero}
 use Rattle.run_overtaking.proofs.Events.CallStates.{published_waits, published_none, completed_none, completed_waits, own_waits, own_none}
 
--- what the count of call k of x is
+-- what the state of call k of x says: while it waits its count is the sum of the other seats' returns, and once it is
+-- completed that count stays within the bound
 abbrev pub IsTracked : ℕ → List ℕ → Counts → ℕ → ℕ → State → Type 0
 IsTracked seats words counts x k Unpublished = Unit {0}
 IsTracked seats words counts x k (Waiting c) = Waits words x × (record_number (record_in words x) ≡ k) × (c ≡ overtakers seats x (counts.returned x))
@@ -28,7 +29,7 @@ IsTracked seats words counts x k (Completed c) = c ≤ most_overtaken seats
 abbrev tick : Bool → ℕ
 tick b = cond b 1 0
 
--- what a step leaves of the words of a call that waits, or enters
+-- what a step leaves in the words of a call that waits, or makes of one that enters
 pub record Steps (seats : ℕ) (words words' : List ℕ) (x : ℕ) : Type 0 where
   pub stays : Waits words x → is_open (record_phase (record_in words' x)) ≡ true → Waits words' x × (record_number (record_in words' x) ≡ record_number (record_in words x))
   pub enters' : holds (queue_in words) x ≡ false → holds (queue_in words') x ≡ true → Waits words' x

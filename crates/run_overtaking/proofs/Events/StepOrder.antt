@@ -12,9 +12,9 @@ use Rattle.word_fields.specs.Records.{record_phase, record_number}
 use Rattle.word_fields.specs.Seats.{queue_seats}
 use Rattle.normal_traits.specs.NormalForm.{NormalForm}
 use Rattle.help_queue.specs.Gathers.{among_seats, holds, is_open}
-use Rattle.help_queue_laws.proofs.Scenes.{Scene, IsOpen, IsClosed, IsDone, IsIn, IsOut, Later}
-use Rattle.help_queue_laws.proofs.QueueWords.{not_both, head_holds}
-use Rattle.help_queue_laws.proofs.LaterLemmas.{done_closed}
+use Rattle.help_queue_laws.proofs.Known.Scenes.{Scene, IsOpen, IsClosed, IsDone, IsIn, IsOut, Later}
+use Rattle.help_queue_laws.proofs.Known.QueueWords.{not_both, head_holds}
+use Rattle.help_queue_laws.proofs.Acts.LaterLemmas.{done_closed}
 use Rattle.fast_slow_engine.specs.declared.phases.Phase.{Phase}
 use Rattle.fast_slow_engine.specs.declared.phases.Phase.TheVariants as phase
 use Rattle.fast_slow_engine.specs.Mechs.{Mech}

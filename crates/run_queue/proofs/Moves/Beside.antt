@@ -13,11 +13,11 @@ use Rattle.op_record.specs.Progress.{IsEarlier}
 use Rattle.help_queue.specs.Gathers.{holds, leads, is_open}
 use Rattle.help_queue_laws.specs.declared.phases.Phase as queue
 use Rattle.help_queue_laws.specs.Ghosts.{Ghosts, announces}
-use Rattle.help_queue_laws.proofs.Scenes.{Scene, scene_of, IsOut, IsInOrDone, IsSound, Later}
-use Rattle.help_queue_laws.proofs.Knowledge.{IsMine, IsFree, IsHelped}
-use Rattle.help_queue_laws.proofs.QuietActs.{Quiet, quiet_later, quiet_sound}
-use Rattle.help_queue_laws.proofs.Frames.{Agrees}
-use Rattle.help_queue_laws.proofs.Results.{scene_after, besides, announced_stays, seat_same}
+use Rattle.help_queue_laws.proofs.Known.Scenes.{Scene, scene_of, IsOut, IsInOrDone, IsSound, Later}
+use Rattle.help_queue_laws.proofs.Known.Knowledge.{IsMine, IsFree, IsHelped}
+use Rattle.help_queue_laws.proofs.Acts.QuietActs.{Quiet, quiet_later, quiet_sound}
+use Rattle.help_queue_laws.proofs.Known.Frames.{Agrees}
+use Rattle.help_queue_laws.proofs.Steps.Results.{scene_after, besides, announced_stays, seat_same}
 use Rattle.fast_slow_engine.specs.Mechs.{Mech}
 use Rattle.run_queue.specs.Fits.{PhaseFits}
 use Rattle.run_queue.specs.Premises.{IsQueuePlace, LeavesQueue}

@@ -25,11 +25,11 @@ use Rattle.help_queue_laws.specs.declared.phases.Helping.TheVariants as at
 use Rattle.help_queue_laws.specs.Callers as callers
 use Rattle.help_queue_laws.specs.Callers.{Caller, number_of, caller_request, caller_fed}
 use Rattle.help_queue_laws.specs.Ghosts.{Ghosts}
-use Rattle.help_queue_laws.proofs.Scenes.{Scene, scene_of, IsSound, IsOut}
-use Rattle.help_queue_laws.proofs.Knowledge.{PhaseFacts}
-use Rattle.help_queue_laws.proofs.Results.{Moved}
-use Rattle.help_queue_laws.proofs.CallSteps.{value_moves, op_moves}
-use Rattle.help_queue_laws.proofs.CallerSteps.{caller_moves}
+use Rattle.help_queue_laws.proofs.Known.Scenes.{Scene, scene_of, IsSound, IsOut}
+use Rattle.help_queue_laws.proofs.Known.Knowledge.{PhaseFacts}
+use Rattle.help_queue_laws.proofs.Steps.Results.{Moved}
+use Rattle.help_queue_laws.proofs.Steps.CallSteps.{value_moves, op_moves}
+use Rattle.help_queue_laws.proofs.Steps.CallerSteps.{caller_moves}
 use Rattle.fast_slow_engine.specs.declared.phases.Phase.{Phase}
 use Rattle.fast_slow_engine.specs.declared.phases.Phase.TheVariants as phase
 use Rattle.fast_slow_engine.specs.declared.phases.Announcing.TheVariants as announcing

@@ -4,8 +4,8 @@ use Rattle.normal_traits.specs.NormalForm.{NormalForm}
 use Rattle.help_queue_laws.specs.declared.phases.Phase.TheVariants as in_queue
 use Rattle.help_queue_laws.specs.declared.phases.Helping.TheVariants.{Complete}
 use Rattle.help_queue_laws.specs.Ghosts.{Ghosts}
-use Rattle.help_queue_laws.proofs.Scenes.{scene_of, IsSound, IsOut}
-use Rattle.help_queue_laws.proofs.Knowledge.{PhaseFacts}
+use Rattle.help_queue_laws.proofs.Known.Scenes.{scene_of, IsSound, IsOut}
+use Rattle.help_queue_laws.proofs.Known.Knowledge.{PhaseFacts}
 use Rattle.fast_slow_engine.specs.declared.phases.Phase.{Phase}
 use Rattle.fast_slow_engine.specs.declared.phases.Phase.TheVariants.{Idle, Begin, Look, Generate, Apply, Wrap, Announce, Enter, Drive, Help, Collect, Value, End}
 use Rattle.fast_slow_engine.specs.declared.phases.Announcing.TheVariants as announcing

@@ -14,11 +14,11 @@ use Rattle.op_record.specs.Progress.{IsEarlier}
 use Rattle.help_queue.specs.Gathers.{is_open}
 use Rattle.help_queue_laws.specs.declared.phases.Phase as queue
 use Rattle.help_queue_laws.specs.Ghosts.{Ghosts, announces}
-use Rattle.help_queue_laws.proofs.Scenes.{Scene, scene_of, IsSound}
-use Rattle.help_queue_laws.proofs.Knowledge.{IsHelped}
-use Rattle.help_queue_laws.proofs.QueueWords.{not_both}
-use Rattle.help_queue_laws.proofs.RecordActs.{Rewrites, Advancing}
-use Rattle.help_queue_laws.proofs.Results.{scene_after, queue_stays, record_stays, op_stays, value_stays, besides, seat_word, won_word, announced_stays}
+use Rattle.help_queue_laws.proofs.Known.Scenes.{Scene, scene_of, IsSound}
+use Rattle.help_queue_laws.proofs.Known.Knowledge.{IsHelped}
+use Rattle.help_queue_laws.proofs.Known.QueueWords.{not_both}
+use Rattle.help_queue_laws.proofs.Acts.RecordActs.{Rewrites, Advancing}
+use Rattle.help_queue_laws.proofs.Steps.Results.{scene_after, queue_stays, record_stays, op_stays, value_stays, besides, seat_word, won_word, announced_stays}
 use Rattle.run_queue.specs.Fits.{GoesTo}
 use Rattle.run_queue.specs.Fits.GoesTo.{executes, settles, completes, restarts}
 use Rattle.run_queue.specs.Premises.{HasRounds}

@@ -23,8 +23,8 @@ use Rattle.cas_executor.specs.FastRuns.{FastWalk}
 use Rattle.help_queue.specs.Gathers.{among_seats, holds}
 use Rattle.help_queue.specs.Heads.{head_of}
 use Rattle.help_queue_laws.specs.Ghosts.{Ghosts}
-use Rattle.help_queue_laws.proofs.RunLemmas.{zero_phase, zero_seats}
-use Rattle.help_queue_laws.proofs.Scenes.{scene_of, IsOut}
+use Rattle.help_queue_laws.proofs.Runs.RunLemmas.{zero_phase, zero_seats}
+use Rattle.help_queue_laws.proofs.Known.Scenes.{scene_of, IsOut}
 use Rattle.fast_slow_engine.specs.declared.phases.Phase.{Phase}
 use Rattle.fast_slow_engine.specs.declared.phases.Phase.TheVariants.{Idle, Begin, Look, Generate, Apply, Wrap, Announce, Enter, Drive, Help, Collect, Value, End}
 use Rattle.fast_slow_engine.specs.declared.phases.Announcing.TheVariants as announcing

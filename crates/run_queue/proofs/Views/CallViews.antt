@@ -19,8 +19,8 @@ use Rattle.help_queue_laws.specs.declared.phases.Phase as queue
 use Rattle.help_queue_laws.specs.declared.phases.Phase.TheVariants as in_queue
 use Rattle.help_queue_laws.specs.declared.phases.Helping.TheVariants as at
 use Rattle.help_queue_laws.specs.Callers as callers
-use Rattle.help_queue_laws.proofs.Scenes.{Scene, IsOut}
-use Rattle.help_queue_laws.proofs.Knowledge.{IsFree, PhaseFacts}
+use Rattle.help_queue_laws.proofs.Known.Scenes.{Scene, IsOut}
+use Rattle.help_queue_laws.proofs.Known.Knowledge.{IsFree, PhaseFacts}
 use Rattle.fast_slow_engine.specs.declared.phases.Phase.TheVariants as phase
 use Rattle.fast_slow_engine.specs.declared.phases.Announcing.TheVariants as announcing
 use Rattle.fast_slow_engine.specs.declared.phases.Generating.{Generating}

@@ -22,7 +22,7 @@ use Rattle.cas_executor.specs.SlowRuns.{SlowWalk}
 use Rattle.cas_executor.specs.BlockReads.{ReadWalk}
 use Rattle.help_queue.specs.Gathers.{is_open}
 use Rattle.help_queue_laws.specs.declared.phases.Helping.TheVariants as at
-use Rattle.help_queue_laws.proofs.QueueWords.{not_both}
+use Rattle.help_queue_laws.proofs.Known.QueueWords.{not_both}
 use Rattle.fast_slow_engine.specs.declared.phases.Generating.{Generating}
 use Rattle.fast_slow_engine.specs.declared.phases.Generating.TheVariants.{Search, LookForBlock, Claim}
 use Rattle.fast_slow_engine.specs.declared.help.Work.{Work}

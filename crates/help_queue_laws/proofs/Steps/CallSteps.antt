@@ -17,14 +17,14 @@ use Rattle.help_queue_laws.specs.declared.phases.Phase.TheVariants.{Look, StoreV
 use Rattle.help_queue_laws.specs.Callers.{Caller, after_help, head_helped, fed_in}
 use Rattle.help_queue.specs.Heads.{first_of}
 use Rattle.help_queue_laws.specs.Ghosts.{Ghosts}
-use Rattle.help_queue_laws.proofs.Scenes.{Scene, scene_of, IsDone, IsOut, IsInOrDone, IsSound}
-use Rattle.help_queue_laws.proofs.Knowledge.{IsMine, IsFree, PhaseFacts}
-use Rattle.help_queue_laws.proofs.QuietActs.{Quiet, ends_same, quiet_later, quiet_sound}
-use Rattle.help_queue_laws.proofs.RecordActs.{Announcing, announcing_ends, announcing_sound, announcing_later, announcing_number, announcing_open}
-use Rattle.help_queue_laws.proofs.HelpSteps.{over_in}
-use Rattle.help_queue_laws.proofs.QueueWords.{not_both}
-use Rattle.help_queue_laws.proofs.LaterLemmas.{done_closed}
-use Rattle.help_queue_laws.proofs.Results.{Moved, scene_after, load_moves, stored_word, queue_stays, record_stays, op_stays, value_stays, besides, seat_word, announced_stays, announced_now, announced_others, late_now, lost_now}
+use Rattle.help_queue_laws.proofs.Known.Scenes.{Scene, scene_of, IsDone, IsOut, IsInOrDone, IsSound}
+use Rattle.help_queue_laws.proofs.Known.Knowledge.{IsMine, IsFree, PhaseFacts}
+use Rattle.help_queue_laws.proofs.Acts.QuietActs.{Quiet, ends_same, quiet_later, quiet_sound}
+use Rattle.help_queue_laws.proofs.Acts.RecordActs.{Announcing, announcing_ends, announcing_sound, announcing_later, announcing_number, announcing_open}
+use Rattle.help_queue_laws.proofs.Steps.HelpSteps.{over_in}
+use Rattle.help_queue_laws.proofs.Known.QueueWords.{not_both}
+use Rattle.help_queue_laws.proofs.Acts.LaterLemmas.{done_closed}
+use Rattle.help_queue_laws.proofs.Steps.Results.{Moved, scene_after, load_moves, stored_word, queue_stays, record_stays, op_stays, value_stays, besides, seat_word, announced_stays, announced_now, announced_others, late_now, lost_now}
 
 module _ (seats i made : ℕ) (inside : i < seats) (few : seats ≤ 8) (fewer : made < 65535) (words : List ℕ) (ghosts : Ghosts) (long : 32 ≤ length words) (sound : IsSound (scene_of words ghosts)) where
   abbrev was : Scene
