@@ -1,1 +1,2 @@
 pub mod ProvedLaws
+pub mod TreeShape

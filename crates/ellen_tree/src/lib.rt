@@ -5,6 +5,7 @@ pub use ellen_tree_laws::{Passed, TreeSearch};
 pub use tree::EllenTree;
 
 mod deciding;
+pub mod laws;
 pub mod offers;
 pub mod search;
 pub mod tree;
