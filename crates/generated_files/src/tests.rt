@@ -28,6 +28,37 @@ fn two_files_of_a_queue(rt: HostRuntime) {
 }
 
 #[test]
+fn two_files_of_a_tree_and_of_buckets(rt: HostRuntime) {
+    let Ok(trees) = generate(rt.alloc(), Client::Tree, 0, 2, 3) else {
+        panic!(rt; "no memory")
+    };
+    assert_eq!(rt;
+        trees[0].as_slice(),
+        [op(GET, 8, 0), op(REM, 45, 0), op(GET, 7, 0)].as_slice()
+    );
+    assert_eq!(rt;
+        trees[1].as_slice(),
+        [
+            op(SET, 15, 960_210),
+            op(SET, 61, 944_436),
+            op(SET, 9, 203_282)
+        ]
+        .as_slice()
+    );
+    let Ok(buckets) = generate(rt.alloc(), Client::Buckets, 42, 2, 3) else {
+        panic!(rt; "no memory")
+    };
+    assert_eq!(rt;
+        buckets[0].as_slice(),
+        [op(DEL, 18, 0), op(ADD, 22, 0), op(HAS, 22, 0)].as_slice()
+    );
+    assert_eq!(rt;
+        buckets[1].as_slice(),
+        [op(HAS, 8, 0), op(ADD, 50, 0), op(DEL, 2, 0)].as_slice()
+    );
+}
+
+#[test]
 fn one_file_of_a_list_and_of_a_tree(rt: HostRuntime) {
     let Ok(lists) = generate(rt.alloc(), Client::List, 42, 1, 3) else {
         panic!(rt; "no memory")
