@@ -282,6 +282,7 @@ fn apply<C: Normalized>(call: &mut Call, phase: &mut Phase<C::Search, C::Wrap>, 
 }
 
 /// A step of a call that goes on after it: each but the drawing of the end tick.
+#[inline(never)]
 pub fn go_on<C: Normalized>(call: &mut Call, phase: &mut Phase<C::Search, C::Wrap>, seen: Seen)
     requires call { IsCallOf C.form.client call.old }
     requires runs { rests phase.old ≡ false }

@@ -52,6 +52,7 @@ fn fill(call: &Call, stores: &Stores, made: u32) -> Request
 }
 
 /// The next request of a phase in which a call runs.
+#[inline(always)]
 #[tactic(auto, using(crate::proofs::Commands::code_fits, crate::proofs::Commands::key_fits))]
 pub fn request_of<C: Normalized>(call: &Call, phase: &Phase<C::Search, C::Wrap>) -> Request
     requires call { IsCallOf C.form.client call.now }
