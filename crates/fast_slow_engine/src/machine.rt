@@ -85,6 +85,7 @@ impl<C: Normalized> Machine<C> {
     }
 
     /// The next step of the call that runs.
+    #[inline(always)]
     pub fn request(&self) -> Request
         requires runs { rests self.now.phase ≡ false }
         ensures request { result ≡ mech_request C.form self.now }
@@ -105,6 +106,7 @@ impl<C: Normalized> Machine<C> {
 
     /// Takes what the step saw, also where no run would show it. The call returns exactly at the step that
     /// draws the end tick, and the seat is idle then.
+    #[inline(always)]
     pub fn feed(&mut self, seen: Seen) -> Turn
         requires runs { rests self.old.phase ≡ false }
         ensures machine { self.new ≡ mech_fed C.form self.old seen }

@@ -84,6 +84,7 @@ fn help_request<C: Normalized>(aid: &Aid<C::Search, C::Wrap>, stores: &Stores) -
 }
 
 /// The next request of a phase in which a call runs.
+#[inline(always)]
 #[tactic(auto, using(crate::proofs::Commands::code_fits, crate::proofs::Commands::key_fits))]
 pub fn request_of<C: Normalized>(call: &Call, room: &Room<C::Search, C::Wrap>) -> Request
     requires call { IsCallOf C.form.client call.now }

@@ -14,6 +14,7 @@ use normal_traits::Normalized;
 use step_memory::Seen;
 
 /// A step of a call that goes on after it: each but the drawing of the end tick.
+#[inline(never)]
 #[tactic(auto, using(crate::proofs::Ticks::runs_on))]
 pub fn go_on<C: Normalized>(call: &mut Call, room: &mut Room<C::Search, C::Wrap>, seen: Seen)
     requires call { IsCallOf C.form.client call.old }
