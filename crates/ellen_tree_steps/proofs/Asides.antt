@@ -19,6 +19,7 @@ use Rattle.ellen_tree_laws.proofs.Ways.{inner_same, inner_is, inner_block, leaf_
 use Rattle.ellen_tree_laws.proofs.Asks.{node_word}
 use Rattle.ellen_tree_laws.proofs.Later.{Later}
 use Rattle.ellen_tree_laws.proofs.Spares.{Spares}
+use Rattle.ellen_tree_steps.proofs.Told.{was_told_later}
 use Rattle.ellen_tree_steps.proofs.Lasting.{node_later, leaf_later, key_later, left_later, leaf_field_later, told_later}
 
 -- each node on a way is one
@@ -77,20 +78,11 @@ module _ (world after : World) (shape : Shape world) (l : Later world after) (s 
 
   -- ---- what a search has learnt
 
-  was_told_stays : (since key leaf : ℕ) → WasTold world since key leaf → WasTold after since key leaf
-  was_told_stays since key leaf t = record {
-    is = leaf_later world after shape l leaf t.is;
-    count = t.count;
-    not_before = t.not_before;
-    made = omega (arith, t.made, ap length changes);
-    told = ap (λ (cs : List Change). map.get (held_after map_object (first_changes t.count cs)) key) changes ∙ t.told ∙ sym (told_later world after shape l key leaf t.is);
-  }
-
   pub reaches_stays : (since key reference : ℕ) → Reaches world since key reference → Reaches after since key reference
   reaches_stays since key reference (on node e w) = on node e (on_way_stays key node w)
   reaches_stays since key reference (off node e is mark rest) =
       off node e (node_later world after shape l node is) (marked_stays node is mark) (subst (Reaches after since key) (sym (way_stays key node is)) (reaches_stays since key (way world.words key node) rest))
-  reaches_stays since key reference (told leaf t) = told leaf (was_told_stays since key reference t)
+  reaches_stays since key reference (told leaf t) = told leaf (was_told_later world after shape l since key reference t)
 
   -- ---- the order
 
