@@ -1,14 +1,12 @@
 -- What a search of the tree has learnt stays true whatever anyone does.
-use Rattle.std.proofs.Common.{◌≡◌, ℕ, suc, ◌-◌, ◌<◌, ◌≤◌, Bool, true, false, List, ◌∷◌, length, Option, refl, sym, ap, ◌∙◌, inl, inr, ◌⊎◌, arith}
-use Rattle.std.specs.Prelude.{◌==◌, if◌then◌else◌, drop, Some, None}
-use Rattle.std.specs.FinMap as map
+use Rattle.std.proofs.Common.{◌≡◌, ℕ, ◌<◌, ◌≤◌, Bool, true, false, length, Option, refl, sym, ap, ◌∙◌, inl, inr, arith}
+use Rattle.std.specs.Prelude.{◌==◌, if◌then◌else◌, Some, None}
 use Rattle.word_fields.specs.Versioned.{versioned_version}
 use Rattle.lin_report.specs.declared.calls.Op.{Op}
 use Rattle.lin_report.specs.declared.calls.Client.TheVariants as client
 use Rattle.lin_report.specs.declared.calls.Reply.TheVariants.{Yes}
 use Rattle.lin_report.specs.Commands.{IsCommandOf, KEY_LIMIT}
-use Rattle.lin_report.specs.Object.{map_object}
-use Rattle.normal_traits.specs.World.{Change, World, held_after, first_changes}
+use Rattle.normal_traits.specs.World.{World}
 use Rattle.normal_traits.specs.Steps.{with_word, IsStep}
 use Rattle.tree_help.specs.declared.states.TheConstants.{CLEAN, INSERTING, DELETING, MARKED}
 use Rattle.tree_help.specs.Updates.{state_of, inner}
@@ -18,7 +16,7 @@ use Rattle.ellen_tree_laws.specs.declared.states.Passed.{Passed}
 use Rattle.ellen_tree_laws.specs.Words.{is_internal, child_at, update_at, leaf_key_at, leaf_value_at, is_set}
 use Rattle.ellen_tree_laws.specs.Search.{leaf_of}
 use Rattle.ellen_tree_laws.specs.Shape.{Shape, is_node, is_left, flag_state}
-use Rattle.ellen_tree_laws.specs.Knowledge.{Knows, Learnt, Reaches, WasTold, IsKnown, HasPassed, CameFrom, IsAt, HasLeaf, SawUpdate}
+use Rattle.ellen_tree_laws.specs.Knowledge.{Knows, Learnt, Reaches, IsKnown, HasPassed, CameFrom, IsAt, HasLeaf, SawUpdate}
 use Rattle.ellen_tree_laws.specs.Form.{tree_form}
 use Rattle.ellen_tree_laws.proofs.Plain.{both_ops, marked_value}
 use Rattle.ellen_tree_laws.proofs.Owners.{up_value}
@@ -33,7 +31,7 @@ use Rattle.ellen_tree_laws.proofs.Spares.{Spares, spares}
 use Rattle.ellen_tree_laws.proofs.Kept.{follows_later}
 use Rattle.ellen_tree_steps.specs.Effects.{Links, Swings, Effect}
 use Rattle.ellen_tree_steps.specs.Effects.Effect.{quiet, sets, links, marks, swings, ends}
-use Rattle.ellen_tree_steps.proofs.Lasting.{node_later, leaf_later, key_later, left_later, leaf_field_later, told_later}
+use Rattle.ellen_tree_steps.proofs.Lasting.{node_later, key_later, left_later, leaf_field_later}
 use Rattle.ellen_tree_steps.proofs.Told.{length_later, was_told_later}
 use Rattle.ellen_tree_steps.proofs.Asides.{reaches_stays}
 use Rattle.ellen_tree_steps.proofs.KeptQuiet.{child_quiet}
