@@ -1,14 +1,12 @@
 -- What a search of the tree has learnt stays true whatever anyone does.
-use Rattle.std.proofs.Common.{◌≡◌, ℕ, suc, ◌-◌, ◌<◌, ◌≤◌, Bool, true, false, List, ◌∷◌, length, Option, refl, sym, ap, ◌∙◌, inl, inr, ◌⊎◌, arith}
-use Rattle.std.specs.Prelude.{◌==◌, if◌then◌else◌, drop, Some, None}
-use Rattle.std.specs.FinMap as map
+use Rattle.std.proofs.Common.{◌≡◌, ℕ, ◌<◌, ◌≤◌, Bool, true, false, length, Option, refl, sym, ap, ◌∙◌, inl, inr, arith}
+use Rattle.std.specs.Prelude.{◌==◌, if◌then◌else◌, Some, None}
 use Rattle.word_fields.specs.Versioned.{versioned_version}
 use Rattle.lin_report.specs.declared.calls.Op.{Op}
 use Rattle.lin_report.specs.declared.calls.Client.TheVariants as client
 use Rattle.lin_report.specs.declared.calls.Reply.TheVariants.{Yes}
 use Rattle.lin_report.specs.Commands.{IsCommandOf, KEY_LIMIT}
-use Rattle.lin_report.specs.Object.{map_object}
-use Rattle.normal_traits.specs.World.{Change, World, held_after, first_changes}
+use Rattle.normal_traits.specs.World.{World}
 use Rattle.normal_traits.specs.Steps.{with_word, IsStep}
 use Rattle.tree_help.specs.declared.states.TheConstants.{CLEAN, INSERTING, DELETING, MARKED}
 use Rattle.tree_help.specs.Updates.{state_of, inner}
@@ -18,7 +16,7 @@ use Rattle.ellen_tree_laws.specs.declared.states.Passed.{Passed}
 use Rattle.ellen_tree_laws.specs.Words.{is_internal, child_at, update_at, leaf_key_at, leaf_value_at, is_set}
 use Rattle.ellen_tree_laws.specs.Search.{leaf_of}
 use Rattle.ellen_tree_laws.specs.Shape.{Shape, is_node, is_left, flag_state}
-use Rattle.ellen_tree_laws.specs.Knowledge.{Knows, Learnt, Reaches, WasTold, IsKnown, HasPassed, CameFrom, IsAt, HasLeaf, SawUpdate}
+use Rattle.ellen_tree_laws.specs.Knowledge.{Knows, Learnt, Reaches, IsKnown, HasPassed, CameFrom, IsAt, HasLeaf, SawUpdate}
 use Rattle.ellen_tree_laws.specs.Form.{tree_form}
 use Rattle.ellen_tree_laws.proofs.Plain.{both_ops, marked_value}
 use Rattle.ellen_tree_laws.proofs.Owners.{up_value}
@@ -33,7 +31,8 @@ use Rattle.ellen_tree_laws.proofs.Spares.{Spares, spares}
 use Rattle.ellen_tree_laws.proofs.Kept.{follows_later}
 use Rattle.ellen_tree_steps.specs.Effects.{Links, Swings, Effect}
 use Rattle.ellen_tree_steps.specs.Effects.Effect.{quiet, sets, links, marks, swings, ends}
-use Rattle.ellen_tree_steps.proofs.Lasting.{node_later, leaf_later, key_later, left_later, leaf_field_later, told_later}
+use Rattle.ellen_tree_steps.proofs.Lasting.{node_later, key_later, left_later, leaf_field_later}
+use Rattle.ellen_tree_steps.proofs.Told.{length_later, was_told_later}
 use Rattle.ellen_tree_steps.proofs.Asides.{reaches_stays}
 use Rattle.ellen_tree_steps.proofs.KeptQuiet.{child_quiet}
 use Rattle.ellen_tree_steps.proofs.KeptSwing.{apart}
@@ -44,27 +43,6 @@ use Rattle.ellen_tree_steps.proofs.Waiting.{up_dirty}
 use Rattle.ellen_tree_steps.proofs.Steps.{effect_of}
 
 module _ (world after : World) (shape : Shape world) (l : Later world after) (s : Spares world after) where
-  -- ---- what a leaf told
-
-  first_later : (count : ℕ) → count ≤ length world.changes → (after.changes ≡ world.changes) ⊎ ((change : Change) × (after.changes ≡ change ∷ world.changes)) → first_changes count after.changes ≡ first_changes count world.changes
-  first_later count small (inl same) = ap (first_changes count) same
-  first_later count small (inr more) =
-      let one : length (more.0 ∷ world.changes) - count ≡ suc (length world.changes - count) = omega (arith, small) in
-      ap (first_changes count) more.1 ∙ ap (λ n. drop n (more.0 ∷ world.changes)) one
-
-  length_later : (after.changes ≡ world.changes) ⊎ ((change : Change) × (after.changes ≡ change ∷ world.changes)) → length world.changes ≤ length after.changes
-  length_later (inl same) = omega (arith, ap length same)
-  length_later (inr more) = omega (arith, ap length more.1)
-
-  was_told_later : (since key leaf : ℕ) → WasTold world since key leaf → WasTold after since key leaf
-  was_told_later since key leaf t = record {
-    is = leaf_later world after shape l leaf t.is;
-    count = t.count;
-    not_before = t.not_before;
-    made = omega (arith, t.made, length_later l.changes);
-    told = ap (λ (cs : List Change). map.get (held_after map_object cs) key) (first_later t.count t.made l.changes) ∙ t.told ∙ sym (told_later world after shape l key leaf t.is);
-  }
-
   -- ---- children
 
   beside_update : (x word : ℕ) → ((at : ℕ) → after.words at ≡ with_word (update_at x) word world.words at) → (node : ℕ) (left : Bool) → after.words (child_at node left) ≡ world.words (child_at node left)
@@ -153,7 +131,7 @@ module _ (world after : World) (shape : Shape world) (l : Later world after) (s 
       at_kept above node at = record { is = node_later world after shape l node at.is; reaches = reaches_kept effect (inner node) at.reaches; came = came_kept above node at.came }
 
       leaf_kept : (last : Passed) → HasLeaf world since key last → HasLeaf after since key last
-      leaf_kept last has = record { passed = passed_kept last has.passed; told = was_told_later since key (leaf_of last) has.told }
+      leaf_kept last has = record { passed = passed_kept last has.passed; told = was_told_later world after shape l since key (leaf_of last) has.told }
 
       saw_kept : (node update : ℕ) → is_node world.changes node ≡ true → SawUpdate world node update → SawUpdate after node update
       saw_kept node update is saw = record {
@@ -187,7 +165,7 @@ module _ (world after : World) (shape : Shape world) (l : Later world after) (s 
     learnt_kept (Helps help) k = (k.0, follows_later world after shape l s k.0 help k.1)
 
     knows_later : (search : TreeSearch) → Learnt search op world since → Knows search op after since
-    knows_later search k = record { began = omega (arith, began, length_later l.changes); learnt = learnt_kept search k }
+    knows_later search k = record { began = omega (arith, began, length_later world after shape l l.changes); learnt = learnt_kept search k }
 
 pub knows_kept : (world after : World) (search : TreeSearch) (op : Op) (since : ℕ) → IsCommandOf client.Tree op → Shape world → Knows search op world since → IsStep tree_form world after → Knows search op after since
 knows_kept world after search op since command shape knows step =

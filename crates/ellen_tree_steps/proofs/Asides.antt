@@ -1,5 +1,5 @@
 -- A step that exchanges no child leaves the order, the map and each key's way.
-use Rattle.std.proofs.Common.{◌≡◌, ℕ, ◌/◌, ◌%◌, ◌<◌, ◌≤◌, Bool, true, false, List, length, refl, sym, ap, subst, ◌∙◌, inl, inr, arith}
+use Rattle.std.proofs.Common.{◌≡◌, ℕ, ◌/◌, ◌%◌, ◌<◌, ◌≤◌, Bool, true, false, List, refl, sym, ap, subst, ◌∙◌, inl, inr, arith}
 use Rattle.std.specs.FinMap as map
 use Rattle.std.proofs.lemmas.Bool.{or_right}
 use Rattle.word_fields.specs.Versioned.{versioned_value}
@@ -7,19 +7,20 @@ use Rattle.word_fields.proofs.VersionedLemmas.{value-cleared}
 use Rattle.lin_report.specs.Commands.{KEY_LIMIT}
 use Rattle.lin_report.specs.Object.{map_object}
 use Rattle.node_arena.proofs.PlaceLemmas.{node_place-reference_to}
-use Rattle.normal_traits.specs.World.{Change, World, held_after, first_changes}
+use Rattle.normal_traits.specs.World.{Change, World, held_after}
 use Rattle.tree_help.specs.declared.states.TheConstants.{MARKED}
 use Rattle.tree_help.specs.Updates.{state_of, inner}
 use Rattle.ellen_tree_laws.specs.Words.{child_at, update_at, key_at, leaf_key_at, is_internal}
 use Rattle.ellen_tree_laws.specs.Shape.{Shape, Ordered, OnWay, is_node, made_node, child_of, is_left, way, told_by, keys, children, IsLeaf, IsNamed, IsBelow}
 use Rattle.ellen_tree_laws.specs.Shape.OnWay.{root, below}
-use Rattle.ellen_tree_laws.specs.Knowledge.{Reaches, WasTold}
+use Rattle.ellen_tree_laws.specs.Knowledge.{Reaches}
 use Rattle.ellen_tree_laws.specs.Knowledge.Reaches.{on, off, told}
 use Rattle.ellen_tree_laws.proofs.Ways.{inner_same, inner_is, inner_block, leaf_names}
 use Rattle.ellen_tree_laws.proofs.Asks.{node_word}
 use Rattle.ellen_tree_laws.proofs.Later.{Later}
 use Rattle.ellen_tree_laws.proofs.Spares.{Spares}
-use Rattle.ellen_tree_steps.proofs.Lasting.{node_later, leaf_later, key_later, left_later, leaf_field_later, told_later}
+use Rattle.ellen_tree_steps.proofs.Told.{was_told_later}
+use Rattle.ellen_tree_steps.proofs.Lasting.{node_later, key_later, left_later, leaf_field_later, told_later}
 
 -- each node on a way is one
 way_node : (world : World) → Shape world → (key node : ℕ) → OnWay world.words key node → is_node world.changes node ≡ true
@@ -77,20 +78,11 @@ module _ (world after : World) (shape : Shape world) (l : Later world after) (s 
 
   -- ---- what a search has learnt
 
-  was_told_stays : (since key leaf : ℕ) → WasTold world since key leaf → WasTold after since key leaf
-  was_told_stays since key leaf t = record {
-    is = leaf_later world after shape l leaf t.is;
-    count = t.count;
-    not_before = t.not_before;
-    made = omega (arith, t.made, ap length changes);
-    told = ap (λ (cs : List Change). map.get (held_after map_object (first_changes t.count cs)) key) changes ∙ t.told ∙ sym (told_later world after shape l key leaf t.is);
-  }
-
   pub reaches_stays : (since key reference : ℕ) → Reaches world since key reference → Reaches after since key reference
   reaches_stays since key reference (on node e w) = on node e (on_way_stays key node w)
   reaches_stays since key reference (off node e is mark rest) =
       off node e (node_later world after shape l node is) (marked_stays node is mark) (subst (Reaches after since key) (sym (way_stays key node is)) (reaches_stays since key (way world.words key node) rest))
-  reaches_stays since key reference (told leaf t) = told leaf (was_told_stays since key reference t)
+  reaches_stays since key reference (told leaf t) = told leaf (was_told_later world after shape l since key reference t)
 
   -- ---- the order
 

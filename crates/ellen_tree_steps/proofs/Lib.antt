@@ -1,6 +1,7 @@
 pub mod Exchanges
 pub mod Lasting
 pub mod Made
+pub mod Told
 pub mod Asides
 pub mod Stored
 pub mod Journals
