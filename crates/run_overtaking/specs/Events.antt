@@ -17,7 +17,7 @@ use Rattle.fast_slow_engine.specs.PhaseTable.{mech_event, mech_request}
 use Rattle.fast_slow_engine.specs.Runs.{Move, RunState, AreMoves, begun, run_of}
 use Rattle.overtaking_law.specs.Order.{publication, completion, AreOrdered}
 use Rattle.overtaking_law.specs.Overtaking.{overtaken, greatest_overtaken}
-use Rattle.run_queue.specs.Premises.{KeepsQueue}
+use Rattle.run_queue.specs.Premises.{ClientLeavesQueue, KeepsQueue}
 use Rattle.run_overtaking.specs.Accounts.{most_overtaken}
 
 -- the publications of the seats that a queue word has and an older one has not, in the order of the word
@@ -66,6 +66,10 @@ module _ {S W : Type 0} (form : NormalForm S W) where
   -- nor is the greatest count of all calls above it
   abbrev pub GreatestBounded : Type 0
   GreatestBounded = (setup : Setup) (moves : List Move) → AreMoves form setup moves → KeepsQueue form setup moves → greatest_overtaken (events_of setup moves) ≤ most_overtaken setup.seats
+
+  -- where no call is published, none is overtaken
+  abbrev pub NoneOvertaken : Type 0
+  NoneOvertaken = (setup : Setup) (moves : List Move) → setup.publishes ≡ false → AreMoves form setup moves → ClientLeavesQueue form setup moves → greatest_overtaken (events_of setup moves) ≡ 0
 
   -- each event may come behind those before it
   abbrev pub EventsOrdered : Type 0

@@ -1,5 +1,5 @@
 //! The events of every run: in which order they come, and how often they say that a call is overtaken.
-ghost use Rattle.run_overtaking.specs.Events.{OvertakenBounded, GreatestBounded, EventsOrdered, OwnEventsAgree};
+ghost use Rattle.run_overtaking.specs.Events.{OvertakenBounded, GreatestBounded, EventsOrdered, OwnEventsAgree, NoneOvertaken};
 
 use normal_traits::Normalized;
 
@@ -11,6 +11,11 @@ pub fn overtaken_bounded<C: Normalized>()
 /// So the greatest overtaking count of a run is at most that.
 pub fn greatest_bounded<C: Normalized>()
     ensures { GreatestBounded C.form }
+{}
+
+/// Where no call is published, none is overtaken.
+pub fn none_overtaken<C: Normalized>()
+    ensures { NoneOvertaken C.form }
 {}
 
 /// The events of a run are ordered: each comes once, a call completes behind its publication, and is published where no

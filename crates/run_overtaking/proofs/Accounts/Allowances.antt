@@ -138,7 +138,7 @@ half a b h = omega (arith, h)
 halved : (a b : ℕ) → a ≤ 2 * b → a / 2 ≤ b
 halved a b h = omega (arith, h)
 
--- the bound is below P (P - 1) from three seats on
+-- the bound is at most P (P - 1)
 pub bound_is_sharper : (seats : ℕ) → 1 ≤ seats → most_overtaken seats ≤ seats * (seats - 1)
 bound_is_sharper seats some =
     let n = seats - 1 in
