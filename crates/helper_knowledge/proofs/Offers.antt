@@ -1,6 +1,3 @@
--- The stores by which a helper fills its block: all into the block, each at a place of its own, and what they leave there.
-pub mod Into
-pub mod Places
-pub mod Apart
+-- A block that a helper has filled is filled for its list, and holds it.
 pub mod Filled
 pub mod Contents

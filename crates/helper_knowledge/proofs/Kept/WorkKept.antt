@@ -31,7 +31,7 @@ use Rattle.helper_knowledge.specs.Knowing.{KnowsOffer, KnowsSearch}
 use Rattle.helper_knowledge.specs.WorkKnown.{MayAdvance, IsNamed, IsSettled, NamedBy, KnowsWork}
 use Rattle.helper_knowledge.specs.WorkKnown.MayAdvance.{offers_it, answers, exhausts, settles, completes, restarts}
 use Rattle.move_kinds.proofs.OutcomesKept.{right_still, changed_still}
-use Rattle.helper_knowledge.proofs.Offers.Into.{offer_into}
+use Rattle.move_kinds.proofs.Stores.Into.{offer_into}
 use Rattle.word_fields.specs.declared.records.Phase.TheVariants as marks
 use Rattle.cas_executor.specs.declared.block_read.ReadStep.TheVariants as reads
 use Rattle.fast_slow_engine.specs.declared.help.Work.TheVariants as work

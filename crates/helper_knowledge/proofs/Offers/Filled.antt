@@ -14,8 +14,8 @@ use Rattle.move_kinds.proofs.BlockContents.{AllStand}
 use Rattle.helper_knowledge.specs.Callers.{Caller}
 use Rattle.helper_knowledge.specs.Knowing.{KnowsOffer}
 use Rattle.offered_blocks.specs.Holds.{FilledFor}
-use Rattle.helper_knowledge.proofs.Offers.Apart.{low_stores}
-use Rattle.helper_knowledge.proofs.Offers.Into.{Each}
+use Rattle.move_kinds.proofs.Stores.Apart.{low_stores}
+use Rattle.move_kinds.proofs.Stores.Into.{Each}
 
 each_right : {X : Type 0} (P : X → Type 0) (xs ys : List X) → Each P (xs ++ ys) → Each P ys
 each_right P [] ys each = each

@@ -14,7 +14,7 @@ use Rattle.offered_blocks.specs.Blocks.{Offer}
 use Rattle.helper_knowledge.specs.Carried.{list_named}
 use Rattle.helper_knowledge.specs.Callers.{Caller}
 use Rattle.helper_knowledge.specs.Knowing.{KnowsOffer, KnowsSearch}
-use Rattle.helper_knowledge.proofs.Offers.Places.{OwnPlaces}
+use Rattle.move_kinds.proofs.Stores.Places.{OwnPlaces}
 
 module _ {S W : Type 0} (form : NormalForm S W) (laws : Laws form) (world : World) (shape : form.shape world) (offers : ℕ → Option (Offer S)) (caller : Caller) (head word block : ℕ) where
   -- the list is named where the search is ready: no store is made yet

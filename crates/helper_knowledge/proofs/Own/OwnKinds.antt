@@ -22,8 +22,8 @@ use Rattle.offered_blocks.proofs.Others.Beside.{request_beside}
 use Rattle.offered_blocks.specs.OtherSteps.{IsSpare, IsStored}
 use Rattle.move_kinds.specs.Kinds.{Kind, UsesHand}
 use Rattle.move_kinds.specs.Kinds.Kind.{quiet, fills, beside}
-use Rattle.helper_knowledge.proofs.Offers.Apart.{HasField, low_fields, low_stores, stored_fields}
-use Rattle.helper_knowledge.proofs.Offers.Into.{Each, each_both}
+use Rattle.move_kinds.proofs.Stores.Apart.{HasField, low_fields, low_stores, stored_fields}
+use Rattle.move_kinds.proofs.Stores.Into.{Each, each_both}
 
 module _ {S W : Type 0} (form : NormalForm S W) (laws : Laws form) (world : World) (shape : form.shape world) (offers : ℕ → Option (Offer S)) (mover : ℕ) (hand : Option ℕ) where
   -- a request that asks well, and is an allowed step

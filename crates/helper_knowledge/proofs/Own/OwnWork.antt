@@ -28,8 +28,8 @@ use Rattle.helper_knowledge.specs.Callers.{Caller, HasAnnounced}
 use Rattle.helper_knowledge.specs.Knowing.{KnowsAnswer, KnowsOffer, KnowsSearch}
 use Rattle.helper_knowledge.specs.WorkKnown.{KnowsWork, NamedBy}
 use Rattle.helper_knowledge.specs.WorkKnown.MayAdvance.{offers_it, answers, exhausts}
-use Rattle.helper_knowledge.proofs.Offers.Apart.{offer_own}
-use Rattle.helper_knowledge.proofs.Offers.Places.{OwnPlaces}
+use Rattle.move_kinds.proofs.Stores.Apart.{offer_own}
+use Rattle.move_kinds.proofs.Stores.Places.{OwnPlaces}
 use Rattle.helper_knowledge.proofs.Own.OwnFill.{begins_fill, fills_on}
 use Rattle.helper_knowledge.proofs.Own.OwnSearch.{begins_search, reads_call, reads_op}
 use Rattle.word_fields.specs.declared.records.Phase.TheVariants as marks

@@ -3,7 +3,7 @@ use Rattle.std.proofs.Common.{◌≡◌, ◌≢◌, ◌∙◌, refl, sym, ap, �
 use Rattle.node_arena.specs.MemoryMap.{block_place}
 use Rattle.node_arena.proofs.PlaceLemmas.{same_field}
 use Rattle.cas_executor_laws.proofs.Sets.{some_same}
-use Rattle.helper_knowledge.proofs.Offers.Into.{Each, each_none, each_more, each_both}
+use Rattle.move_kinds.proofs.Stores.Into.{Each, each_none, each_more, each_both}
 
 -- stores of one place are one store
 abbrev pub OwnPlaces : List (ℕ × ℕ) → Type 0

@@ -15,8 +15,8 @@ use Rattle.normal_traits.specs.Laws.{IsGoodOffer, IsGoodStore}
 use Rattle.normal_traits.proofs.Stays.{all_at}
 use Rattle.fast_slow_engine.specs.OfferStores.{entry_stores, note_stores, offer_stores}
 use Rattle.offered_blocks.specs.OtherSteps.{IsStored}
-use Rattle.helper_knowledge.proofs.Offers.Into.{Each, each_none, each_more, each_both}
-use Rattle.helper_knowledge.proofs.Offers.Places.{IsBetween, OwnPlaces, other_field, own_both, own_more, own_none, row_between, row_own}
+use Rattle.move_kinds.proofs.Stores.Into.{Each, each_none, each_more, each_both}
+use Rattle.move_kinds.proofs.Stores.Places.{IsBetween, OwnPlaces, other_field, own_both, own_more, own_none, row_between, row_own}
 
 -- the store is into a field of the block that is of this kind
 pub record HasField (block : ℕ) (F : ℕ → Type 0) (store : ℕ × ℕ) : Type 0 where
