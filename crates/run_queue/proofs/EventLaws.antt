@@ -1,14 +1,15 @@
--- A seat enters the queue word once a call, and a call is completed once.
+-- A seat enters the queue word once with a call, and a call is completed once. Both follow from what stays true of a call once
+-- it has entered or is completed, through every step that `Later` allows.
 use Rattle.std.proofs.Common.{◌≡◌, refl, ap, sym, subst, ◌∙◌, ℕ, ◌<◌, true, List, [], ◌∷◌, ◌++◌, arith, inl, inr, ◌⊎◌}
 use Rattle.word_fields.specs.Records.{record_phase, record_number}
 use Rattle.normal_traits.specs.NormalForm.{NormalForm}
 use Rattle.help_queue.specs.Gathers.{holds, is_open}
 use Rattle.help_queue_laws.specs.Runs.{record_in}
-use Rattle.help_queue_laws.proofs.Scenes.{Scene, scene_of, IsOpen, IsDone, IsIn, IsOut, IsHead, Later}
-use Rattle.help_queue_laws.proofs.LaterLemmas.{done_closed}
-use Rattle.help_queue_laws.proofs.QueueWords.{not_both, head_holds}
-use Rattle.help_queue_laws.proofs.Results.{seat_word}
-use Rattle.help_queue_laws.proofs.SceneLaws.{open_generate}
+use Rattle.help_queue_laws.proofs.Known.Scenes.{Scene, scene_of, IsOpen, IsDone, IsIn, IsOut, IsHead, Later}
+use Rattle.help_queue_laws.proofs.Acts.LaterLemmas.{done_closed}
+use Rattle.help_queue_laws.proofs.Known.QueueWords.{not_both, head_holds}
+use Rattle.help_queue_laws.proofs.Steps.Results.{seat_word}
+use Rattle.help_queue_laws.proofs.Known.SceneLaws.{open_generate}
 use Rattle.fast_slow_engine.specs.declared.setup.Setup.{Setup}
 use Rattle.fast_slow_engine.specs.Runs.{Move, AreMoves, run_of}
 use Rattle.run_queue.specs.QueueGhosts.{queue_ghosts}
@@ -18,11 +19,11 @@ use Rattle.run_queue.proofs.Runs.RunMoves.{runs_queued, runs_later}
 use Rattle.run_queue.proofs.QueueLaws.{owners}
 
 -- call n of the seat has entered, or a later one was announced
-abbrev HasEntered : ℕ → ℕ → Scene → Type 0
+abbrev pub HasEntered : ℕ → ℕ → Scene → Type 0
 HasEntered t n a = (n < record_number (a.records t)) ⊎ ((record_number (a.records t) ≡ n) × (IsIn a t ⊎ IsDone a t))
 
 -- call n of the seat is completed, or a later one was announced
-abbrev HasCompleted : ℕ → ℕ → Scene → Type 0
+abbrev pub HasCompleted : ℕ → ℕ → Scene → Type 0
 HasCompleted t n a = (n < record_number (a.records t)) ⊎ ((record_number (a.records t) ≡ n) × IsDone a t)
 
 module _ (seats who t n : ℕ) (a b : Scene) (l : Later seats who a b) where
@@ -32,7 +33,7 @@ module _ (seats who t n : ℕ) (a b : Scene) (l : Later seats who a b) where
     | inr changed ↦ elim (changed.leaves t in') [ inl stays ↦ inl stays | inr gone ↦ inr (gone.0, changed.records t) ]
   ]
 
-  entered_later : HasEntered t n a → HasEntered t n b
+  pub entered_later : HasEntered t n a → HasEntered t n b
   entered_later h =
       elim (l.moves t) [
         | inl stays ↦ elim h [
@@ -60,7 +61,7 @@ module _ (seats who t n : ℕ) (a b : Scene) (l : Later seats who a b) where
         ]
       ]
 
-  completed_later : HasCompleted t n a → HasCompleted t n b
+  pub completed_later : HasCompleted t n a → HasCompleted t n b
   completed_later h =
       elim (l.moves t) [
         | inl stays ↦ elim h [
@@ -76,7 +77,7 @@ module _ (seats who t n : ℕ) (a b : Scene) (l : Later seats who a b) where
         ]
       ]
 
-  -- who enters has an open record
+  -- a seat that enters has an open record
   enters_open : IsOut a t → IsIn b t → IsOpen a t
   enters_open out in' = elim l.queue [ inl same ↦ absurd (not_both (subst (λ q. holds q t ≡ true) same in') out) | inr changed ↦ changed.enters t out in' ]
 

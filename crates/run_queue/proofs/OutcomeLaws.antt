@@ -19,10 +19,10 @@ use Rattle.help_queue.specs.Gathers.{among_seats, gather_over, holds, entered_wo
 use Rattle.help_queue.specs.Enters.{entering_in, enter_request_in, finishes, outcome_or_done}
 use Rattle.help_queue_laws.specs.Ghosts.{Ghosts}
 use Rattle.help_queue_laws.specs.Runs.{record_in}
-use Rattle.help_queue_laws.proofs.Scenes.{scene_of}
-use Rattle.help_queue_laws.proofs.Knowledge.{PhaseFacts}
-use Rattle.help_queue_laws.proofs.HelpSteps.{completed_phase}
-use Rattle.help_queue_laws.proofs.Results.{seat_word}
+use Rattle.help_queue_laws.proofs.Known.Scenes.{scene_of}
+use Rattle.help_queue_laws.proofs.Known.Knowledge.{PhaseFacts}
+use Rattle.help_queue_laws.proofs.Steps.HelpSteps.{completed_phase}
+use Rattle.help_queue_laws.proofs.Steps.Results.{seat_word}
 use Rattle.fast_slow_engine.specs.declared.phases.Phase.{Phase}
 use Rattle.fast_slow_engine.specs.declared.phases.Phase.TheVariants as phase
 use Rattle.fast_slow_engine.specs.Mechs.{Mech}

@@ -12,12 +12,12 @@ use Rattle.help_queue.specs.Gathers.{is_open}
 use Rattle.help_queue_laws.specs.declared.phases.Phase.TheVariants as in_queue
 use Rattle.help_queue_laws.specs.Ghosts.{Ghosts}
 use Rattle.help_queue_laws.specs.Runs.{record_in}
-use Rattle.help_queue_laws.proofs.Scenes.{Scene, scene_of, IsSince}
-use Rattle.help_queue_laws.proofs.Knowledge.{IsHelped, PhaseFacts}
-use Rattle.help_queue_laws.proofs.LaterLemmas.{since_later}
-use Rattle.help_queue_laws.proofs.SceneLaws.{record_is, members_in, belongs, helped, gather_known, gathered, removes, entry_known, by_second, loses_two}
-use Rattle.help_queue_laws.proofs.QueueWords.{not_both}
-use Rattle.help_queue_laws.proofs.Results.{seat_word}
+use Rattle.help_queue_laws.proofs.Known.Scenes.{Scene, scene_of, IsSince}
+use Rattle.help_queue_laws.proofs.Known.Knowledge.{IsHelped, PhaseFacts}
+use Rattle.help_queue_laws.proofs.Acts.LaterLemmas.{since_later}
+use Rattle.help_queue_laws.proofs.Known.SceneLaws.{record_is, members_in, belongs, helped, gather_known, gathered, removes, entry_known, by_second, loses_two}
+use Rattle.help_queue_laws.proofs.Known.QueueWords.{not_both}
+use Rattle.help_queue_laws.proofs.Steps.Results.{seat_word}
 use Rattle.fast_slow_engine.specs.declared.phases.Phase.{Phase}
 use Rattle.fast_slow_engine.specs.declared.phases.Phase.TheVariants as phase
 use Rattle.fast_slow_engine.specs.declared.phases.Announcing.TheVariants as announcing

@@ -1,4 +1,5 @@
--- Blocks in hand: each was claimed, and the exchange that names it takes it out.
+-- Blocks in hand: a claim puts one there, and the record exchange that names it takes it out. So no more are named than are
+-- claimed, and rounds are bounded by claims.
 use Rattle.std.specs.Prelude.{◌≡◌, ℕ, ◌+◌, ◌≤◌, ◌&&◌, nat_lt, Bool, true, false, List, [], ◌∷◌, slice_get, Option, Some, None}
 use Rattle.step_memory.specs.Step.{seen_of}
 use Rattle.word_fields.specs.Records.{record_phase}
@@ -32,16 +33,18 @@ claims_in (phase.Generate search Claim) = true
 claims_in (phase.Help drives help) = claims_helping help.at
 claims_in _ = false
 
+-- how many blocks this hand holds
 abbrev pub in_hand : Option ℕ → ℕ
 in_hand None = 0
 in_hand (Some block) = 1
 
--- how many blocks are in hand
+-- how many blocks all machines hold
 abbrev pub hands_of : {S W : Type 0} → List (Mech S W) → ℕ
 hands_of [] = 0
 hands_of (mech ∷ mechs) = in_hand mech.hand + hands_of mechs
 
--- a helper that fills a block or is about to name one has it in hand
+-- a helper that fills a block, or goes on to a record that names one, has one in hand: the premise with which the count of
+-- names and hands never grows without a claim
 abbrev pub WorkHand : {S W : Type 0} → Work S W → Option ℕ → Type 0
 WorkHand (work.Fill stores made) hand = 1 ≤ in_hand hand
 WorkHand (work.Advance to) hand = is_executing (record_phase to) ≡ true → 1 ≤ in_hand hand
@@ -56,12 +59,13 @@ PhaseHand (phase.Help drives help) hand = HelpingHand help.at hand
 PhaseHand _ hand = Unit {0}
 
 module _ {S W : Type 0} (form : NormalForm S W) where
+  -- whether the move claims a block, as 1 or 0; a counter at the end of the blocks gives none
   abbrev pub claimed_by : Option (Mech S W) → Move → RunState S W → ℕ
   claimed_by None move state = 0
   claimed_by (Some mech) move state =
       one_if (claims_in (begun move.begins mech).phase && nat_lt (seen_of (mech_request form (begun move.begins mech)) state.words).before (begun move.begins mech).setup.cap)
 
-  -- how many blocks were claimed
+  -- how many blocks were claimed by moves, the newest first
   abbrev pub blocks_claimed : Setup → List Move → ℕ
   blocks_claimed setup [] = 0
   blocks_claimed setup (move ∷ older) = let state = run_of form setup older in blocks_claimed setup older + claimed_by (slice_get state.mechs move.seat) move state

@@ -1,4 +1,5 @@
--- The laws of the help queue, of the words and the machines of every run.
+-- The laws of the help queue, of the words and the machines of every run. What a machine knows is said of the phase that its
+-- seat has in the queue.
 use Rattle.std.specs.Prelude.{◌≡◌, ℕ, ◌+◌, ◌<◌, true, false, List, ◌∷◌, ◌++◌, ◌⊎◌, slice_get, Option, Some, None}
 use Rattle.lin_report.specs.declared.calls.Outcome.{Outcome}
 use Rattle.step_memory.specs.declared.steps.Seen.{Seen}
@@ -34,26 +35,28 @@ use Rattle.run_queue.specs.QueueRuns.{EachSeat, EveryRun, queue_after}
 
 -- ---- members
 
+-- who is in the queue word, and where each machine is for that
 pub record HasMembers {S W : Type 0} (state : RunState S W) : Type 0 where
   pub queue : MembersIn state.words
   pub seats : EachSeat (λ seat mech. Belongs state.words seat (phase_view mech.phase)) state
 
 -- ---- entries
 
+-- an owner enters by its second exchange: when it makes one, and at any other time
 pub record HasEntries {S W : Type 0} (state : RunState S W) (ghosts : Ghosts) : Type 0 where
   pub exchanges : EachSeat (λ seat mech. (g : Gathering) → own_gather (phase_view mech.phase) ≡ Some g → gather_over g ≡ true → EntersBySecond state.words ghosts seat g) state
   pub losses : EachSeat (λ seat mech. LosesTwo ghosts seat (phase_view mech.phase)) state
 
 -- ---- owners
 
--- the call is published: its seat enters, drives it, or helps while it is driven
+-- the machine has announced its call, which isn't told yet: it enters, drives the call, or helps while it is driven
 abbrev pub Publishes : {S W : Type 0} → Phase S W → Type 0
 Publishes (Enter owner) = Unit {0}
 Publishes Drive = Unit {0}
 Publishes (Help drives help) = drives ≡ true
 Publishes _ = ⊥
 
--- an open record is that of the call which its seat makes
+-- an open record is that of the call which its seat makes and has announced
 abbrev pub OwnsRecord : {S W : Type 0} → List ℕ → ℕ → Mech S W → Type 0
 OwnsRecord words seat mech = is_open (record_phase (record_in words seat)) ≡ true → (record_number (record_in words seat) ≡ mech.number) × Publishes mech.phase
 
@@ -62,12 +65,13 @@ abbrev pub Collects : {S W : Type 0} → List ℕ → ℕ → Mech S W → Phase
 Collects words seat mech Collect = (record_phase (record_in words seat) ≡ Completed) × (record_number (record_in words seat) ≡ mech.number) × (holds (queue_in words) seat ≡ false)
 Collects words seat mech _ = Unit {0}
 
--- the outcome with which a step of the phase ends the call
+-- the outcome with which entering or collecting ends the call, if it does
 abbrev pub finished_with : Entering → Option Outcome
 finished_with entering_to.Running = None
 finished_with entering_to.Entered = None
 finished_with (entering_to.Finished outcome) = Some outcome
 
+-- the same by the phase, and by what its step saw
 abbrev pub outcome_in : {S W : Type 0} → Phase S W → Seen → Option Outcome
 outcome_in (Enter owner) seen = finished_with (entering owner seen)
 outcome_in Collect seen = Some (outcome_or_done seen.before)
@@ -81,9 +85,9 @@ pub record EndsCompleted {S W : Type 0} (words : List ℕ) (seat : ℕ) (mech : 
 
 -- ---- advances
 
--- what a record exchange from this word of the head's record shows where it wins
+-- what is shown by a record exchange that wins: a helper had loaded the record as this word
 pub record Wins {S W : Type 0} (state : RunState S W) (head word : ℕ) : Type 0 where
-  -- the record is the word that was loaded, and its seat is the head
+  -- the record is still that word, and its seat is the head
   pub stands : record_in state.words head ≡ word
   pub leads' : leads (queue_in state.words) head ≡ true
   -- its seat makes that call, and has published it
@@ -91,6 +95,7 @@ pub record Wins {S W : Type 0} (state : RunState S W) (head word : ℕ) : Type 0
   -- no other call is executed or wrapped up
   pub alone : (seat : ℕ) → seat < 8 → IsEngagedWord (record_in state.words seat) → seat ≡ head
 
+-- where the work is that exchange, and the record has the fields of the word, it shows this
 abbrev pub WorkAdvances : {S W : Type 0} → RunState S W → ℕ → ℕ → Work S W → Type 0
 WorkAdvances state head word (work.Advance to) = record_in state.words head ≡ packed_record (record_of word) → Wins state head word
 WorkAdvances state head word _ = Unit {0}
@@ -99,40 +104,47 @@ abbrev pub HelpingAdvances : {S W : Type 0} → RunState S W → ℕ → Helping
 HelpingAdvances state head (Known word does) = WorkAdvances state head word does
 HelpingAdvances state head _ = Unit {0}
 
--- so does that of every helper
+-- so does the exchange of every machine that helps
 abbrev pub Advances : {S W : Type 0} → RunState S W → Phase S W → Type 0
 Advances state (Help drives help) = HelpingAdvances state help.head help.at
 Advances state _ = Unit {0}
 
 -- ---- records
 
--- the record stayed or went on
+-- the record stayed, or went on to a later number, round or phase
 abbrev pub StaysOrGoesOn : ℕ → ℕ → Type 0
 StaysOrGoesOn word now = (word ≡ now) ⊎ IsEarlier (record_of word) (record_of now)
 
 module _ {S W : Type 0} (form : NormalForm S W) where
+  -- who is in the word, and which machines are outside
   abbrev pub MembersHold : Type 0
   MembersHold = EveryRun form (λ state ghosts. HasMembers state)
 
+  -- what a helper has loaded of its head
   abbrev pub HelpedHold : Type 0
   HelpedHold = EveryRun form (λ state ghosts. EachSeat (λ seat mech. IsHelped state.words (phase_view mech.phase)) state)
 
+  -- what a gather knows, while its word is still the queue word
   abbrev pub GathersHold : Type 0
   GathersHold = EveryRun form (λ state ghosts. EachSeat (λ seat mech. (g : Gathering) → gather_of (phase_view mech.phase) ≡ Some g → g.word ≡ queue_in state.words → HasGathered state.words ghosts seat g) state)
 
+  -- what a removal knows
   abbrev pub RemovalsHold : Type 0
   RemovalsHold = EveryRun form (λ state ghosts. EachSeat (λ seat mech. RemovesHead state.words (phase_view mech.phase)) state)
 
+  -- what an owner knows that enters
   abbrev pub EntriesHold : Type 0
   EntriesHold = EveryRun form HasEntries
 
+  -- whose an open record is, and what is collected
   abbrev pub OwnersHold : Type 0
   OwnersHold = EveryRun form (λ state ghosts. EachSeat (λ seat mech. OwnsRecord state.words seat mech × Collects state.words seat mech mech.phase) state)
 
-  -- so does each call of every run whose next step ends it at the queue
+  -- with which outcome a published call ends
   abbrev pub OutcomesHold : Type 0
   OutcomesHold = EveryRun form (λ state ghosts. EachSeat (λ seat mech. (outcome : Outcome) → outcome_in mech.phase (seen_of (mech_request form mech) state.words) ≡ Some outcome → EndsCompleted state.words seat mech outcome) state)
 
+  -- what a won exchange of a record shows
   abbrev pub AdvancesHold : Type 0
   AdvancesHold = EveryRun form (λ state ghosts. EachSeat (λ seat mech. Advances state mech.phase) state)
 
@@ -148,7 +160,7 @@ module _ {S W : Type 0} (form : NormalForm S W) where
       (setup : Setup) (newer older : List Move) → AreMoves form setup (newer ++ older) → KeepsQueue form setup (newer ++ older)
       → queue_version (queue_after form setup (newer ++ older)) ≡ queue_version (queue_after form setup older) → queue_after form setup (newer ++ older) ≡ queue_after form setup older
 
-  -- records only go on
+  -- a record stays or goes on, over any moves
   abbrev pub RecordsGoOn : Type 0
   RecordsGoOn =
       (setup : Setup) (newer older : List Move) (seat : ℕ) → seat < 8 → AreMoves form setup (newer ++ older) → KeepsQueue form setup (newer ++ older)

@@ -1,4 +1,5 @@
--- How often a record exchange of a run has named a block: so often can a call have restarted.
+-- How often a record exchange has named a block. A call restarts only behind a list that it named a block for, so its rounds
+-- are at most so many.
 use Rattle.std.specs.Prelude.{ℕ, ◌+◌, ◌<◌, ◌^◌, ◌&&◌, Bool, true, false, List, [], ◌∷◌, slice_get, Option, Some, None}
 use Rattle.step_memory.specs.declared.steps.Seen.{Seen}
 use Rattle.step_memory.specs.Step.{seen_of}
@@ -19,7 +20,7 @@ use Rattle.fast_slow_engine.specs.PhaseTable.{mech_request}
 use Rattle.fast_slow_engine.specs.Runs.{Move, RunState, AreMoves, begun, run_of}
 use Rattle.run_queue.specs.Premises.{ClientLeavesQueue, KeepsQueue}
 
--- the step is a record exchange that wins and names a block
+-- whether the step is a record exchange that wins and names a block
 abbrev pub names_work : {S W : Type 0} → Work S W → Seen → Bool
 names_work (work.Advance to) seen = seen.won && is_executing (record_phase to)
 names_work _ seen = false
@@ -32,11 +33,12 @@ abbrev pub names_in : {S W : Type 0} → Phase S W → Seen → Bool
 names_in (Help drives help) seen = names_helping help.at seen
 names_in _ seen = false
 
+-- a fact as a number, to be summed
 abbrev pub one_if : Bool → ℕ
 one_if true = 1
 one_if false = 0
 
--- the round of a record, with one for the block that it names
+-- the round of a record, and one more where it names a block: what a name raises by one, and nothing else does
 abbrev pub rounds_by : RecordPhase → ℕ → ℕ
 rounds_by Executing round = round + 1
 rounds_by Wrapping round = round + 1
@@ -46,11 +48,12 @@ abbrev pub rounds_in : ℕ → ℕ
 rounds_in word = rounds_by (record_phase word) (record_round word)
 
 module _ {S W : Type 0} (form : NormalForm S W) where
+  -- whether the move names a block, as 1 or 0
   abbrev pub named_by : Option (Mech S W) → Move → RunState S W → ℕ
   named_by None move state = 0
   named_by (Some mech) move state = one_if (names_in (begun move.begins mech).phase (seen_of (mech_request form (begun move.begins mech)) state.words))
 
-  -- how many blocks were named
+  -- how many blocks were named by moves, the newest first
   abbrev pub blocks_named : Setup → List Move → ℕ
   blocks_named setup [] = 0
   blocks_named setup (move ∷ older) = let state = run_of form setup older in blocks_named setup older + named_by (slice_get state.mechs move.seat) move state

@@ -1,4 +1,4 @@
--- In every run the blocks that were named and those in hand are at most those that were claimed.
+-- What the step of each phase does to the hand: names and hands together grow at most by what is claimed.
 use Rattle.std.proofs.Common.{◌≡◌, refl, ap, ℕ, ◌+◌, ◌≤◌, Bool, true, false, if◌then◌else◌, Option, Some, None, arith}
 use Rattle.std.specs.Prelude.{nat_lt, ◌&&◌, min}
 use Rattle.lin_report.specs.declared.calls.Reply.TheVariants as reply

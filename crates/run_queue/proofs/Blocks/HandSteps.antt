@@ -22,7 +22,7 @@ use Rattle.cas_executor.specs.declared.fast_run.Execution.{Execution}
 use Rattle.cas_executor.specs.declared.fast_run.Execution.TheVariants as execution
 use Rattle.cas_executor.specs.SlowRuns.{SlowWalk}
 use Rattle.cas_executor.specs.BlockReads.{ReadWalk}
-use Rattle.help_queue_laws.proofs.QueueWords.{not_both}
+use Rattle.help_queue_laws.proofs.Known.QueueWords.{not_both}
 use Rattle.fast_slow_engine.specs.declared.phases.Generating.TheVariants.{Search, LookForBlock, Claim}
 use Rattle.fast_slow_engine.specs.declared.help.Work.{Work}
 use Rattle.fast_slow_engine.specs.declared.help.Work.TheVariants as work

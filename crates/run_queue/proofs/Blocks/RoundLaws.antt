@@ -6,8 +6,8 @@ use Rattle.word_fields.specs.Fields.{field_of}
 use Rattle.word_fields.specs.Records.{record_phase, record_round}
 use Rattle.node_arena.specs.MemoryMap.{record_place}
 use Rattle.normal_traits.specs.NormalForm.{NormalForm}
-use Rattle.help_queue_laws.proofs.Scenes.{scene_of}
-use Rattle.help_queue_laws.proofs.RunLemmas.{same_some}
+use Rattle.help_queue_laws.proofs.Known.Scenes.{scene_of}
+use Rattle.help_queue_laws.proofs.Runs.RunLemmas.{same_some}
 use Rattle.fast_slow_engine.specs.declared.setup.Setup.{Setup}
 use Rattle.fast_slow_engine.specs.Mechs.{Mech}
 use Rattle.fast_slow_engine.specs.Runs.{Move, IsMove, AreMoves, CanMove, begun, moved_by, run_of}

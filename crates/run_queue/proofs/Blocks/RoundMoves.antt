@@ -1,4 +1,4 @@
--- In every run the rounds of a record are at most the blocks that were named.
+-- The step of each phase raises the rounds of a record by at most the blocks that it names.
 use Rattle.std.proofs.Common.{◌≡◌, refl, ℕ, ◌<◌, ◌≤◌, true, List, length, arith}
 use Rattle.step_memory.specs.declared.steps.Request.TheVariants.{Store, Add}
 use Rattle.step_memory.specs.Step.{seen_of}

@@ -1,4 +1,5 @@
--- Steps that leave the words of the queue.
+-- Steps that leave the words of the queue: they keep all that holds of the queue, and what the machine is left to show is what
+-- it knows itself.
 use Rattle.std.proofs.Common.{◌≡◌, ◌≢◌, ℕ, ◌<◌, ◌≤◌, false, List, length, refl, ap, sym, ◌∙◌, subst, arith, inl, inr, ◌⊎◌}
 use Rattle.std.specs.Prelude.{slice_index}
 use Rattle.step_memory.specs.declared.steps.Request.{Request}
@@ -12,18 +13,18 @@ use Rattle.op_record.specs.Progress.{IsEarlier}
 use Rattle.help_queue.specs.Gathers.{holds, leads, is_open}
 use Rattle.help_queue_laws.specs.declared.phases.Phase as queue
 use Rattle.help_queue_laws.specs.Ghosts.{Ghosts, announces}
-use Rattle.help_queue_laws.proofs.Scenes.{Scene, scene_of, IsOut, IsInOrDone, IsSound, Later}
-use Rattle.help_queue_laws.proofs.Knowledge.{IsMine, IsFree, IsHelped}
-use Rattle.help_queue_laws.proofs.QuietActs.{Quiet, quiet_later, quiet_sound}
-use Rattle.help_queue_laws.proofs.Frames.{Agrees}
-use Rattle.help_queue_laws.proofs.Results.{scene_after, besides, announced_stays, seat_same}
+use Rattle.help_queue_laws.proofs.Known.Scenes.{Scene, scene_of, IsOut, IsInOrDone, IsSound, Later}
+use Rattle.help_queue_laws.proofs.Known.Knowledge.{IsMine, IsFree, IsHelped}
+use Rattle.help_queue_laws.proofs.Acts.QuietActs.{Quiet, quiet_later, quiet_sound}
+use Rattle.help_queue_laws.proofs.Known.Frames.{Agrees}
+use Rattle.help_queue_laws.proofs.Steps.Results.{scene_after, besides, announced_stays, seat_same}
 use Rattle.fast_slow_engine.specs.Mechs.{Mech}
 use Rattle.run_queue.specs.Fits.{PhaseFits}
 use Rattle.run_queue.specs.Premises.{IsQueuePlace, LeavesQueue}
 use Rattle.run_queue.proofs.Views.CallViews.{KnowsQueue}
 
 -- what is to be shown of a step of a machine: the scene stays sound, others keep what they know, and the machine
--- knows its part and fits its words
+-- knows its part and fits its record
 pub record Goes {S W : Type 0} (seats i : ℕ) (words : List ℕ) (ghosts : Ghosts) (at : queue.Phase) (request : Request) (new : Seen → Mech S W) : Type 0 where
   pub sound : IsSound (scene_after i words ghosts at request)
   pub later : Later seats i (scene_of words ghosts) (scene_after i words ghosts at request)
@@ -41,7 +42,7 @@ leaves_same request words same place is = ap (λ l. slice_index l place) same
 pub leaves_load : (at : ℕ) (words : List ℕ) → LeavesQueue (Load at) words
 leaves_load at words = leaves_same (Load at) words (load_keeps at words)
 
--- a place behind the first words, and the two counters
+-- requests at a place behind the first words, and at the two counters
 pub leaves_behind : (request : Request) (words : List ℕ) → 32 ≤ place_of request → LeavesQueue request words
 leaves_behind request words behind =
     leaves_elsewhere request words (λ place is same. elim is [

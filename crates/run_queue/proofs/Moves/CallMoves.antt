@@ -25,11 +25,11 @@ use Rattle.help_queue_laws.specs.declared.phases.Helping.TheVariants as at
 use Rattle.help_queue_laws.specs.Callers as callers
 use Rattle.help_queue_laws.specs.Callers.{Caller, number_of, caller_request, caller_fed}
 use Rattle.help_queue_laws.specs.Ghosts.{Ghosts}
-use Rattle.help_queue_laws.proofs.Scenes.{Scene, scene_of, IsSound, IsOut}
-use Rattle.help_queue_laws.proofs.Knowledge.{PhaseFacts}
-use Rattle.help_queue_laws.proofs.Results.{Moved}
-use Rattle.help_queue_laws.proofs.CallSteps.{value_moves, op_moves}
-use Rattle.help_queue_laws.proofs.CallerSteps.{caller_moves}
+use Rattle.help_queue_laws.proofs.Known.Scenes.{Scene, scene_of, IsSound, IsOut}
+use Rattle.help_queue_laws.proofs.Known.Knowledge.{PhaseFacts}
+use Rattle.help_queue_laws.proofs.Steps.Results.{Moved}
+use Rattle.help_queue_laws.proofs.Steps.CallSteps.{value_moves, op_moves}
+use Rattle.help_queue_laws.proofs.Steps.CallerSteps.{caller_moves}
 use Rattle.fast_slow_engine.specs.declared.phases.Phase.{Phase}
 use Rattle.fast_slow_engine.specs.declared.phases.Phase.TheVariants as phase
 use Rattle.fast_slow_engine.specs.declared.phases.Announcing.TheVariants as announcing
@@ -68,7 +68,7 @@ module _ {S W : Type 0} (form : NormalForm S W) (mech : Mech S W) (words : List 
   facts_made : (at : queue.Phase) → Facts at → PhaseFacts was seats i (made + 1) at
   facts_made at h = subst (λ n. PhaseFacts was seats i n at) number h
 
-  -- the step of the seat in the queue
+  -- the step of its seat in the world of the queue
   by_caller : (at : queue.Phase) → Facts at → Moved seats i words ghosts at (caller_request (caller_at at)) (caller_fed (caller_at at))
   by_caller at h = caller_moves seats i inside few words ghosts long sound (caller_at at) (omega (arith, some, most)) (record { seat = refl; seats' = refl; knows = facts_made at h })
 

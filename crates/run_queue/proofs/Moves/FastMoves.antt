@@ -11,9 +11,9 @@ use Rattle.cas_executor.specs.FastRuns.{FastWalk}
 use Rattle.arrayvec.specs.ArrayVec.{ArrayVec}
 use Rattle.help_queue_laws.specs.declared.phases.Phase.TheVariants as in_queue
 use Rattle.help_queue_laws.specs.Ghosts.{Ghosts}
-use Rattle.help_queue_laws.proofs.Scenes.{scene_of, IsOut, IsSound}
-use Rattle.help_queue_laws.proofs.Knowledge.{IsFree}
-use Rattle.help_queue_laws.proofs.QueueWords.{not_both}
+use Rattle.help_queue_laws.proofs.Known.Scenes.{scene_of, IsOut, IsSound}
+use Rattle.help_queue_laws.proofs.Known.Knowledge.{IsFree}
+use Rattle.help_queue_laws.proofs.Known.QueueWords.{not_both}
 use Rattle.fast_slow_engine.specs.declared.phases.Phase.{Phase}
 use Rattle.fast_slow_engine.specs.declared.phases.Phase.TheVariants.{Begin, Generate, Apply, Wrap, Value, End}
 use Rattle.fast_slow_engine.specs.declared.phases.Generating.{Generating}
@@ -48,7 +48,7 @@ module _ {S W : Type 0} (form : NormalForm S W) (mech : Mech S W) (words : List 
   abbrev pub Leaves : Phase S W → Type 0
   Leaves phase = LeavesQueue (request_in form phase mech) words
 
-  -- where it is the client's, it does
+  -- it does where it is the client's: the premise on the move
   abbrev pub TheirsLeave : Phase S W → Type 0
   TheirsLeave phase = is_for_client phase ≡ true → Leaves phase
 

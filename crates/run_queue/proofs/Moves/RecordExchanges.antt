@@ -1,4 +1,5 @@
--- An exchange of a head's record by a helper is an advance of the queue: it goes from the word that was loaded.
+-- An exchange of a head's record by a helper is an advance in the world of the queue: it goes from the record that was loaded
+-- to a later one of the same call.
 use Rattle.std.proofs.Common.{◌≡◌, ℕ, ◌+◌, ◌%◌, ◌<◌, ◌≤◌, ◌^◌, true, false, List, length, refl, ap, sym, ◌∙◌, subst, arith, inl, inr, ◌⊎◌}
 use Rattle.std.specs.Prelude.{slice_index}
 use Rattle.step_memory.specs.declared.steps.Request.{Request}
@@ -13,11 +14,11 @@ use Rattle.op_record.specs.Progress.{IsEarlier}
 use Rattle.help_queue.specs.Gathers.{is_open}
 use Rattle.help_queue_laws.specs.declared.phases.Phase as queue
 use Rattle.help_queue_laws.specs.Ghosts.{Ghosts, announces}
-use Rattle.help_queue_laws.proofs.Scenes.{Scene, scene_of, IsSound}
-use Rattle.help_queue_laws.proofs.Knowledge.{IsHelped}
-use Rattle.help_queue_laws.proofs.QueueWords.{not_both}
-use Rattle.help_queue_laws.proofs.RecordActs.{Rewrites, Advancing}
-use Rattle.help_queue_laws.proofs.Results.{scene_after, queue_stays, record_stays, op_stays, value_stays, besides, seat_word, won_word, announced_stays}
+use Rattle.help_queue_laws.proofs.Known.Scenes.{Scene, scene_of, IsSound}
+use Rattle.help_queue_laws.proofs.Known.Knowledge.{IsHelped}
+use Rattle.help_queue_laws.proofs.Known.QueueWords.{not_both}
+use Rattle.help_queue_laws.proofs.Acts.RecordActs.{Rewrites, Advancing}
+use Rattle.help_queue_laws.proofs.Steps.Results.{scene_after, queue_stays, record_stays, op_stays, value_stays, besides, seat_word, won_word, announced_stays}
 use Rattle.run_queue.specs.Fits.{GoesTo}
 use Rattle.run_queue.specs.Fits.GoesTo.{executes, settles, completes, restarts}
 use Rattle.run_queue.specs.Premises.{HasRounds}
@@ -93,7 +94,7 @@ module _ (seats i : ℕ) (words : List ℕ) (ghosts : Ghosts) (at : queue.Phase)
     values = λ t. value_stays seats i words ghosts at long request t (λ f. λ e. omega (arith, few, e));
   }
 
-  -- where it wins from the word of a head that was loaded
+  -- where it wins from the record that was loaded of a head
   pub advances : GoesTo word to → announces at ≡ false → HasRounds words → IsSound was → IsHelped was s word → slice_index words (record_place s) ≡ packed_record (record_of word) → Advancing i s was now
   advances goes none rounds sound helped same =
       let here : was.records s ≡ packed_record (record_of word) = seat_word s _ few ∙ same in

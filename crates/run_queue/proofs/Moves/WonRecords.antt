@@ -11,8 +11,8 @@ use Rattle.op_record.specs.Progress.{IsEarlier}
 use Rattle.op_record.proofs.ProgressLemmas.{earlier_irreflexive}
 use Rattle.help_queue.specs.Gathers.{is_first, is_open}
 use Rattle.help_queue_laws.specs.declared.phases.Phase.{Phase}
-use Rattle.help_queue_laws.proofs.Scenes.{Scene, IsHead, IsSound}
-use Rattle.help_queue_laws.proofs.Knowledge.{IsHelped, PhaseFacts}
+use Rattle.help_queue_laws.proofs.Known.Scenes.{Scene, IsHead, IsSound}
+use Rattle.help_queue_laws.proofs.Known.Knowledge.{IsHelped, PhaseFacts}
 use Rattle.run_queue.proofs.Moves.Owners.{Publishes, open_owner}
 
 pub one_first : (s t : ℕ) (seats : List ℕ) → is_first s seats ≡ true → is_first t seats ≡ true → s ≡ t

@@ -1,4 +1,4 @@
--- The steps of a helper behind its look at the head.
+-- The steps of a helper behind its look at the head: all but the exchange of the record leave the words of the queue.
 use Rattle.std.proofs.Common.{◌≡◌, ℕ, ◌+◌, ◌<◌, ◌≤◌, Bool, true, false, if◌then◌else◌, List, length, refl, ap, ◌∙◌, arith, inl, inr, ◌⊎◌, Option, Some, None, set}
 use Rattle.std.specs.Prelude.{◌==◌, slice_index, slice_get}
 use Rattle.std.proofs.lemmas.Bool.{cases_Bool, cases_eq, cond-false, ne_eqb}
@@ -21,11 +21,11 @@ use Rattle.help_queue_laws.specs.declared.phases.Helping.TheVariants as at
 use Rattle.help_queue_laws.specs.declared.phases.Phase as queue
 use Rattle.help_queue_laws.specs.declared.phases.Phase.TheVariants as in_queue
 use Rattle.help_queue_laws.specs.Ghosts.{Ghosts}
-use Rattle.help_queue_laws.proofs.Scenes.{Scene, scene_of, IsSound}
-use Rattle.help_queue_laws.proofs.Knowledge.{IsHelped, BackFacts}
-use Rattle.help_queue_laws.proofs.RecordActs.{advancing_sound, advancing_later}
-use Rattle.help_queue_laws.proofs.WonSteps.{advances_head}
-use Rattle.help_queue_laws.proofs.Results.{scene_after}
+use Rattle.help_queue_laws.proofs.Known.Scenes.{Scene, scene_of, IsSound}
+use Rattle.help_queue_laws.proofs.Known.Knowledge.{IsHelped, BackFacts}
+use Rattle.help_queue_laws.proofs.Acts.RecordActs.{advancing_sound, advancing_later}
+use Rattle.help_queue_laws.proofs.Steps.WonSteps.{advances_head}
+use Rattle.help_queue_laws.proofs.Steps.Results.{scene_after}
 use Rattle.fast_slow_engine.specs.declared.phases.Phase.TheVariants as phase
 use Rattle.fast_slow_engine.specs.declared.phases.Generating.{Generating}
 use Rattle.fast_slow_engine.specs.declared.phases.Generating.TheVariants.{Search, LookForBlock, Claim}

@@ -1,4 +1,4 @@
--- Where no call is published, a call stays with its seat, and its requests leave the words of the queue.
+-- Where no call is published, a call stays in the phases that are its own, and their requests leave the words of the queue.
 use Rattle.std.proofs.Common.{◌≡◌, refl, ap, ◌∙◌, ℕ, ◌+◌, Bool, true, false, if◌then◌else◌, List, Option, None, inl, inr, arith}
 use Rattle.std.specs.Prelude.{nat_lt, ◌&&◌, ◌||◌, not, min}
 use Rattle.std.proofs.lemmas.Bool.{cond-true}
@@ -23,8 +23,8 @@ use Rattle.cas_executor.specs.FastRuns.{FastWalk}
 use Rattle.help_queue.specs.Gathers.{among_seats, holds}
 use Rattle.help_queue.specs.Heads.{head_of}
 use Rattle.help_queue_laws.specs.Ghosts.{Ghosts}
-use Rattle.help_queue_laws.proofs.RunLemmas.{zero_phase, zero_seats}
-use Rattle.help_queue_laws.proofs.Scenes.{scene_of, IsOut}
+use Rattle.help_queue_laws.proofs.Runs.RunLemmas.{zero_phase, zero_seats}
+use Rattle.help_queue_laws.proofs.Known.Scenes.{scene_of, IsOut}
 use Rattle.fast_slow_engine.specs.declared.phases.Phase.{Phase}
 use Rattle.fast_slow_engine.specs.declared.phases.Phase.TheVariants.{Idle, Begin, Look, Generate, Apply, Wrap, Announce, Enter, Drive, Help, Collect, Value, End}
 use Rattle.fast_slow_engine.specs.declared.phases.Announcing.TheVariants as announcing

@@ -11,11 +11,11 @@ use Rattle.node_arena.specs.Opening.{opening_word, opening_words, tree_word}
 use Rattle.node_arena.proofs.OpeningLemmas.{opening_each, length-opening_words}
 use Rattle.help_queue.specs.Gathers.{is_open}
 use Rattle.help_queue_laws.specs.Ghosts.{no_ghosts}
-use Rattle.help_queue_laws.proofs.Scenes.{scene_of, IsSound}
-use Rattle.help_queue_laws.proofs.Knowledge.{IsFree}
-use Rattle.help_queue_laws.proofs.Frames.{Agrees, frames_sound}
-use Rattle.help_queue_laws.proofs.Results.{seat_word}
-use Rattle.help_queue_laws.proofs.RunLemmas.{zeros, zero_phase, zero_number, opening_sound}
+use Rattle.help_queue_laws.proofs.Known.Scenes.{scene_of, IsSound}
+use Rattle.help_queue_laws.proofs.Known.Knowledge.{IsFree}
+use Rattle.help_queue_laws.proofs.Known.Frames.{Agrees, frames_sound}
+use Rattle.help_queue_laws.proofs.Steps.Results.{seat_word}
+use Rattle.help_queue_laws.proofs.Runs.RunLemmas.{zeros, zero_phase, zero_number, opening_sound}
 use Rattle.run_queue.specs.Alone.{IsUnused}
 use Rattle.run_queue.specs.Premises.{IsQueuePlace}
 

@@ -9,10 +9,10 @@ use Rattle.step_memory.specs.Step.{seen_of}
 use Rattle.step_memory.proofs.Words.{length-words_after}
 use Rattle.normal_traits.specs.NormalForm.{NormalForm}
 use Rattle.help_queue_laws.specs.Ghosts.{Ghosts, no_ghosts}
-use Rattle.help_queue_laws.proofs.Scenes.{Scene, scene_of, IsSound, Later}
-use Rattle.help_queue_laws.proofs.OtherLemmas.{phase_later}
-use Rattle.help_queue_laws.proofs.Results.{scene_after}
-use Rattle.help_queue_laws.proofs.RunLemmas.{at_set, beside_set, same_some}
+use Rattle.help_queue_laws.proofs.Known.Scenes.{Scene, scene_of, IsSound, Later}
+use Rattle.help_queue_laws.proofs.Acts.OtherLemmas.{phase_later}
+use Rattle.help_queue_laws.proofs.Steps.Results.{scene_after}
+use Rattle.help_queue_laws.proofs.Runs.RunLemmas.{at_set, beside_set, same_some}
 use Rattle.fast_slow_engine.specs.declared.setup.Setup.{Setup}
 use Rattle.fast_slow_engine.specs.declared.phases.Phase.{Phase}
 use Rattle.fast_slow_engine.specs.declared.phases.Phase.TheVariants.{Idle, Begin, Look, Generate, Apply, Wrap, Announce, Enter, Drive, Help, Collect, Value, End}
@@ -33,7 +33,8 @@ use Rattle.run_queue.proofs.Runs.Alone.{unused_out, unused_rounds, alone_fed, al
 use Rattle.run_queue.proofs.Runs.Openings.{opens_sound, opens_free, opens_long, opens_unused}
 
 module _ {S W : Type 0} where
-  -- the machine of a seat, whose call is the one of its number and fits an op word
+  -- the machine of a seat: it has that seat and the setup of the run, a call that runs has a number and a code that fit an op
+  -- word, and what its phase says by itself. Where no call is published it is alone
   pub record IsSeatOf (setup : Setup) (i : ℕ) (mech : Mech S W) : Type 0 where
     pub seat : mech.seat ≡ i
     pub setup' : mech.setup ≡ setup
@@ -42,7 +43,7 @@ module _ {S W : Type 0} where
     pub fits : PhaseFits setup.seats mech.phase
     pub alone : setup.publishes ≡ false → is_alone mech.phase ≡ true
 
-  -- what holds of a state with its ghosts
+  -- what holds of the state of every run, with its ghosts: the invariant of the main induction
   pub record IsQueued (setup : Setup) (state : RunState S W) (ghosts : Ghosts) : Type 0 where
     pub long : 32 ≤ length state.words
     pub count : length state.mechs ≡ setup.seats
@@ -66,7 +67,7 @@ module _ {S W : Type 0} where
   resting (Value reference) free = absurd cc
   resting (End reply) free = absurd cc
 
-  -- the machine that makes the move: it runs, and knows the same
+  -- the machine that makes the move, with the call that it begins: it runs, and knows of the queue what it knew before
   pub record Mover (setup : Setup) (i : ℕ) (a : Scene) (mech : Mech S W) : Type 0 where
     pub runs : rests mech.phase ≡ false
     pub is : IsSeatOf setup i mech

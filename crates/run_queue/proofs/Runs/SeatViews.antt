@@ -1,8 +1,8 @@
 -- In every run each machine, as a seat of the world of the queue, knows what that seat knows.
 use Rattle.std.proofs.Common.{◌≡◌, refl, ap, subst, ℕ, ◌+◌, ◌-◌, ◌≤◌, false, List, slice_get, Some, arith}
 use Rattle.normal_traits.specs.NormalForm.{NormalForm}
-use Rattle.help_queue_laws.proofs.Scenes.{scene_of, IsSound}
-use Rattle.help_queue_laws.proofs.Knowledge.{PhaseFacts, IsCallerOf}
+use Rattle.help_queue_laws.proofs.Known.Scenes.{scene_of, IsSound}
+use Rattle.help_queue_laws.proofs.Known.Knowledge.{PhaseFacts, IsCallerOf}
 use Rattle.fast_slow_engine.specs.declared.setup.Setup.{Setup}
 use Rattle.fast_slow_engine.specs.declared.phases.Phase.{Phase}
 use Rattle.fast_slow_engine.specs.declared.phases.Phase.TheVariants.{Idle, Begin, Look, Generate, Apply, Wrap, Announce, Enter, Drive, Help, Collect, Value, End}

@@ -1,4 +1,4 @@
--- How the queue sees what a machine becomes: its phase and its number there, and that its help fits the record.
+-- How the queue sees what a machine becomes: its phase and its number there, and that what it says by itself stays so.
 use Rattle.std.proofs.Common.{◌≡◌, refl, ℕ, ◌+◌, Bool, true, false, if◌then◌else◌, List, length, Option, Some, None, ◌⊎◌, inl, inr, sym, subst, arith}
 use Rattle.std.specs.Prelude.{nat_lt, ◌&&◌, ◌==◌, min}
 use Rattle.lin_report.specs.declared.calls.Reply.TheVariants as reply
@@ -19,8 +19,8 @@ use Rattle.help_queue_laws.specs.declared.phases.Phase as queue
 use Rattle.help_queue_laws.specs.declared.phases.Phase.TheVariants as in_queue
 use Rattle.help_queue_laws.specs.declared.phases.Helping.TheVariants as at
 use Rattle.help_queue_laws.specs.Callers as callers
-use Rattle.help_queue_laws.proofs.Scenes.{Scene, IsOut}
-use Rattle.help_queue_laws.proofs.Knowledge.{IsFree, PhaseFacts}
+use Rattle.help_queue_laws.proofs.Known.Scenes.{Scene, IsOut}
+use Rattle.help_queue_laws.proofs.Known.Knowledge.{IsFree, PhaseFacts}
 use Rattle.fast_slow_engine.specs.declared.phases.Phase.TheVariants as phase
 use Rattle.fast_slow_engine.specs.declared.phases.Announcing.TheVariants as announcing
 use Rattle.fast_slow_engine.specs.declared.phases.Generating.{Generating}
@@ -36,13 +36,13 @@ use Rattle.run_queue.specs.QueueViews.{phase_view, next_number}
 use Rattle.run_queue.specs.Fits.{PhaseFits, TellsCall}
 
 module _ {S W : Type 0} where
-  -- the machine is the queue's seat in this phase, with this number next
+  -- the machine is a seat of the queue in this phase, with this number for its next announcement
   pub record Views (seats : ℕ) (mech : Mech S W) (n : ℕ) (at : queue.Phase) : Type 0 where
     pub phase' : phase_view mech.phase ≡ at
     pub number : next_number mech.phase mech.number ≡ n
     pub fits : PhaseFits seats mech.phase
 
-  -- what a seat of the queue knows in the phase of its machine
+  -- what the machine knows of the queue: what a seat there knows in its phase
   abbrev pub KnowsQueue : Scene → ℕ → ℕ → Mech S W → Type 0
   KnowsQueue a seats i mech = PhaseFacts a seats i (next_number mech.phase mech.number) (phase_view mech.phase)
 
@@ -92,6 +92,7 @@ module _ {S W : Type 0} where
 
     -- ---- the fast path: on it goes, or its call is told
 
+    -- what a step of the fast path leads to
     abbrev pub FastNext : ℕ → ℕ → Mech S W → Type 0
     FastNext seats n new = Views seats new n in_queue.StoreValue ⊎ Views seats new (n + 1) in_queue.Look
 

@@ -26,6 +26,7 @@ use Rattle.run_queue.proofs.Views.CallViews.{Views, views_helped, views_if}
 use Rattle.run_queue.proofs.Views.WorkViews.{Works, works_on}
 
 module _ {S W : Type 0} (form : NormalForm S W) (seats head n : ℕ) (drives : Bool) where
+  -- the help of this head, at this point
   abbrev pub helper : Helping S W → Help S W
   helper at' = record { head = head; seats = seats; at = at' }
 

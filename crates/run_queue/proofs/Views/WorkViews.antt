@@ -1,5 +1,5 @@
--- Work behind the look at the head stays work on the record that was loaded, with a word that fits it, or the
--- record is loaded anew.
+-- Work behind the look at the head stays work on the record that was loaded, which fits it, or the record is loaded anew. It
+-- never ends helping by itself: only another record or another head does, or the removal.
 use Rattle.std.proofs.Common.{◌≡◌, refl, ap, ℕ, ◌+◌, ◌==◌, Bool, true, false, if◌then◌else◌, List, length, Option, Some, None, inl, inr}
 use Rattle.std.specs.Prelude.{nat_lt}
 use Rattle.arrayvec.specs.ArrayVec.{ArrayVec}
@@ -22,7 +22,7 @@ use Rattle.cas_executor.specs.SlowRuns.{SlowWalk}
 use Rattle.cas_executor.specs.BlockReads.{ReadWalk}
 use Rattle.help_queue.specs.Gathers.{is_open}
 use Rattle.help_queue_laws.specs.declared.phases.Helping.TheVariants as at
-use Rattle.help_queue_laws.proofs.QueueWords.{not_both}
+use Rattle.help_queue_laws.proofs.Known.QueueWords.{not_both}
 use Rattle.fast_slow_engine.specs.declared.phases.Generating.{Generating}
 use Rattle.fast_slow_engine.specs.declared.phases.Generating.TheVariants.{Search, LookForBlock, Claim}
 use Rattle.fast_slow_engine.specs.declared.help.Work.{Work}
@@ -47,7 +47,7 @@ wrapping_is : (word : ℕ) → IsEngagedWord word → is_executing (record_phase
 wrapping_is word h none = elim h [ inl executing ↦ absurd (not_both (ap is_executing executing) none) | inr wrapping ↦ wrapping ]
 
 module _ {S W : Type 0} where
-  -- work on the record behind the look, with a word that fits
+  -- work behind the look, on a record that fits it
   pub record Works (word : ℕ) (does : Work S W) : Type 0 where
     pub view : work_view does word ≡ at.Complete word
     pub fits : WorkFits word does
@@ -56,7 +56,7 @@ module _ {S W : Type 0} where
   works_if word true x y h k = h refl
   works_if word false x y h k = k refl
 
-  -- the look at the head is behind
+  -- the work is behind the look at the head
   abbrev pub IsBehind : Work S W → Type 0
   IsBehind work.Head = ⊥
   IsBehind _ = Unit {0}
@@ -124,7 +124,7 @@ module _ {S W : Type 0} where
     works_on (work.Execute run) head hand cap seen h = works_executed _ _ h
     works_on (work.Wrap wrap) head hand cap seen h = works_wrapped _ _ h
 
-    -- ---- it never ends helping
+    -- ---- it doesn't end helping
 
     again_goes : (b : Bool) → is_over form (again_if form b) ≡ false
     again_goes true = refl

@@ -1,0 +1,25 @@
+//! The events of every run: in which order they come, and how often they say that a call is overtaken.
+ghost use Rattle.run_overtaking.specs.Events.{OvertakenBounded, GreatestBounded, EventsOrdered, OwnEventsAgree};
+
+use normal_traits::Normalized;
+
+/// No call of a run is overtaken more often than (P - 1) (P + 2) / 2 times, where P is the number of seats.
+pub fn overtaken_bounded<C: Normalized>()
+    ensures { OvertakenBounded C.form }
+{}
+
+/// So the greatest overtaking count of a run is at most that.
+pub fn greatest_bounded<C: Normalized>()
+    ensures { GreatestBounded C.form }
+{}
+
+/// The events of a run are ordered: each comes once, a call completes behind its publication, and is published where no
+/// other call of its seat is open.
+pub fn events_ordered<C: Normalized>()
+    ensures { EventsOrdered C.form }
+{}
+
+/// Those of the machines among them are the events of the run, in the same order.
+pub fn own_events_agree<C: Normalized>()
+    ensures { OwnEventsAgree C.form }
+{}
