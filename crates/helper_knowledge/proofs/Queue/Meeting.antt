@@ -8,8 +8,8 @@ use Rattle.node_arena.specs.MemoryMap.{record_place}
 use Rattle.help_queue.specs.Gathers.{is_open}
 use Rattle.normal_traits.specs.World.{Called, Listed, World}
 use Rattle.normal_traits.specs.NormalForm.{NormalForm}
-use Rattle.help_queue_laws.proofs.Scenes.{Scene, IsSound}
-use Rattle.help_queue_laws.proofs.Knowledge.{IsHelped, PhaseFacts}
+use Rattle.help_queue_laws.proofs.Known.Scenes.{Scene, IsSound}
+use Rattle.help_queue_laws.proofs.Known.Knowledge.{IsHelped, PhaseFacts}
 use Rattle.fast_slow_engine.specs.declared.phases.Phase.{Phase}
 use Rattle.fast_slow_engine.specs.declared.phases.Phase.TheVariants as phase
 use Rattle.offered_blocks.specs.Blocks.{Offer, IsExecuting}
