@@ -1,5 +1,4 @@
 //! Machines over one memory, and steps of them by hand.
-ghost use Rattle.std.specs.Prelude.{◌≡◌, ◌≤◌, IfSome, length};
 ghost use Rattle.node_arena.specs.Opening.{IsLaidOut};
 
 use crate::rows::Row;
