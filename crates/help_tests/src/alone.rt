@@ -10,7 +10,7 @@ use crate::words::{
 };
 use fast_slow_engine::{Setup, Turn};
 use harris_list::HarrisList;
-use lin_report::{Client, Reply};
+use lin_report::{Client, Path, Reply};
 use ms_queue::MsQueue;
 
 /// One seat, whose calls are published at once.
@@ -101,4 +101,23 @@ fn add_and_del_go_through_each_phase(rt: HostRuntime) {
     assert_eq!(rt; play.walk(0, last.as_slice()), Ok(Turn::Going));
     let deleted = Turn::Returned(slow_line(0, 2, DEL_5, Reply::Yes, 2, 3));
     assert_eq!(rt; play.walk(0, [Add(0, 3)].as_slice()), Ok(deleted));
+}
+
+#[test]
+fn a_call_is_on_its_slow_path_once_its_record_is_stored(rt: HostRuntime) {
+    let Some(mut play) = Play::<MsQueue>::new(rt.alloc(), Client::Queue, ALONE) else {
+        panic!(rt; "no memory")
+    };
+    assert!(rt; play.begin(0, PUT_7));
+    for path in [
+        None,
+        Some(Path::Fast),
+        Some(Path::Fast),
+        Some(Path::Fast),
+        Some(Path::Fast),
+        Some(Path::Slow),
+    ] {
+        assert_eq!(rt; play.path(0), path);
+        play.step(0);
+    }
 }

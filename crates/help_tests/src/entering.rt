@@ -1,8 +1,9 @@
-//! Eight announced seats that one exchange of the queue word enters.
-use crate::calls::{ONE_TAKE, slow_line};
+//! Announced seats that an exchange of the queue word enters, whoever makes it.
+use crate::calls::{ONE_TAKE, PUT_7, PUT_8, slow_line};
 use crate::play::Play;
+use crate::queue_rows::HELP_PUT;
 use crate::rows::Row::{Load, Wins};
-use crate::words::{DONE_1, GENERATE_1, QUEUE_OF_EIGHT};
+use crate::words::{DONE_1, GENERATE_1, QUEUE_1, QUEUE_OF_EIGHT};
 use fast_slow_engine::{Setup, Turn};
 use lin_report::calls::PUT;
 use lin_report::{Client, Op, Receipt, Reply};
@@ -15,6 +16,17 @@ const EIGHT: Setup = Setup {
     limit: 0,
     publishes: true,
 };
+
+/// Three.
+const THREE: Setup = Setup {
+    seats: 3,
+    cap: 8,
+    limit: 0,
+    publishes: true,
+};
+
+/// The queue word with seat 2 alone in version 2.
+const THIRD_ALONE: u64 = (2 << 32) + 3;
 
 /// The step after which a call's record is stored.
 const ANNOUNCED: u32 = 5;
@@ -75,4 +87,36 @@ fn one_exchange_enters_all_eight_seats(rt: HostRuntime) {
     }
     assert_eq!(rt; play.word(1), Some(11 << 32));
     assert_eq!(rt; play.word(2), Some(9));
+}
+
+#[test]
+fn a_removal_enters_whom_it_finds(rt: HostRuntime) {
+    let Some(mut play) = Play::<MsQueue>::new(rt.alloc(), Client::Queue, THREE) else {
+        panic!(rt; "no memory")
+    };
+    // seat 2 has looked at the empty queue word, and announces its call while seat 1 helps
+    assert!(rt; play.begin(2, PUT_8) && play.begin(0, PUT_7) && play.begin(1, ONE_TAKE));
+    play.steps(2, 2);
+    play.steps(0, 10);
+    play.steps(1, 2);
+    assert_eq!(rt; play.walk(1, HELP_PUT.as_slice()), Ok(Turn::Going));
+    play.steps(2, ANNOUNCED - 2);
+    let removes = [
+        Load(13, 0),
+        Load(14, GENERATE_1),
+        Wins(1, QUEUE_1, THIRD_ALONE),
+    ];
+    assert_eq!(rt; play.walk(1, removes.as_slice()), Ok(Turn::Going));
+    let enters = [
+        Load(1, THIRD_ALONE),
+        Load(1, THIRD_ALONE),
+        Load(14, GENERATE_1),
+    ];
+    assert_eq!(rt; play.walk(2, enters.as_slice()), Ok(Turn::Going));
+    let take = slow_line(1, 1, ONE_TAKE, Reply::Value(7), 2, 3);
+    assert_eq!(rt; play.finish(1), Some(take));
+    let eight = slow_line(2, 1, PUT_8, Reply::Done, 0, 4);
+    assert_eq!(rt; play.finish(2), Some(eight));
+    let seven = slow_line(0, 1, PUT_7, Reply::Done, 1, 5);
+    assert_eq!(rt; play.finish(0), Some(seven));
 }

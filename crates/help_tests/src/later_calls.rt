@@ -27,6 +27,15 @@ const PUT_2: u64 = 1 + (2 << 4);
 /// The value word of `put 9` as call 2.
 const NINE_2: u64 = 2 + (9 << 16);
 
+/// The record of call 2, done.
+const DONE_2: u64 = 4 + (2 << 3) + (2 << 36);
+
+/// The step after which the helper has completed the call and has loaded its record once more.
+const COMPLETES: u32 = 47;
+
+/// The step after which the owner's next call, which nobody else helps, is completed and still in the queue word.
+const COMPLETED: u32 = 54;
+
 /// The helper's own call begins, so it has left off helping.
 const LEAVES: Row = Store(25, 1);
 
@@ -67,6 +76,17 @@ fn a_helper_leaves_off_where_it_meets_a_later_call(rt: HostRuntime) {
             5,
             5,
             [Load(24, NINE_2), Load(12, GENERATE_2), LEAVES].as_slice(),
+        ),
+        // the removal finds the owner at the head with its next call
+        (
+            COMPLETES,
+            ENTERED,
+            [Load(1, QUEUE_3), Load(12, GENERATE_2), LEAVES].as_slice(),
+        ),
+        (
+            COMPLETES,
+            COMPLETED,
+            [Load(1, QUEUE_3), Load(12, DONE_2), LEAVES].as_slice(),
         ),
     ] {
         let Some(mut play) = Play::<MsQueue>::new(rt.alloc(), Client::Queue, TWO) else {

@@ -1,11 +1,10 @@
 //! Machines over one memory, and steps of them by hand.
-ghost use Rattle.std.specs.Prelude.{◌≡◌, ◌≤◌, IfSome, length};
 ghost use Rattle.node_arena.specs.Opening.{IsLaidOut};
 
 use crate::rows::Row;
 use fast_slow_engine::{Machine, Setup, Turn};
 use lin_report::commands::is_command;
-use lin_report::{Client, Op, Receipt};
+use lin_report::{Client, Op, Path, Receipt};
 use node_arena::opening_words;
 use normal_traits::Normalized;
 use std::alloc::Global;
@@ -127,6 +126,12 @@ impl<C: Normalized> Play<C> {
             return None;
         }
         Some(machine.request())
+    }
+
+    /// The path of the call of a seat that runs, once its begin tick is drawn.
+    pub fn path(&self, seat: u32) -> Option<Path> {
+        let machine = self.machines.get(seat as usize)?;
+        Some(machine.pending()?.path)
     }
 
     /// The word at a place.

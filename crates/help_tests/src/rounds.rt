@@ -6,9 +6,7 @@ use crate::calls::{ADD_5, DEL_5, HAS_5, ONE_TAKE, PUT_7, PUT_8, PUT_9, PUT_GREAT
 use crate::play::Play;
 use crate::queue_rows::{PUT_1, SEVEN_1};
 use crate::rows::Row::{self, Add, Load, Loses, Store, Wins};
-use crate::words::{
-    BIT, EXECUTING_1, GENERATE_1, NODE_OF_1, NODE_OF_2, NODE_OF_3, NODE_OF_4, QUEUE_1,
-};
+use crate::words::{BIT, EXECUTING_1, NODE_OF_1, NODE_OF_2, NODE_OF_3, NODE_OF_4, QUEUE_1};
 use fast_slow_engine::{Setup, Turn};
 use harris_list::HarrisList;
 use lin_report::Path::{Fast, Slow};
