@@ -1,5 +1,5 @@
 -- The laws, from the lemmas on what helpers know.
-use Rattle.std.proofs.Common.{◌≡◌, refl, ℕ, Option, Some, None}
+use Rattle.std.proofs.Common.{◌≡◌, refl, ℕ, Some, None}
 use Rattle.normal_traits.specs.NormalForm.{NormalForm}
 use Rattle.normal_traits.specs.Laws.{Laws}
 use Rattle.helper_knowledge.specs.KnowledgeLaws as law

@@ -1,19 +1,13 @@
 -- The lists that took effect stay owned, whatever a move does.
-use Rattle.std.proofs.Common.{◌≡◌, ◌≢◌, ◌∙◌, refl, sym, subst, ap, ℕ, ◌+◌, ◌<◌, ◌%◌, ◌^◌, ◌⊎◌, inl, inr, ◌∷◌, Option, Some, None, arith}
+use Rattle.std.proofs.Common.{◌≡◌, ◌≢◌, ◌∙◌, sym, subst, ap, ℕ, ◌<◌, inl, inr, Option, Some, None, arith}
 use Rattle.std.proofs.lemmas.Bool.{cases_eq}
-use Rattle.step_memory.specs.declared.steps.Seen.{Seen}
-use Rattle.lin_report.specs.declared.calls.Outcome.{Outcome}
-use Rattle.word_fields.specs.declared.records.Phase.{Phase}
 use Rattle.word_fields.specs.declared.records.Phase.TheVariants.{Generate, Executing, Wrapping}
 use Rattle.word_fields.specs.declared.records.RecordWord.{RecordWord}
-use Rattle.word_fields.specs.Payloads.{payload_block, wrapping_payload}
-use Rattle.word_fields.specs.Records.{record_number, record_of, record_payload, record_phase, record_round, number_below, round_below}
-use Rattle.word_fields.proofs.PayloadLemmas.{block-wrapping, wrapping_below}
-use Rattle.word_fields.proofs.RecordLemmas.{number-word, payload-word, phase-word, record_of-packed}
+use Rattle.word_fields.specs.Payloads.{payload_block}
+use Rattle.word_fields.specs.Records.{record_number, record_of, record_payload, record_phase}
+use Rattle.word_fields.proofs.RecordLemmas.{record_of-packed}
 use Rattle.node_arena.specs.MemoryMap.{record_place}
-use Rattle.help_queue.specs.Gathers.{is_open}
-use Rattle.normal_traits.specs.World.{Among, Change, Listed, Took, Won, World, is_word}
-use Rattle.normal_traits.specs.World.Maker.{By}
+use Rattle.normal_traits.specs.World.{Among, Change, Listed, World}
 use Rattle.normal_traits.specs.NormalForm.{NormalForm}
 use Rattle.normal_traits.specs.Laws.{Laws}
 use Rattle.normal_traits.specs.Steps.{put_word}
@@ -21,11 +15,10 @@ use Rattle.normal_traits.proofs.Stays.{word_beside, word_put}
 use Rattle.offered_blocks.specs.Blocks.{Offer, record_for}
 use Rattle.offered_blocks.specs.Holds.{HasOffers}
 use Rattle.offered_blocks.proofs.Blocks.Named.{some_offer}
-use Rattle.fast_slow_engine.specs.HelpWords.{named_block, wrapping_word}
+use Rattle.fast_slow_engine.specs.HelpWords.{named_block}
 use Rattle.move_kinds.specs.Kinds.{IsUnannounced, IsWon}
 use Rattle.move_kinds.specs.Moves.{Leaves}
-use Rattle.move_kinds.specs.Offering.{IsOfferFor, StopsAt}
-use Rattle.move_kinds.specs.Owned.{AllOwned, IsNamedNow, IsOwned}
+use Rattle.move_kinds.specs.Owned.{IsNamedNow, IsOwned}
 use Rattle.move_kinds.specs.Owned.IsOwned.{unannounced, named, dead, changed}
 use Rattle.move_kinds.proofs.OutcomesKept.{among_after}
 
@@ -45,7 +38,7 @@ module _ {S W : Type 0} (form : NormalForm S W) (laws : Laws form) (world after 
     stands = leaves.offered list.block now.offer now.stands;
     list_is = now.list_is;
     seated = now.seated;
-    phase = elim now.phase [ | inl executing ↦ inl (ap record_phase same ∙ executing) | inr wrapping ↦ inr (ap record_phase same ∙ wrapping) ];
+    phase = elim now.phase [ inl executing ↦ inl (ap record_phase same ∙ executing) | inr wrapping ↦ inr (ap record_phase same ∙ wrapping) ];
     block = ap (λ w. payload_block (record_payload w)) same ∙ now.block;
   }
 

@@ -1,19 +1,19 @@
 -- So they stay with every kind of move; where a seat announces a call, its lists of that call are dead or have made their
 -- change.
-use Rattle.std.proofs.Common.{◌≡◌, ◌≢◌, ◌∙◌, refl, sym, subst, ap, ℕ, ◌+◌, ◌<◌, ◌%◌, ◌^◌, ◌⊎◌, inl, inr, ◌∷◌, true, false, List, slice_get, Option, Some, None, arith}
+use Rattle.std.proofs.Common.{◌≡◌, ◌≢◌, ◌∙◌, refl, sym, subst, ap, ℕ, ◌+◌, ◌<◌, ◌%◌, ◌^◌, ◌⊎◌, inl, inr, ◌∷◌, false, Option, Some, None, arith}
 use Rattle.std.proofs.lemmas.Bool.{cases_eq}
 use Rattle.step_memory.specs.declared.steps.Seen.{Seen}
 use Rattle.word_fields.specs.declared.records.Phase.{Phase}
 use Rattle.word_fields.specs.declared.records.Phase.TheVariants.{Generate, Executing, Wrapping, Completed}
 use Rattle.word_fields.specs.Payloads.{payload_block, wrapping_payload}
-use Rattle.word_fields.specs.Records.{record_number, record_of, record_payload, record_phase, record_round, number_below, round_below}
+use Rattle.word_fields.specs.Records.{record_number, record_payload, record_phase, record_round, number_below, round_below}
 use Rattle.word_fields.proofs.PayloadLemmas.{block-wrapping, wrapping_below}
 use Rattle.word_fields.proofs.RecordLemmas.{number-word, payload-word, phase-word}
 use Rattle.node_arena.specs.MemoryMap.{block_place, record_place}
 use Rattle.node_arena.proofs.PlaceLemmas.{block_place_behind}
 use Rattle.help_queue.specs.Gathers.{is_open}
 use Rattle.normal_traits.specs.declared.lists.Entry.{Entry}
-use Rattle.normal_traits.specs.World.{Among, Change, Listed, Maker, Took, Won, World, is_word}
+use Rattle.normal_traits.specs.World.{Among, Listed, Maker, Took, Won, World}
 use Rattle.normal_traits.specs.World.Maker.{By, Beside}
 use Rattle.normal_traits.specs.NormalForm.{NormalForm}
 use Rattle.normal_traits.specs.Laws.{Laws}
@@ -119,7 +119,7 @@ module _ {S W : Type 0} (form : NormalForm S W) (laws : Laws form) (world after 
       elim (cases_eq list.call.seat mover) [
         | inr other ↦ named (still_named form laws world after offers offers' holds leaves list (apart form laws world after offers offers' holds leaves mover word is list other) now)
         | inl same ↦ absurd (closed_not (record_phase (world.words (record_place mover))) closed
-            (elim now.phase [ | inl executing ↦ inl (ap (λ s. record_phase (world.words (record_place s))) (sym same) ∙ executing) | inr wrapping ↦ inr (ap (λ s. record_phase (world.words (record_place s))) (sym same) ∙ wrapping) ]))
+            (elim now.phase [ inl executing ↦ inl (ap (λ s. record_phase (world.words (record_place s))) (sym same) ∙ executing) | inr wrapping ↦ inr (ap (λ s. record_phase (world.words (record_place s))) (sym same) ∙ wrapping) ]))
       ]
   published word is closed none list took (dead gone) = still_dead form laws world after offers offers' holds leaves list gone
   published word is closed none list took (changed change among of) = still_changed form laws world after offers offers' holds leaves list change among of
@@ -170,8 +170,8 @@ module _ {S W : Type 0} (form : NormalForm S W) (laws : Laws form) (world after 
       (elim from [
         | inl generates ↦ inl generates
         | inr has ↦ inr (λ other same now.
-          still_changed form laws world after offers offers' holds leaves other (record { list = has.offer.list; reply = has.by.reply }) has.by.change
-          (one_list form laws world after offers offers' holds leaves head word _ won number other same now has.offer has.of.stands))
+            still_changed form laws world after offers offers' holds leaves other (record { list = has.offer.list; reply = has.by.reply }) has.by.change
+            (one_list form laws world after offers offers' holds leaves head word _ won number other same now has.offer has.of.stands))
       ]) list
   old_owned (restarts head word offer wrapping of gone won o) none list took =
       let number = number-word Generate (record_number word) ((record_round word + 1) % 2 ^ 17) 0 (number_below word) in
@@ -218,7 +218,7 @@ module _ {S W : Type 0} (form : NormalForm S W) (laws : Laws form) (world after 
           let at = entry_at offer.list.entries walk.next is.knows.within in
           let one : entry ≡ at.0 = same_entry offer.list.entries walk.next entry at.0 listed at.1 in
           let executing = installs_named form world offers holds.blocks block offer is.stands walk seen after.words (has_taken after.journal offer.list) is.knows is.made (taken_by form world after offer.list walk seen is.tells)
-              (subst (λ e. world.words e.target ≡ e.from) one stood) in
+          (subst (λ e. world.words e.target ≡ e.from) one stood) in
           new_item (record { place = entry.target; before = entry.from; after = entry.to; maker = By offer.list walk.next; cause = cause }) grown
           (λ list j e. subst (λ (l : Listed). IsOwned form after offers' l) (sym (same_list list offer.list j walk.next e)) (now_named executing))
 
