@@ -86,6 +86,7 @@ module _ {S W : Type 0} (form : NormalForm S W) (laws : Laws form) (world after 
               offer = offer;
               stands = ap offers mine.block_is ∙ is.stands;
               list_is = refl;
+              seated = made.1.seated;
               phase = inl made.1.phase;
               block = made.1.block;
             }))
@@ -108,7 +109,7 @@ module _ {S W : Type 0} (form : NormalForm S W) (laws : Laws form) (world after 
   not_announced list change is of fast =
       let seat : list.call.seat ≡ call.seat = ap (λ (l : Listed). l.call.seat) (sym is) ∙ of.seat in
       let number' : list.call.number ≡ call.number = ap (λ (l : Listed). l.call.number) (sym is) ∙ of.number in
-      absurd (fast (ap (λ s. record_number (world.words (record_place s))) seat ∙ number ∙ sym number'))
+      absurd (fast.1 (ap (λ s. record_number (world.words (record_place s))) seat ∙ number ∙ sym number'))
 
   owned_only : (list : Listed) → IsStep form world after → after.changes ≡ change_of (object form) list world.changes ∷ world.changes → IsOwned form world offers list → Only
   owned_only list step made (unannounced fast) = new_of list made (λ change is among of. not_announced list change is of fast)
