@@ -6,6 +6,7 @@ use Rattle.helper_knowledge.specs.KnowledgeLaws as law
 use Rattle.helper_knowledge.specs.CallLaws as call_law
 use Rattle.helper_knowledge.proofs.Kept.CallersFollow.{begins, goes_on}
 use Rattle.helper_knowledge.proofs.Kept.KindsKeep.{knows_work_kept, named_by_kept}
+use Rattle.helper_knowledge.proofs.Offers.Contents.{contents_filled}
 use Rattle.helper_knowledge.proofs.Own.Goes.{work_goes}
 use Rattle.helper_knowledge.proofs.Own.WorkKinds.{work_kind}
 use Rattle.helper_knowledge.proofs.Queue.CallsBelow as below
@@ -31,6 +32,9 @@ module _ {S W : Type 0} (form : NormalForm S W) (laws : Laws form) where
   pub work_goes_on : law.WorkGoesOn form
   work_goes_on world after offers caller head word hand own own' identity cap seen does rests spare small can is going knows =
       work_goes form laws world after offers caller head word hand own own' identity cap seen rests spare small does can is going knows
+
+  pub filled_holds : law.FilledHolds form
+  filled_holds world offers caller head word block stores offer holds bounded knows = contents_filled form laws world holds.shape offers caller head word block bounded stores offer knows
 
   pub advances_are_right : law.AdvancesAreRight form
   advances_are_right world offers head word call begun mover hand filled to holds meets new may = won_advances form laws world offers holds head word call begun meets mover hand filled new to may
