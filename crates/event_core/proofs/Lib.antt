@@ -2,3 +2,4 @@ pub mod SeatLemmas
 pub mod Seating
 pub mod CoreLemmas
 pub mod PendingLemmas
+pub mod Rooms

@@ -1,14 +1,19 @@
 -- The calls that run are gathered seat by seat.
-use Rattle.std.proofs.Common.{arith, ◌≡◌, ◌∙◌, ◌+◌, ◌++◌, ◌∷◌, ◌<◌, ◌≤◌, [], sym, ap, suc, ℕ, List, length, map, take, slice_index_or, Option, Some, None}
+use Rattle.std.proofs.Common.{arith, ◌≡◌, ◌∙◌, ◌+◌, ◌++◌, ◌∷◌, ◌<◌, ◌≤◌, [], sym, subst, ap, suc, ℕ, List, length, map, take, slice_index_or, Option, Some, None}
 use Rattle.std.specs.List.{flat_map}
 use Rattle.std.specs.Option.{option_to_list}
+use Rattle.std.specs.Prelude.{IsPermutation}
 use Rattle.lin_report.specs.declared.calls.PendingCall.{PendingCall}
+use Rattle.lin_report.specs.declared.calls.Receipt.{Receipt}
+use Rattle.lin_report.specs.declared.events.Event.{Event}
+use Rattle.fast_slow_engine.specs.declared.setup.Setup.{Setup}
+use Rattle.event_core.specs.Cores.{CoreView, core_of}
 use Rattle.fast_slow_engine.specs.Mechs.{Mech}
 use Rattle.fast_slow_engine.specs.PhaseTable.{mech_pending}
 use Rattle.fast_slow_engine.specs.Runs.{pending_of}
 use Rattle.event_core.specs.Seats.{Seat}
 use Rattle.std.proofs.Math.Seq.{take-suc}
-use Rattle.std.proofs.lemmas.List.{flat_map_more, length-append, map-append}
+use Rattle.std.proofs.lemmas.List.{flat_map_more, length-append, map-append, take_all}
 
 one_at_most : {X : Type 0} (o : Option X) → length (option_to_list o) ≤ 1
 one_at_most None = omega arith
@@ -43,3 +48,10 @@ module _ {S W : Type 0} where
         put ∙ ap (λ c. calls ++ option_to_list c) is ∙ ap (λ l. l ++ call_in s.mech) so_far ∙ next_pending seats i s inside at,
         omega (arith, l, longer, one, few),
       )
+  -- in another order they are the calls of the run
+  pub all_gathered : {view : CoreView S W} (setup : Setup) (words : List ℕ) (seats items : List (Seat S W)) (receipts : List Receipt) (events : List Event) (i : ℕ) (pending now new : List PendingCall)
+      → core_of setup words seats receipts events ≡ view → items ≡ seats → length items ≤ i → pending ≡ pending_of (map (λ (seat : Seat S W). seat.mech) (take i items)) → now ≡ pending
+      → IsPermutation now new → IsPermutation (pending_of view.state.mechs) new
+  all_gathered {view} setup words seats items receipts events i pending now new is same past gathered_all now_is sorted =
+      let all : now ≡ pending_of view.state.mechs = now_is ∙ gathered_all ∙ ap (λ l. pending_of (map (λ (seat : Seat S W). seat.mech) l)) (take_all i items past ∙ same) ∙ ap (λ (v : CoreView S W). pending_of v.state.mechs) is in
+      subst (λ l. IsPermutation l new) all sorted

@@ -1,5 +1,5 @@
 -- What the root's view becomes as it takes in the ports from the last seat down.
-use Rattle.std.proofs.Common.{◌≡◌, ℕ, zero, suc, ◌+◌, ◌-◌, ◌<◌, false, List, [], ◌∷◌, ◌++◌, length, get_or, map, refl, sym, ap, ◌∙◌, arith, length-append}
+use Rattle.std.proofs.Common.{◌≡◌, ℕ, zero, suc, ◌+◌, ◌-◌, ◌<◌, false, true, List, [], ◌∷◌, ◌++◌, length, get_or, map, refl, sym, ap, ◌∙◌, arith, length-append}
 use Rattle.lin_report.specs.declared.calls.Receipt.{Receipt}
 use Rattle.fast_slow_engine.specs.declared.setup.Setup.{Setup}
 use Rattle.fast_slow_engine.specs.Mechs.{Mech}
@@ -7,7 +7,8 @@ use Rattle.shared_memory.specs.declared.view.View.{View}
 use Rattle.shared_memory.specs.declared.view.Gathered.{Gathered}
 use Rattle.shared_memory.specs.Views.{glued, new_view}
 use Rattle.thread_runs.proofs.Places.{get_front}
-use Rattle.thread_runs.specs.Placed.{gathers, root_view}
+use Rattle.thread_runs.specs.Placed.{Gathers, gathers, root_view}
+use Rattle.fast_slow_engine.specs.PhaseTable.{rests}
 
 gathers_snoc : (n k : ℕ) (olds : List (List Receipt)) (rs : List Receipt) → length olds + k + 1 ≡ n → gathers n olds ++ record { seat = k; receipts = rs } ∷ [] ≡ gathers n (olds ++ rs ∷ [])
 gathers_snoc n k [] rs e = let h : k ≡ n - 1 = omega (arith, e) in ap (λ (j : ℕ). record { seat = j; receipts = rs } ∷ []) h
@@ -50,6 +51,21 @@ module _ {A B : Type 0} (f : A → B) where
 pub takes_in_as : {C S W : Type 0} (setup : Setup) (n r : ℕ) (v w u : View C S W) (m : Mech S W) (first rs : List Receipt) (olds news : List (List Receipt)) → v ≡ record (root_view setup (n - 1)) { machine = v.machine; receipts = first; gathered = gathers n olds }
     → w ≡ record (new_view r setup false) { machine = m; receipts = rs } → m.seat ≡ r → length olds + r + 1 ≡ n → u ≡ glued v w → news ≡ olds ++ rs ∷ [] → u ≡ record (root_view setup (n - 1)) { machine = u.machine; receipts = first; gathered = gathers n news }
 takes_in_as setup n r v w u m first rs olds news e f own at g h = (g ∙ takes_in setup n r v w m first rs olds e f own at) ∙ (λ i. record (root_view setup (n - 1)) { machine = (sym (ap (λ (x : View _ _ _). x.machine) g)) i; receipts = first; gathered = gathers n (sym h i) })
+
+-- once all are taken in, the own lines go last
+pub has_gathered : {C S W : Type 0} (setup : Setup) (n : ℕ) (v : View C S W) (first : List Receipt) (olds all : List (List Receipt)) → v ≡ record (root_view setup (n - 1)) { machine = v.machine; receipts = first; gathered = gathers n olds }
+    → all ≡ olds ++ first ∷ [] → length olds + 1 ≡ n → rests v.machine.phase ≡ true → v.machine.seat ≡ 0 → v.machine.setup ≡ setup → Gathers setup n v all
+has_gathered {C} {S} {W} setup n v first olds all e lines count idle seat run =
+    let same : first ≡ v.receipts = sym (ap (λ (x : View C S W). x.receipts) e) in
+    record {
+      older = olds;
+      lines = lines ∙ ap (λ (r : List Receipt). olds ++ r ∷ []) same;
+      count = count;
+      idle = idle;
+      of_zero = seat;
+      of_run = run;
+      is = e ∙ ap (λ (r : List Receipt). record (root_view {C = C} {S = S} {W = W} setup (n - 1)) { machine = v.machine; receipts = r; gathered = gathers n olds }) same;
+    }
 
 -- what is known of each list, and of the one that is put last
 pub room_more : {A : Type 0} (xs : List (List A)) (x : List A) (P : ℕ → List A) → ((k : ℕ) → k < length xs → get_or xs k [] ≡ P k) → x ≡ P (length xs) → (k : ℕ) → k < length xs + 1 → get_or (xs ++ x ∷ []) k [] ≡ P k

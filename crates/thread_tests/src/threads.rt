@@ -79,6 +79,7 @@ fn eight_threads_meet(rt: HostRuntime) -> Result<(), Fail> {
         seats: 8,
         cap: 65536,
         limit: 3,
+        publishes: false,
     };
     let Ok((lines, totals)) = run::<_, MsQueue, _>(&rt, rt.alloc(), setup, files, &gate) else {
         panic!(rt; "no memory")

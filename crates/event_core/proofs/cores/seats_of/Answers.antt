@@ -1,4 +1,5 @@
-use Rattle.std.proofs.Common.{rules, ◌∙◌, ap}
+use Rattle.std.proofs.Common.{rules, ◌∙◌, ap, sym}
+use Rattle.std.proofs.lemmas.Bool.{eqb-true}
 use Rattle.fast_slow_engine.specs.PhaseTable.{mech_new}
 use Rattle.event_core.proofs.Seating.{all_seated, first_file, none_seated, one_seated}
 use Rattle.event_core.proofs.cores.seats_of.Goals as goal
@@ -15,4 +16,4 @@ loop-setup-preserved g c =
     (c.new.ensures.mech ∙ ap (λ n. mech_new n c.args.setup) (c.len-in-loop-setup.ensures ∙ c.loop-setup.seats.ok.0)) c.new.ensures.file c.push_reserved.ensures.items c.push_reserved.ensures.capacity
 
 pub returns : goal.returns
-returns g c = record { seats = all_seated (λ file. file.items) g.C.Normalized.form c.args.setup _ _ _ _ c.loop-setup.invariant (search rules) }
+returns g c = record { seats = all_seated (λ file. file.items) g.C.Normalized.form c.args.setup _ _ _ _ c.loop-setup.invariant (sym c.loop-setup.rest.ok.0 ∙ eqb-true _ _ (sym c.is_empty.ensures ∙ c.loop-setup-test.false)) }

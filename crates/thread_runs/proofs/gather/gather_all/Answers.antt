@@ -5,7 +5,7 @@ use Rattle.shared_memory.specs.declared.view.View.{View}
 use Rattle.shared_memory.specs.Views.{new_view}
 use Rattle.thread_runs.specs.declared.worker.Worker.{Worker}
 use Rattle.thread_runs.specs.Placed.{HasPort, root_view}
-use Rattle.thread_runs.proofs.Gathering.{starts, last_of, front_of, longer_by_one, takes_in_as, map_snoc, map_length, room_more}
+use Rattle.thread_runs.proofs.Gathering.{has_gathered, starts, last_of, front_of, longer_by_one, takes_in_as, map_snoc, map_length, room_more}
 use Rattle.thread_runs.proofs.Places.{get_front}
 use Rattle.thread_runs.proofs.gather.gather_all.Goals as goal
 
@@ -108,3 +108,13 @@ returns-clause-own g c d =
     let long : n - 1 - 0 + 1 ≡ length (map (λ v. v.items) c.push_reserved-2.new.self.items) =
     (let a = inv.1 in let b = map_length (λ v. v.items) c.loop-other.rooms.items in let e = longer_by_one _ olds _ all in omega (arith, a, b, none, e)) in
     last_of _ olds _ all (n - 1 - 0) [] long ∙ inv.10 d
+
+pub returns-clause-view : goal.returns-clause-view
+returns-clause-view g c =
+    let none : length c.loop-other.workers.items ≡ 0 = search rules in
+    let inv = c.loop-other.invariant in
+    let olds : List (List Receipt) = map (λ v. v.items) c.loop-other.rooms.items in
+    let n : ℕ = length c.args.workers.items in
+    let all : map (λ v. v.items) c.push_reserved-2.new.self.items ≡ olds ++ c.in-Some.root.receipts.items ∷ [] = ap (map (λ v. v.items)) c.push_reserved-2.ensures.items ∙ map_snoc (λ v. v.items) c.loop-other.rooms.items c.in-Some.root.receipts in
+    let long : length olds + 1 ≡ n = (let a = inv.1 in let b = map_length (λ v. v.items) c.loop-other.rooms.items in omega (arith, a, b, none)) in
+    has_gathered c.args.shared.now.setup n c.loop-other.port.view c.in-Some.root.receipts.items olds _ inv.4 all long inv.3 inv.6 inv.7

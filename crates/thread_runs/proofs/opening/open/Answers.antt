@@ -1,4 +1,6 @@
-use Rattle.std.proofs.Common.{◌≡◌, ℕ, ◌+◌, ◌-◌, List, length, get_or, sym, ap, ◌∙◌, subst, false, arith}
+use Rattle.std.proofs.Common.{◌≡◌, ℕ, ◌+◌, ◌-◌, ◌<◌, List, Vec, Global, length, get_or, sym, ap, ◌∙◌, subst, false, arith}
+use Rattle.lin_report.specs.declared.calls.Op.{Op}
+use Rattle.lin_report.specs.CommandFiles.{IsCommandFile}
 use Rattle.shared_memory.specs.Views.{new_view}
 use Rattle.thread_runs.specs.declared.worker.Worker.{Worker}
 use Rattle.thread_runs.specs.Placed.{IsPlaced, root_view}
@@ -28,3 +30,9 @@ returns-clause-others g c j d e h =
     subst (λ (w : Worker g.row.C.Denot g.row.C-Search.Denot g.row.C-Wrap.Denot). IsPlaced g.C.Normalized.form.client c.in_ok-shared.shared.table (new_view (j + 1) c.args.setup false) (get_or c.args.files.items (j + 1) e).items w)
     (sym (ap (λ (l : List (Worker g.row.C.Denot g.row.C-Search.Denot g.row.C-Wrap.Denot)). get_or l j d) c.push_reserved.ensures.items ∙ get_front c.split_all.new.workers.items _ j d (let r = room.0 in omega (arith, r, h))))
     (c.in_ok-split_all.ensures.workers j d e h)
+
+pub new_worker-requires-clause-file : goal.new_worker-requires-clause-file
+new_worker-requires-clause-file g c κs within =
+    let e : Vec Op Global = c.take_file-commands.result in
+    let inside : 0 < length c.args.files.items = (let z = c.requires.count in let y = c.args.setup.some_seat in omega (arith, z, y)) in
+    subst (λ (f : Vec Op Global). IsCommandFile g.C.Normalized.form.client f.items) (sym (c.take_file-commands.ensures.file e ∙ c.in_ok-split_all.ensures.first.1 e)) (c.requires.files 0 e inside)

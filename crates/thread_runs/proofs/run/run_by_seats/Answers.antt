@@ -66,3 +66,14 @@ returns g c =
           (is_run g.C.Normalized.form c.in_ok-shared.shared.setup files _ _ _ _ _ (ap length same ∙ many ∙ seats) out.view c.close-totals.ensures
           (subst (λ (m : ℕ). (k : ℕ) → k < m → ops_of (lines_at all m k) ≡ get_or files k []) (many ∙ seats) ops));
     }
+
+pub gather_all-port-requires-clause-some : goal.gather_all-port-requires-clause-some
+gather_all-port-requires-clause-some g c κs within =
+    let ws : List (Worker g.row.C.Denot g.row.C-Search.Denot g.row.C-Wrap.Denot) = c.in_ok-shared.workers.items in
+    let new : List (Worker g.row.C.Denot g.row.C-Search.Denot g.row.C-Wrap.Denot) = c.run_workers.new.workers in
+    let n : ℕ = length c.args.files.items in
+    let same : take c.in_ok-shared.workers.len (new ++ drop (length new) ws) ≡ new = back new ws c.in_ok-shared.workers.len (c.run_workers.auto.workers ∙ ap length c.as_mut_slice.ensures.value) c.in_ok-shared.workers.ok.0 in
+    let many : length (take c.in_ok-shared.workers.len (new ++ drop (length new) ws)) ≡ n = ap length same ∙ (c.run_workers.auto.workers ∙ (ap length c.as_mut_slice.ensures.value ∙ c.in_ok-shared.ensures.count)) in
+    let some : 0 < n = (let z = c.requires.count in let y = c.args.setup.some_seat in omega (arith, z, y)) in
+    let room : vec_capacity c.in_ok-rooms.rooms ≡ n = c.in_ok-rooms.ensures.capacity ∙ (c.len.ensures ∙ c.args.files.ok.0) in
+    (omega (arith, many, some), omega (arith, many, room), c.in_ok-rooms.ensures.items)

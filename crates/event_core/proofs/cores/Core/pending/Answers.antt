@@ -1,7 +1,7 @@
 use Rattle.std.proofs.Common.{rules}
 use Rattle.std.proofs.lemmas.List.Sorted.{IsNonDecreasingBy-from_sort_by_key}
 use Rattle.arrayvec.proofs.ArrayVecLemmas.{items-with_items}
-use Rattle.event_core.proofs.PendingLemmas.{gathered}
+use Rattle.event_core.proofs.PendingLemmas.{all_gathered, gathered}
 use Rattle.event_core.proofs.cores.Core.pending.Goals as goal
 
 pub loop-seat-preserved : goal.loop-seat-preserved
@@ -11,3 +11,8 @@ pub returns-clause-order : goal.returns-clause-order
 returns-clause-order g c =
     rw (items-with_items c.loop-seat.pending c.sort_unstable_by_key.new.self (search rules))
     (IsNonDecreasingBy-from_sort_by_key (λ r. r.begin) _ c.sort_unstable_by_key.ensures.sorted (λ a r q k. search rules))
+
+pub returns-clause-calls : goal.returns-clause-calls
+returns-clause-calls g c =
+    rw (items-with_items c.loop-seat.pending c.sort_unstable_by_key.new.self (search rules))
+    (all_gathered c.self.inside.setup _ c.self.inside.seats.items c.deref-seat-items.result.now _ _ c.loop-seat.seat-index _ _ _ c.self.view_is c.deref-seat-items.ensures.value c.loop-seat-test.false c.loop-seat.invariant.0 c.deref_mut.ensures.value c.sort_unstable_by_key.ensures.permutation)
