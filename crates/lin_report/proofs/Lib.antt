@@ -1,3 +1,4 @@
+pub mod Digits
 pub mod Rooms
 pub mod Lines
 pub mod Lengths
