@@ -35,7 +35,7 @@ none_pend (m ∷ ms) each = ap (λ o. option_to_list o ++ pending_of ms) (rest_p
 
 module _ {S W : Type 0} (form : NormalForm S W) (laws : Laws form) where
   pub threads_meet_headline : ThreadsMeetHeadline form
-  threads_meet_headline setup files lines ticks claimed many run =
+  threads_meet_headline setup files lines ticks claimed many quiet run =
       let moves = run.moves in
       let state = run_of form setup moves in
       let seated = seats_stay form setup moves run.are in
@@ -54,5 +54,5 @@ module _ {S W : Type 0} (form : NormalForm S W) (laws : Laws form) where
         made = subst (λ (s : RunState S W). IsPermutation s.receipts lines) is (subst (IsPermutation state.receipts) (sym run.same) (lines_gather form setup moves run.are));
         drawn = subst (λ (s : RunState S W). slice_index s.words TICKS ≡ ticks) is run.drawn;
         asked = subst (λ (s : RunState S W). slice_index s.words CLAIMS ≡ claimed) is run.asked;
-        meets = files_meet_headline form laws setup files (seats_of moves) over.fit;
+        meets = files_meet_headline form laws setup files (seats_of moves) over.fit quiet;
       }
