@@ -1,11 +1,11 @@
 -- What a call has written and opened, by its status.
-use Rattle.std.proofs.Common.{◌≡◌, ℕ, ◌+◌, ◌⊎◌, cond, Bool, true, false, List, length, Option, Some, None, Result, Ok, Err, IfOk, IsSomeAnd, inl, inr, refl, rules, sym, ap, ◌∙◌, subst, arith}
+use Rattle.std.proofs.Common.{◌≡◌, ℕ, ◌⊎◌, cond, Bool, true, false, List, Option, Some, None, Result, Ok, Err, IfOk, IsSomeAnd, inl, inr, refl, rules, subst, arith}
 use Rattle.std.specs.Io.KnownBytes.{Appends}
 use Rattle.nwf_run.specs.declared.running.Replayed.{Replayed}
 use Rattle.nwf_run.specs.declared.stops.Stop.{Stop}
 use Rattle.nwf_run.specs.declared.stops.Stop.TheVariants.{Usage, Refused, ReadFault, NoMemory}
 use Rattle.nwf_run.specs.Outside.{Opening, AppendsPrefix}
-use Rattle.nwf_run.specs.Replaying.{Ends, IsRunFor, Makes, OpensAll, OpensFor, Reports, text_for}
+use Rattle.nwf_run.specs.Replaying.{Ends, IsRunFor, Makes, OpensAll, OpensFor, text_for}
 use Rattle.nwf_run.specs.Replaying.Reports.{wrote, failed}
 use Rattle.nwf_run.specs.Runs.{Exhausts, FilesRun, RunMeetsHeadline}
 use Rattle.nwf_run.specs.Stops.{status_of}

@@ -1,5 +1,5 @@
 -- Generated files can be run, and their run in rounds is told by its order.
-use Rattle.std.proofs.Common.{◌≡◌, ℕ, ◌≤◌, List, Vec, All, length, map, get_or, refl, sym, ap, ◌∙◌, subst, arith}
+use Rattle.std.proofs.Common.{◌≡◌, ℕ, ◌≤◌, List, Vec, All, length, get_or, sym, ap, ◌∙◌, subst, arith}
 use Rattle.std.specs.Global.{Global}
 use Rattle.std.proofs.lemmas.List.{get_or-map, length-map}
 use Rattle.std.proofs.lemmas.List.FromFn.{get_or-map-range_with_len, length-map-range_with_len}

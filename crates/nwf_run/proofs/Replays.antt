@@ -1,5 +1,5 @@
 -- The run that was made is the one that was asked for.
-use Rattle.std.proofs.Common.{◌≡◌, ℕ, ◌*◌, Bool, IsTrue, List, length, map, Option, Some, Vec, sym, ap, ◌∙◌, subst}
+use Rattle.std.proofs.Common.{◌≡◌, ℕ, ◌*◌, Bool, IsTrue, List, length, Option, Some, sym, ap, ◌∙◌, subst}
 use Rattle.lin_report.specs.declared.calls.Op.{Op}
 use Rattle.script_reader.specs.declared.schedules.ScheduleEntry.{ScheduleEntry}
 use Rattle.lin_report.specs.Text.{report_text, summary_text}

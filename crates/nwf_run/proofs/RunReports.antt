@@ -1,5 +1,5 @@
 -- The report of a run, written from its lines put in order.
-use Rattle.std.proofs.Common.{◌≡◌, ℕ, ◌+◌, ◌≤◌, ◌↔◌, Bool, true, List, length, map, Option, Some, Vec, All, IsPermutation, refl, sym, ap, ◌∙◌, subst, arith, rules}
+use Rattle.std.proofs.Common.{◌≡◌, ℕ, ◌+◌, ◌≤◌, ◌↔◌, Bool, true, false, List, length, map, Option, Some, Vec, All, IsPermutation, refl, sym, ap, ◌∙◌, subst, arith, rules}
 use Rattle.std.specs.List.{Any, list_any}
 use Rattle.std.specs.Prelude.{sum_by, IfSome}
 use Rattle.std.specs.Global.{Global}
@@ -109,7 +109,7 @@ module _ {S W : Type 0} where
         subst (λ s. Follows form s (core_new form setup (files_of commands)) core) same (subst (λ v. Follows form schedule v core) is follows)
 
     -- a core that is the run of the commands in an order
-    pub can_be_written : (setup : Setup) (commands : List (Vec Op Global)) (order : List ℕ) (core : CoreView S W) → RunsCanBeWritten form → length commands ≡ setup.seats → All (λ (ops : Vec Op Global). IsCommandFile form.client ops.items) commands
+    pub can_be_written : (setup : Setup) (commands : List (Vec Op Global)) (order : List ℕ) (core : CoreView S W) → RunsCanBeWritten form → length commands ≡ setup.seats → setup.publishes ≡ false → All (λ (ops : Vec Op Global). IsCommandFile form.client ops.items) commands
         → core ≡ core_in form setup (files_of commands) order → CanBeWritten core.state (sum_by length (files_of commands))
-    can_be_written setup commands order core writable count each is =
-        subst (λ (v : CoreView S W). CanBeWritten v.state (sum_by length (files_of commands))) (sym is) (writable setup (files_of commands) order (files_fit form.client setup commands count each))
+    can_be_written setup commands order core writable count quiet each is =
+        subst (λ (v : CoreView S W). CanBeWritten v.state (sum_by length (files_of commands))) (sym is) (writable setup (files_of commands) order (files_fit form.client setup commands count each) quiet)

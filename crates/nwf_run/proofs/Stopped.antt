@@ -1,5 +1,5 @@
 -- What a call comes to by its status, where it wrote no report.
-use Rattle.std.proofs.Common.{◌≡◌, ◌≢◌, ℕ, ◌+◌, ◌≤◌, ◌⊎◌, ◌↔◌, cond, Bool, true, false, List, length, Option, Some, None, Result, Ok, Err, IfOk, IfErr, IsSomeAnd, inl, inr, refl, rules, sym, ap, ◌∙◌, subst, arith}
+use Rattle.std.proofs.Common.{◌≡◌, ◌≢◌, ℕ, ◌+◌, ◌⊎◌, ◌↔◌, Bool, true, false, List, Option, Some, None, Result, Ok, Err, IfOk, IfErr, IsSomeAnd, inl, inr, refl, rules, sym, ap, ◌∙◌, subst, arith}
 use Rattle.script_reader.specs.declared.causes.Refusal.{Refusal}
 use Rattle.nwf_run.specs.declared.load_words.LoadWords.{LoadWords}
 use Rattle.nwf_run.specs.declared.running.Replayed.{Replayed}

@@ -1,5 +1,5 @@
 -- The report of a run with threads, written from its lines put in order.
-use Rattle.std.proofs.Common.{◌≡◌, ℕ, zero, suc, ◌+◌, ◌<◌, ◌≤◌, List, [], ◌∷◌, length, length-append, take, get_or, map, IsPermutation, refl, sym, ap, ◌∙◌, subst, arith}
+use Rattle.std.proofs.Common.{◌≡◌, ℕ, zero, suc, ◌+◌, ◌<◌, ◌≤◌, List, [], ◌∷◌, length, length-append, take, get_or, IsPermutation, refl, sym, ap, ◌∙◌, subst, arith}
 use Rattle.std.specs.Prelude.{sum_by}
 use Rattle.std.specs.List.Sorted.{IsNonDecreasingBy}
 use Rattle.std.proofs.Math.Seq.{take-suc}
@@ -11,7 +11,7 @@ use Rattle.lin_report.specs.declared.calls.Receipt.{Receipt}
 use Rattle.lin_report.specs.declared.calls.PendingCall.{PendingCall}
 use Rattle.normal_traits.specs.NormalForm.{NormalForm}
 use Rattle.fast_slow_engine.specs.declared.setup.Setup.{Setup}
-use Rattle.fast_slow_engine.specs.Runs.{RunState, moves_over, pending_of, run_of}
+use Rattle.fast_slow_engine.specs.Runs.{RunState, moves_over, run_of}
 use Rattle.move_orders.specs.SeatLines.{lines_down, lines_of, ops_of}
 use Rattle.thread_runs.specs.Whole.{IsRun}
 use Rattle.thread_laws.specs.Headline.{MeetsInSomeOrder}

@@ -1,5 +1,5 @@
 -- Runs of command files and their reports, and what every such run meets.
-use Rattle.std.specs.Prelude.{◌≡◌, ℕ, ◌↔◌, Bool, true, List, length, Some, Any}
+use Rattle.std.specs.Prelude.{◌≡◌, ℕ, ◌↔◌, Bool, true, false, List, length, Some, Any}
 use Rattle.lin_report.specs.declared.calls.Op.{Op}
 use Rattle.lin_report.specs.declared.calls.Receipt.{Receipt}
 use Rattle.lin_report.specs.declared.calls.Reply.TheVariants.{Exhausted}
@@ -29,12 +29,13 @@ pub record FilesRun : Type 0 where
   pub order : List ℕ
   pub report : Report
 
--- the run is that of its commands in its order, with a seat for each list of them, so many blocks and this limit, and
--- the report is that of this run
+-- the run is that of its commands in its order, with a seat for each list of them, so many blocks and this limit, no call
+-- is published in it, and the report is that of this run
 pub record IsRun {S W : Type 0} (form : NormalForm S W) (cap limit : ℕ) (run : FilesRun) : Type 0 where
   pub has_seats : run.setup.seats ≡ length run.commands
   pub has_cap : run.setup.cap ≡ cap
   pub has_limit : run.setup.limit ≡ limit
+  pub unpublished : run.setup.publishes ≡ false
   pub made : run.report ≡ report_of_run (run_of form run.setup (moves_over form run.setup run.commands run.order))
 
 -- the same, of the structure with this name

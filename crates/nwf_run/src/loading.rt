@@ -35,6 +35,7 @@ fn summary_of<C: Normalized>(alloc: Global, load: LoadWords) -> Result<Replayed,
         seats: load.threads,
         cap: load.cap,
         limit: load.limit,
+        publishes: false,
     };
     let mut text = report_room(alloc, 0)?;
     each_runs();

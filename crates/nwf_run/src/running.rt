@@ -52,7 +52,7 @@ pub fn any_exhausted(receipts: &[Receipt]) -> bool
         .any(|receipt| matches!(receipt.reply, Reply::Exhausted))
 }
 
-/// Every run over command files can be written, in any order of the seats.
+/// Every run over command files in which no call is published can be written, in any order of the seats.
 pub fn runs_can_be_written<C: Normalized>()
     ensures { RunsCanBeWritten C.form }
 {}
@@ -77,6 +77,7 @@ fn report_of<C: Normalized>(
         seats: scripts.commands.len() as u32,
         cap,
         limit,
+        publishes: false,
     };
     let mut text = report_room(alloc, commands_of(&scripts.commands))?;
     let mut core = Core::<C>::new(alloc, setup, scripts.commands)?;

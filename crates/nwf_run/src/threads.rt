@@ -41,6 +41,7 @@ fn threaded<R: Threads + Wait + Sync, C: Normalized + Send + Sync, G: Gate + Syn
         seats: commands.len() as u32,
         cap,
         limit,
+        publishes: false,
     };
     let mut text = report_room(alloc, commands_of(&commands))?;
     let (mut lines, _) = run::<R, C, G>(rt, alloc, setup, commands, gate)?;

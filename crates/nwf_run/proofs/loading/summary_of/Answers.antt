@@ -1,4 +1,4 @@
-use Rattle.std.proofs.Common.{◌≡◌, ◌*◌, ◌++◌, List, Vec, Some, length, map, refl, sym, ap, ◌∙◌, arith}
+use Rattle.std.proofs.Common.{◌*◌, ◌++◌, List, Vec, Some, refl, sym, ap, ◌∙◌, arith}
 use Rattle.std.specs.List.{list_any}
 use Rattle.std.specs.Global.{Global}
 use Rattle.std.proofs.lemmas.List.{length-map}
@@ -37,7 +37,7 @@ write_summary-requires-clause-report g c =
     let core = c.take_rounds.new.core in
     let order = rounds load.threads (load.calls * 16384) in
     let ran = in_order_of g.C.Normalized.form _ files order c.in_ok-core.core core c.steps_run_in_order.ensures c.in_ok-core.ensures.core c.take_rounds.ensures.steps in
-    let can = can_be_written g.C.Normalized.form _ files order core c.runs_can_be_written.ensures count each ran in
+    let can = can_be_written g.C.Normalized.form _ files order core c.runs_can_be_written.ensures count refl each ran in
     let sorted = in_order core c.sort_by_begin.new.self c.receipts.result.now c.pending-pending.result.items c.as_slice.result.now c.sort_by_begin.ensures.same c.sort_by_begin.ensures.order c.sort_by_begin.ensures.kept c.pending-pending.ensures.calls c.pending-pending.ensures.order c.receipts.ensures c.as_slice.ensures.value in
     can_write core.state c.receipts.result.now c.as_slice.result.now sorted.lines sorted.calls (Some 0) (omega arith) _ sorted.order sorted.opened can
 
@@ -51,7 +51,7 @@ returns g c =
     let core = c.take_rounds.new.core in
     let order = rounds load.threads (load.calls * 16384) in
     let ran = in_order_of g.C.Normalized.form _ files order c.in_ok-core.core core c.steps_run_in_order.ensures c.in_ok-core.ensures.core c.take_rounds.ensures.steps in
-    let can = can_be_written g.C.Normalized.form _ files order core c.runs_can_be_written.ensures count each ran in
+    let can = can_be_written g.C.Normalized.form _ files order core c.runs_can_be_written.ensures count refl each ran in
     let sorted = in_order core c.sort_by_begin.new.self c.receipts.result.now c.pending-pending.result.items c.as_slice.result.now c.sort_by_begin.ensures.same c.sort_by_begin.ensures.order c.sort_by_begin.ensures.kept c.pending-pending.ensures.calls c.pending-pending.ensures.order c.receipts.ensures c.as_slice.ensures.value in
     let mark = c.any_exhausted-exhausted.ensures ∙ ap (list_any (λ (r : Receipt). reply_is_exhausted r.reply)) (c.receipts-2.ensures ∙ sym c.receipts.ensures) in
     let written = summary_is core.state c.receipts.result.now c.as_slice.result.now sorted.lines sorted.calls in
@@ -63,9 +63,10 @@ returns g c =
         has_seats = omega (arith, count, length-map files (λ (ops : Vec Op Global). ops.items));
         has_cap = refl;
         has_limit = refl;
+        unpublished = refl;
         made = ap (λ (v : CoreView _ _). report_of_run v.state) ran;
       };
-      headline = c.files_meet_headline.ensures _ (files_of files) order (files_fit g.C.Normalized.form.client _ files count each);
+      headline = c.files_meet_headline.ensures _ (files_of files) order (files_fit g.C.Normalized.form.client _ files count each) refl;
       text_is = record {
         written = c.write_summary.ensures.text ∙ ap (λ l. l ++ summary_text (report_of c.receipts.result.now c.as_slice.result.now) (Some 0)) c.in_ok-text.ensures.empty ∙ written;
         marked = marked core.state c.receipts.result.now c.as_slice.result.now sorted.lines sorted.calls c.any_exhausted-exhausted.result mark;

@@ -1,4 +1,4 @@
-use Rattle.std.proofs.Common.{rules, ◌≡◌, false, map, string_bytes, sym, ◌∙◌}
+use Rattle.std.proofs.Common.{rules, ◌≡◌, false, map, string_bytes}
 use Rattle.nwf_run.specs.Words.{starts_run}
 use Rattle.nwf_run.proofs.program.nwf_main.Goals as goal
 

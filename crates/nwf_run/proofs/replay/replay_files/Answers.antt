@@ -1,4 +1,4 @@
-use Rattle.std.proofs.Common.{◌≡◌, List, Vec, length, map, string_bytes, sym, ◌∙◌}
+use Rattle.std.proofs.Common.{List, Vec, map, string_bytes, sym, ◌∙◌}
 use Rattle.std.specs.Global.{Global}
 use Rattle.std.proofs.lemmas.List.{length-map}
 use Rattle.lin_report.specs.declared.calls.Op.{Op}

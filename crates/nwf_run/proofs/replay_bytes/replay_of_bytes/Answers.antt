@@ -1,4 +1,4 @@
-use Rattle.std.proofs.Common.{◌≡◌, ℕ, List, Bor, Vec, length, map, subst, sym}
+use Rattle.std.proofs.Common.{ℕ, List, Bor, Vec, map, subst, sym}
 use Rattle.std.specs.Global.{Global}
 use Rattle.std.proofs.lemmas.List.{length-map}
 use Rattle.lin_report.specs.declared.calls.Op.{Op}

@@ -1,4 +1,4 @@
-use Rattle.std.proofs.Common.{rules, ◌≡◌, ◌++◌, List, length, map, string_bytes, Some, Vec, refl, sym, ap, ◌∙◌, arith}
+use Rattle.std.proofs.Common.{rules, ◌≡◌, ◌++◌, List, length, Some, Vec, refl, sym, ap, ◌∙◌, arith}
 use Rattle.std.specs.Prelude.{sum_by}
 use Rattle.std.specs.List.{list_any}
 use Rattle.std.specs.Global.{Global}
@@ -18,7 +18,7 @@ write_report-requires-clause-room g c =
     let core = c.drive.new.core in
     let follows = driven g.C.Normalized.form _ commands c.args.scripts.schedule.items c.deref-2.result.now c.in_ok-core.core core c.in_ok-core.ensures.core c.deref-2.ensures.value c.drive.ensures.follows in
     let ordered = c.runs_in_order.ensures _ (files_of commands) c.args.scripts.schedule.items core follows in
-    let can = can_be_written g.C.Normalized.form _ commands ordered.0 core c.runs_can_be_written.ensures (search rules) c.requires.commands ordered.2 in
+    let can = can_be_written g.C.Normalized.form _ commands ordered.0 core c.runs_can_be_written.ensures (search rules) refl c.requires.commands ordered.2 in
     let sorted = in_order core c.sort_by_begin.new.self c.receipts.result.now c.pending-pending.result.items c.as_slice.result.now c.sort_by_begin.ensures.same c.sort_by_begin.ensures.order c.sort_by_begin.ensures.kept c.pending-pending.ensures.calls c.pending-pending.ensures.order c.receipts.ensures c.as_slice.ensures.value in
     let count : c.commands_of.result ≡ sum_by length (files_of commands) = c.commands_of.ensures.count ∙ ap (λ (l : List (Vec Op Global)). sum_by length (files_of l)) c.deref.ensures.value in
     omega (arith, few_lines core.state c.receipts.result.now c.as_slice.result.now sorted.lines sorted.calls _ can, count, c.in_ok-text.ensures.room)
@@ -29,7 +29,7 @@ write_report-requires-clause-report g c =
     let core = c.drive.new.core in
     let follows = driven g.C.Normalized.form _ commands c.args.scripts.schedule.items c.deref-2.result.now c.in_ok-core.core core c.in_ok-core.ensures.core c.deref-2.ensures.value c.drive.ensures.follows in
     let ordered = c.runs_in_order.ensures _ (files_of commands) c.args.scripts.schedule.items core follows in
-    let can = can_be_written g.C.Normalized.form _ commands ordered.0 core c.runs_can_be_written.ensures (search rules) c.requires.commands ordered.2 in
+    let can = can_be_written g.C.Normalized.form _ commands ordered.0 core c.runs_can_be_written.ensures (search rules) refl c.requires.commands ordered.2 in
     let sorted = in_order core c.sort_by_begin.new.self c.receipts.result.now c.pending-pending.result.items c.as_slice.result.now c.sort_by_begin.ensures.same c.sort_by_begin.ensures.order c.sort_by_begin.ensures.kept c.pending-pending.ensures.calls c.pending-pending.ensures.order c.receipts.ensures c.as_slice.ensures.value in
     can_write core.state c.receipts.result.now c.as_slice.result.now sorted.lines sorted.calls (Some 0) (omega arith) _ sorted.order sorted.opened can
 
@@ -39,7 +39,7 @@ returns g c =
     let core = c.drive.new.core in
     let follows = driven g.C.Normalized.form _ commands c.args.scripts.schedule.items c.deref-2.result.now c.in_ok-core.core core c.in_ok-core.ensures.core c.deref-2.ensures.value c.drive.ensures.follows in
     let ordered = c.runs_in_order.ensures _ (files_of commands) c.args.scripts.schedule.items core follows in
-    let can = can_be_written g.C.Normalized.form _ commands ordered.0 core c.runs_can_be_written.ensures (search rules) c.requires.commands ordered.2 in
+    let can = can_be_written g.C.Normalized.form _ commands ordered.0 core c.runs_can_be_written.ensures (search rules) refl c.requires.commands ordered.2 in
     let sorted = in_order core c.sort_by_begin.new.self c.receipts.result.now c.pending-pending.result.items c.as_slice.result.now c.sort_by_begin.ensures.same c.sort_by_begin.ensures.order c.sort_by_begin.ensures.kept c.pending-pending.ensures.calls c.pending-pending.ensures.order c.receipts.ensures c.as_slice.ensures.value in
     let mark = c.any_exhausted-exhausted.ensures ∙ ap (list_any (λ (r : Receipt). reply_is_exhausted r.reply)) (c.receipts-2.ensures ∙ sym c.receipts.ensures) in
     let written = text_is core.state c.receipts.result.now c.as_slice.result.now sorted.lines sorted.calls (Some 0) _ can in
@@ -51,9 +51,10 @@ returns g c =
         has_seats = omega (arith, c.len.ensures, c.args.scripts.commands.ok.0, length-map commands (λ (ops : Vec Op Global). ops.items));
         has_cap = refl;
         has_limit = refl;
+        unpublished = refl;
         made = ap (λ (v : CoreView _ _). report_of_run v.state) ordered.2;
       };
-      headline = c.files_meet_headline.ensures _ (files_of commands) ordered.0 (files_fit g.C.Normalized.form.client _ commands (search rules) c.requires.commands);
+      headline = c.files_meet_headline.ensures _ (files_of commands) ordered.0 (files_fit g.C.Normalized.form.client _ commands (search rules) c.requires.commands) refl;
       text_is = record {
         written = c.write_report.ensures.text ∙ ap (λ l. l ++ report_text (report_of c.receipts.result.now c.as_slice.result.now) (Some 0)) c.in_ok-text.ensures.empty ∙ written;
         marked = marked core.state c.receipts.result.now c.as_slice.result.now sorted.lines sorted.calls c.any_exhausted-exhausted.result mark;

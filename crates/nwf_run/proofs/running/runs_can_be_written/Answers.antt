@@ -11,5 +11,5 @@ returns g c =
     let form = g.C.Normalized.form in
     let laws = g.met.C.Normalized.laws in
     writable.runs_can_be_written form
-    (λ setup files order fit. (counters_kept form laws setup (moves_over form setup files order) (files_run form setup files order fit).follow).0)
+    (λ setup files order fit quiet. (counters_kept form laws setup (moves_over form setup files order) (files_run form setup files order fit).follow quiet).0)
     (replies_all_fit form laws (each_placeable form laws))

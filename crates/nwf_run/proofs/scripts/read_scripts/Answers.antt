@@ -1,4 +1,4 @@
-use Rattle.std.proofs.Common.{rules, ◌≡◌, ◌+◌, ◌∷◌, ℕ, IsTrue, List, Some, Ok, Err, IsSomeAnd, Vec, length, map, string_bytes, refl, subst, sym, ap, ◌∙◌}
+use Rattle.std.proofs.Common.{rules, ◌≡◌, ◌+◌, ℕ, List, Err, Vec, length, subst, sym}
 use Rattle.std.specs.Global.{Global}
 use Rattle.lin_report.specs.declared.calls.Op.{Op}
 use Rattle.nwf_run.specs.declared.judging.Scripts.{Scripts}

@@ -1,4 +1,4 @@
-use Rattle.std.proofs.Common.{rules, ◌≡◌, ◌++◌, List, [], length, map, None, Vec, IsPermutation, refl, sym, ap, ◌∙◌, subst, arith}
+use Rattle.std.proofs.Common.{rules, ◌≡◌, ◌++◌, List, [], length, None, Vec, IsPermutation, refl, sym, ap, ◌∙◌, subst, arith}
 use Rattle.std.specs.Prelude.{sum_by}
 use Rattle.std.specs.List.{list_any}
 use Rattle.std.specs.Global.{Global}
@@ -20,8 +20,8 @@ write_report-requires-clause-room g c =
     let commands : List (Vec Op Global) = c.args.commands.items in
     let files = files_of commands in
     let fit = files_fit form.client _ commands (search rules) c.requires.commands in
-    let meets = c.threads_meet_headline.ensures _ files c.in_ok-lines.lines.items _ _ fit.count c.in_ok-lines.ensures.run in
-    let can = c.runs_can_be_written.ensures _ files meets.order fit in
+    let meets = c.threads_meet_headline.ensures _ files c.in_ok-lines.lines.items _ _ fit.count refl c.in_ok-lines.ensures.run in
+    let can = c.runs_can_be_written.ensures _ files meets.order fit refl in
     let moved = subst (IsPermutation c.in_ok-lines.lines.items) (sym c.deref-2.ensures.value) c.sort_unstable_by_key.ensures.permutation in
     let order = subst (IsNonDecreasingBy (λ (r : Receipt). r.begin)) (sym c.deref-2.ensures.value) (IsNonDecreasingBy-from_sort_by_key (λ (r : Receipt). r.begin) _ c.sort_unstable_by_key.ensures.sorted (λ a r q k. search rules)) in
     let sorted = sorted_lines form _ files c.in_ok-lines.lines.items _ _ meets c.deref-2.result.now moved order in
@@ -35,8 +35,8 @@ write_report-requires-clause-report g c =
     let commands : List (Vec Op Global) = c.args.commands.items in
     let files = files_of commands in
     let fit = files_fit form.client _ commands (search rules) c.requires.commands in
-    let meets = c.threads_meet_headline.ensures _ files c.in_ok-lines.lines.items _ _ fit.count c.in_ok-lines.ensures.run in
-    let can = c.runs_can_be_written.ensures _ files meets.order fit in
+    let meets = c.threads_meet_headline.ensures _ files c.in_ok-lines.lines.items _ _ fit.count refl c.in_ok-lines.ensures.run in
+    let can = c.runs_can_be_written.ensures _ files meets.order fit refl in
     let moved = subst (IsPermutation c.in_ok-lines.lines.items) (sym c.deref-2.ensures.value) c.sort_unstable_by_key.ensures.permutation in
     let order = subst (IsNonDecreasingBy (λ (r : Receipt). r.begin)) (sym c.deref-2.ensures.value) (IsNonDecreasingBy-from_sort_by_key (λ (r : Receipt). r.begin) _ c.sort_unstable_by_key.ensures.sorted (λ a r q k. search rules)) in
     let sorted = sorted_lines form _ files c.in_ok-lines.lines.items _ _ meets c.deref-2.result.now moved order in
@@ -49,8 +49,8 @@ returns g c =
     let commands : List (Vec Op Global) = c.args.commands.items in
     let files = files_of commands in
     let fit = files_fit form.client _ commands (search rules) c.requires.commands in
-    let meets = c.threads_meet_headline.ensures _ files c.in_ok-lines.lines.items _ _ fit.count c.in_ok-lines.ensures.run in
-    let can = c.runs_can_be_written.ensures _ files meets.order fit in
+    let meets = c.threads_meet_headline.ensures _ files c.in_ok-lines.lines.items _ _ fit.count refl c.in_ok-lines.ensures.run in
+    let can = c.runs_can_be_written.ensures _ files meets.order fit refl in
     let moved = subst (IsPermutation c.in_ok-lines.lines.items) (sym c.deref-2.ensures.value) c.sort_unstable_by_key.ensures.permutation in
     let order = subst (IsNonDecreasingBy (λ (r : Receipt). r.begin)) (sym c.deref-2.ensures.value) (IsNonDecreasingBy-from_sort_by_key (λ (r : Receipt). r.begin) _ c.sort_unstable_by_key.ensures.sorted (λ a r q k. search rules)) in
     let sorted = sorted_lines form _ files c.in_ok-lines.lines.items _ _ meets c.deref-2.result.now moved order in
@@ -64,6 +64,7 @@ returns g c =
           has_seats = omega (arith, c.len.ensures, c.args.commands.ok.0, length-map commands (λ (ops : Vec Op Global). ops.items));
           has_cap = refl;
           has_limit = refl;
+          unpublished = refl;
           made = refl;
         };
         whole = whole_run form _ files c.in_ok-lines.lines.items _ _ meets (all_lines form _ files c.in_ok-lines.lines.items _ _ fit.count c.in_ok-lines.ensures.run);
