@@ -9,7 +9,7 @@ use Rattle.nwf_run.specs.Replaying.{Ends, IsRunFor, Makes, OpensAll, OpensFor, t
 use Rattle.nwf_run.specs.Replaying.Reports.{wrote, failed}
 use Rattle.nwf_run.specs.Runs.{Exhausts, FilesRun, RunMeetsHeadline}
 use Rattle.nwf_run.specs.Stops.{status_of}
-use Rattle.nwf_run.specs.Words.{Asked, structure_of}
+use Rattle.nwf_run.specs.Words.{Asked, client_asked}
 use Rattle.nwf_run.specs.Words.Asked.{a_replay, a_load, a_run}
 use Rattle.nwf_run.proofs.JudgedFiles.{there-weaker}
 
@@ -34,7 +34,7 @@ module _ (tells : Bool) (held : List ℕ → Option (List ℕ)) (words : Option 
 
   -- a text was written whole, and no call of the run found no block left
   abbrev Done : Type 0
-  Done = IsSomeAnd words (λ a. (run : FilesRun) × IsRunFor tells held a run × RunMeetsHeadline (structure_of a) run × (¬ Exhausts run.report) × Appends written written' (text_for a run.report))
+  Done = IsSomeAnd words (λ a. (run : FilesRun) × IsRunFor tells held a run × RunMeetsHeadline (client_asked a) run × (¬ Exhausts run.report) × Appends written written' (text_for a run.report))
 
   pub done : (answer : Result Replayed Stop) → Made answer → Ends written written' faults faults' status answer → status ≡ 0 → Done
   done (Err stop) made ends none = absurd (not_report stop status ends.0 (inl none))
@@ -44,7 +44,7 @@ module _ (tells : Bool) (held : List ℕ → Option (List ℕ)) (words : Option 
 
   -- a text was written whole, and a call of the run found no block left
   abbrev Exhausted : Type 0
-  Exhausted = IsSomeAnd words (λ a. (run : FilesRun) × IsRunFor tells held a run × RunMeetsHeadline (structure_of a) run × Exhausts run.report × Appends written written' (text_for a run.report))
+  Exhausted = IsSomeAnd words (λ a. (run : FilesRun) × IsRunFor tells held a run × RunMeetsHeadline (client_asked a) run × Exhausts run.report × Appends written written' (text_for a run.report))
 
   pub exhausted : (answer : Result Replayed Stop) → Made answer → Ends written written' faults faults' status answer → status ≡ 7 → Exhausted
   exhausted (Err stop) made ends seven = absurd (not_report stop status ends.0 (inr (inr seven)))
@@ -54,7 +54,7 @@ module _ (tells : Bool) (held : List ℕ → Option (List ℕ)) (words : Option 
 
   -- the first bytes of a text were written
   abbrev Cut : Type 0
-  Cut = IsSomeAnd words (λ a. (run : FilesRun) × IsRunFor tells held a run × RunMeetsHeadline (structure_of a) run × AppendsPrefix written written' (text_for a run.report))
+  Cut = IsSomeAnd words (λ a. (run : FilesRun) × IsRunFor tells held a run × RunMeetsHeadline (client_asked a) run × AppendsPrefix written written' (text_for a run.report))
 
   pub cut : (answer : Result Replayed Stop) → Made answer → Ends written written' faults faults' status answer → status ≡ 5 → Cut
   cut (Err stop) made ends five = absurd (not_report stop status ends.0 (inr (inl five)))

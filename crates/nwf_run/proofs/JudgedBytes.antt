@@ -9,8 +9,7 @@ use Rattle.script_reader.specs.Schedules.{schedule_outcome}
 use Rattle.script_reader.specs.Scripts.{script_outcome}
 use Rattle.nwf_run.specs.declared.stops.NoReport.{NoReport}
 use Rattle.nwf_run.specs.declared.stops.NoReport.TheVariants.{Refused, NoMemory}
-use Rattle.nwf_run.specs.declared.words.Served.{Served}
-use Rattle.nwf_run.specs.Words.{client_of}
+use Rattle.lin_report.specs.declared.calls.Client.{Client}
 use Rattle.nwf_run.specs.Judging.{IsFirstRefused, IsJudged, IsReason, SayFirst, files_of_bytes}
 use Rattle.nwf_run.proofs.JudgedFiles.{back, counted, refused_after, refused_next}
 
@@ -26,10 +25,10 @@ file_at schedule files k d within =
     ∙ ap (λ (bytes : List ℕ). Some bytes) (get_or-map bytes_of files k d [] within)
 
 -- the schedule and the first command files are accepted, and the next one has no commands
-pub reason_next : (served : Served) (seats : ℕ) (files : ℕ → Option (List ℕ)) (entries : List ScheduleEntry) → IsSomeAnd (files 0) (λ bytes. schedule_outcome seats bytes ≡ Ok entries)
-    → (commands : List (List Op)) → SayFirst served seats files commands → length commands + 1 ≤ seats → (bytes : List ℕ) → files (length commands + 1) ≡ Some bytes
-    → (why : NoReport) → IsJudged {X = Op} (script_outcome (client_of served) bytes) (length commands + 1) (Err why) → IsReason served seats files why
-reason_next served seats files entries schedule commands say few bytes at (Refused file refusal) judged =
-    subst (λ n. IsFirstRefused served seats files 0 n refusal) (sym judged.0)
-    (refused_after served seats files entries schedule (length commands + 1) refusal (refused_next served seats files commands refusal say few (subst (λ o. IsSomeAnd o (λ b. script_outcome (client_of served) b ≡ Err refusal)) (sym at) judged.1)))
-reason_next served seats files entries schedule commands say few bytes at NoMemory judged = tt
+pub reason_next : (client : Client) (seats : ℕ) (files : ℕ → Option (List ℕ)) (entries : List ScheduleEntry) → IsSomeAnd (files 0) (λ bytes. schedule_outcome seats bytes ≡ Ok entries)
+    → (commands : List (List Op)) → SayFirst client seats files commands → length commands + 1 ≤ seats → (bytes : List ℕ) → files (length commands + 1) ≡ Some bytes
+    → (why : NoReport) → IsJudged {X = Op} (script_outcome client bytes) (length commands + 1) (Err why) → IsReason client seats files why
+reason_next client seats files entries schedule commands say few bytes at (Refused file refusal) judged =
+    subst (λ n. IsFirstRefused client seats files 0 n refusal) (sym judged.0)
+    (refused_after client seats files entries schedule (length commands + 1) refusal (refused_next client seats files commands refusal say few (subst (λ o. IsSomeAnd o (λ b. script_outcome client b ≡ Err refusal)) (sym at) judged.1)))
+reason_next client seats files entries schedule commands say few bytes at NoMemory judged = tt

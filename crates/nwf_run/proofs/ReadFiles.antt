@@ -15,7 +15,7 @@ use Rattle.nwf_run.specs.Judging.{AcceptedBefore, IsJudged, SayFirst, refusal_in
 use Rattle.nwf_run.specs.Outside.{Opening}
 use Rattle.nwf_run.specs.Reading.{FileReads, Opens, OpensUntil, StopsAt, files_by_name, first_of, name_of, openings}
 use Rattle.nwf_run.specs.Stops.{stop_for}
-use Rattle.nwf_run.specs.Words.{Replay, client_of}
+use Rattle.nwf_run.specs.Words.{Replay}
 use Rattle.nwf_run.proofs.JudgedFiles.{back, counted, commands_accepted, after_schedule, refused_after, refused_next, refused_schedule}
 
 -- what was judged of the bytes that were read is judged of the file
@@ -48,21 +48,21 @@ module _ (replay : Replay) where
 
 module _ (tells : Bool) (held : List ℕ → Option (List ℕ)) (replay : Replay) where
   -- the first command files were accepted, and reading stopped at the next one
-  pub stops_next : (commands : List (List Op)) → (IsTrue tells → SayFirst replay.served (length replay.files) (files_by_name held (alone replay)) commands) → length commands < length replay.files
-      → (stop : Stop) → FileReads {X = Op} tells (script_outcome (client_of replay.served)) (length commands + 1) (held (get_or replay.files (length commands) [])) (Err stop) → StopsAt tells held (alone replay) stop
+  pub stops_next : (commands : List (List Op)) → (IsTrue tells → SayFirst replay.client (length replay.files) (files_by_name held (alone replay)) commands) → length commands < length replay.files
+      → (stop : Stop) → FileReads {X = Op} tells (script_outcome replay.client) (length commands + 1) (held (get_or replay.files (length commands) [])) (Err stop) → StopsAt tells held (alone replay) stop
   stops_next commands say within (Refused file refusal) read =
       let at : length commands + 1 ≡ file = sym read.0 in
       let named : held (get_or replay.files (length commands) []) ≡ files_by_name held (alone replay) (length commands + 1) = ap held (sym (name_at (alone replay) (length commands))) in
       subst (λ n. StopsAt tells held (alone replay) (Refused n refusal)) at (record {
         from = omega arith;
         within = omega (arith, within);
-        first = λ t. refused_next replay.served (length replay.files) (files_by_name held (alone replay)) commands refusal (say t) (omega (arith, within)) (subst (λ o. IsSomeAnd o (λ bytes. script_outcome (client_of replay.served) bytes ≡ Err refusal)) named (read.1 t));
+        first = λ t. refused_next replay.client (length replay.files) (files_by_name held (alone replay)) commands refusal (say t) (omega (arith, within)) (subst (λ o. IsSomeAnd o (λ bytes. script_outcome replay.client bytes ≡ Err refusal)) named (read.1 t));
       })
   stops_next commands say within (ReadFault file) read =
       subst (λ n. StopsAt tells held (alone replay) (ReadFault n)) (sym read) (record {
         from = omega arith;
         within = omega (arith, within);
-        before = λ t. commands_accepted replay.served (length replay.files) (files_by_name held (alone replay)) commands (say t);
+        before = λ t. commands_accepted replay.client (length replay.files) (files_by_name held (alone replay)) commands (say t);
       })
   stops_next commands say within NoMemory read = tt
   stops_next commands say within Usage read = read
@@ -78,7 +78,7 @@ module _ (tells : Bool) (held : List ℕ → Option (List ℕ)) (replay : Replay
     pub stops_first : (stop : Stop) → FileReads {X = ScheduleEntry} tells (schedule_outcome seats) 0 (held schedule) (Err stop) → StopsAt tells held (behind replay schedule) stop
     stops_first (Refused file refusal) read =
         let at : 0 ≡ file = sym read.0 in
-        subst (λ n. StopsAt tells held (behind replay schedule) (Refused n refusal)) at (record { from = omega arith; within = omega arith; first = λ t. refused_schedule replay.served seats files refusal (read.1 t) })
+        subst (λ n. StopsAt tells held (behind replay schedule) (Refused n refusal)) at (record { from = omega arith; within = omega arith; first = λ t. refused_schedule replay.client seats files refusal (read.1 t) })
     stops_first (ReadFault file) read =
         subst (λ n. StopsAt tells held (behind replay schedule) (ReadFault n)) (sym read) (record { from = omega arith; within = omega arith; before = λ t earlier from below. absurd (omega (arith, below)) })
     stops_first NoMemory read = tt
@@ -88,11 +88,11 @@ module _ (tells : Bool) (held : List ℕ → Option (List ℕ)) (replay : Replay
     same_file file from = ap held (same_name replay schedule file from)
 
     -- what the command files say they say behind the schedule
-    pub say_behind : (commands : List (List Op)) → SayFirst replay.served seats (files_by_name held (alone replay)) commands → SayFirst replay.served seats files commands
-    say_behind commands say k below = subst (λ (o : Option (List ℕ)). IsSomeAnd o (λ bytes. script_outcome (client_of replay.served) bytes ≡ Ok (get_or commands k []))) (same_file (k + 1) (omega arith)) (say k below)
+    pub say_behind : (commands : List (List Op)) → SayFirst replay.client seats (files_by_name held (alone replay)) commands → SayFirst replay.client seats files commands
+    say_behind commands say k below = subst (λ (o : Option (List ℕ)). IsSomeAnd o (λ bytes. script_outcome replay.client bytes ≡ Ok (get_or commands k []))) (same_file (k + 1) (omega arith)) (say k below)
 
-    accepted_behind : (file : ℕ) → AcceptedBefore replay.served seats (files_by_name held (alone replay)) 1 file → AcceptedBefore replay.served seats files 1 file
-    accepted_behind file each earlier from below = subst (λ (o : Option (List ℕ)). IsSomeAnd o (λ bytes. refusal_in replay.served seats earlier bytes ≡ None)) (same_file earlier from) (each earlier from below)
+    accepted_behind : (file : ℕ) → AcceptedBefore replay.client seats (files_by_name held (alone replay)) 1 file → AcceptedBefore replay.client seats files 1 file
+    accepted_behind file each earlier from below = subst (λ (o : Option (List ℕ)). IsSomeAnd o (λ bytes. refusal_in replay.client seats earlier bytes ≡ None)) (same_file earlier from) (each earlier from below)
 
     -- the schedule was accepted, and reading stopped at a command file
     pub stops_behind : (entries : List ScheduleEntry) → (IsTrue tells → IsSomeAnd (held schedule) (λ bytes. schedule_outcome seats bytes ≡ Ok entries)) → (stop : Stop) → StopsAt tells held (alone replay) stop → StopsAt tells held (behind replay schedule) stop
@@ -101,17 +101,17 @@ module _ (tells : Bool) (held : List ℕ → Option (List ℕ)) (replay : Replay
       within = h.within;
       first = λ t.
           let r = h.first t in
-          refused_after replay.served seats files entries (accepted t) file refusal (record {
+          refused_after replay.client seats files entries (accepted t) file refusal (record {
             from = r.from;
             within = r.within;
-            refused = subst (λ (o : Option (List ℕ)). IsSomeAnd o (λ bytes. refusal_in replay.served seats file bytes ≡ Some refusal)) (same_file file r.from) r.refused;
+            refused = subst (λ (o : Option (List ℕ)). IsSomeAnd o (λ bytes. refusal_in replay.client seats file bytes ≡ Some refusal)) (same_file file r.from) r.refused;
             before = accepted_behind file r.before;
           });
     }
     stops_behind entries accepted (ReadFault file) h = record {
       from = omega arith;
       within = h.within;
-      before = λ t. after_schedule replay.served seats files entries (accepted t) file (accepted_behind file (h.before t));
+      before = λ t. after_schedule replay.client seats files entries (accepted t) file (accepted_behind file (h.before t));
     }
     stops_behind entries accepted NoMemory h = tt
     stops_behind entries accepted Usage h = h

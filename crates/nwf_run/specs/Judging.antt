@@ -10,25 +10,24 @@ use Rattle.script_reader.specs.Schedules.{schedule_outcome}
 use Rattle.script_reader.specs.Scripts.{script_outcome}
 use Rattle.nwf_run.specs.declared.stops.NoReport.{NoReport}
 use Rattle.nwf_run.specs.declared.stops.NoReport.TheVariants.{Refused, NoMemory}
-use Rattle.nwf_run.specs.declared.words.Served.{Served}
-use Rattle.nwf_run.specs.Words.{client_of}
+use Rattle.lin_report.specs.declared.calls.Client.{Client}
 
 -- why the grammar refuses the bytes of a file, if it does
-abbrev pub refusal_in : Served → ℕ → ℕ → List ℕ → Option Refusal
-refusal_in served seats file bytes =
+abbrev pub refusal_in : Client → ℕ → ℕ → List ℕ → Option Refusal
+refusal_in client seats file bytes =
     if file == 0 then result_err (schedule_outcome seats bytes)
-    else result_err (script_outcome (client_of served) bytes)
+    else result_err (script_outcome client bytes)
 
-module _ (served : Served) (seats : ℕ) (files : ℕ → Option (List ℕ)) where
+module _ (client : Client) (seats : ℕ) (files : ℕ → Option (List ℕ)) where
   -- each file from the first one on, and before this one, is there and accepted
   abbrev pub AcceptedBefore : ℕ → ℕ → Type 0
-  AcceptedBefore first file = (earlier : ℕ) → first ≤ earlier → earlier < file → IsSomeAnd (files earlier) (λ bytes. refusal_in served seats earlier bytes ≡ None)
+  AcceptedBefore first file = (earlier : ℕ) → first ≤ earlier → earlier < file → IsSomeAnd (files earlier) (λ bytes. refusal_in client seats earlier bytes ≡ None)
 
   -- this file is there and refused, and each one from the first on, and before it, is there and accepted
   pub record IsFirstRefused (first file : ℕ) (refusal : Refusal) : Type 0 where
     pub from : first ≤ file
     pub within : file ≤ seats
-    pub refused : IsSomeAnd (files file) (λ bytes. refusal_in served seats file bytes ≡ Some refusal)
+    pub refused : IsSomeAnd (files file) (λ bytes. refusal_in client seats file bytes ≡ Some refusal)
     pub before : AcceptedBefore first file
 
   -- why there is no report of the files from the schedule on: one of them is the first that is refused, or there
@@ -40,7 +39,7 @@ module _ (served : Served) (seats : ℕ) (files : ℕ → Option (List ℕ)) whe
   -- the first command files are there, and have these commands
   abbrev pub SayFirst : List (List Op) → Type 0
   SayFirst commands =
-      (k : ℕ) → k < length commands → IsSomeAnd (files (k + 1)) (λ bytes. script_outcome (client_of served) bytes ≡ Ok (slice_index_or commands k []))
+      (k : ℕ) → k < length commands → IsSomeAnd (files (k + 1)) (λ bytes. script_outcome client bytes ≡ Ok (slice_index_or commands k []))
 
   -- all files are there and accepted: these are the entries of the schedule and the commands of the command files
   pub record Accepts (entries : List ScheduleEntry) (commands : List (List Op)) : Type 0 where

@@ -2,6 +2,7 @@ pub mod Outside
 pub mod MemoryFiles
 pub mod MemorySink
 pub mod Words
+pub mod Forms
 pub mod Stops
 pub mod Said
 pub mod Judging

@@ -2,17 +2,12 @@
 use Rattle.std.specs.Prelude.{◌≡◌, ℕ, ◌*◌, Bool, List, Some}
 use Rattle.lin_report.specs.Text.{summary_text}
 use Rattle.normal_traits.specs.NormalForm.{NormalForm}
-use Rattle.queue_laws.specs.Form.{queue_form}
-use Rattle.list_laws.specs.Lists.{the_list}
-use Rattle.list_laws.specs.Form.{list_form}
 use Rattle.run_history.specs.Headline.{MeetsHeadline}
 use Rattle.generated_files.specs.Generated.{generated_files}
 use Rattle.schedule_runs.specs.Rounds.{rounds}
 use Rattle.nwf_run.specs.declared.load_words.LoadWords.{LoadWords}
-use Rattle.nwf_run.specs.declared.words.Served.{Served}
-use Rattle.nwf_run.specs.declared.words.Served.TheVariants as served
-use Rattle.nwf_run.specs.Words.{client_of}
-use Rattle.nwf_run.specs.Runs.{FilesRun, IsRun, IsRunOf, IsTextOf}
+use Rattle.nwf_run.specs.Forms.{form_of}
+use Rattle.nwf_run.specs.Runs.{FilesRun, IsRun, IsTextOf}
 
 -- how many rounds there are at most for each call of a seat
 abbrev pub ROUNDS_OF_A_CALL : ℕ
@@ -21,9 +16,9 @@ ROUNDS_OF_A_CALL = 16384
 -- the run is that of a load: each of its seats makes the calls that are generated for it, and they take turns, in as
 -- many rounds as there may be
 pub record IsLoadOf (load : LoadWords) (run : FilesRun) : Type 0 where
-  pub generated : run.commands ≡ generated_files (client_of load.served) load.seed load.threads load.calls
+  pub generated : run.commands ≡ generated_files load.client load.seed load.threads load.calls
   pub in_rounds : run.order ≡ rounds load.threads (load.calls * ROUNDS_OF_A_CALL)
-  pub runs : IsRunOf load.served load.cap load.limit run
+  pub runs : IsRun (form_of load.client) load.cap load.limit run
 
 -- the text is the summary of the run of a load of this structure, which meets the headline
 pub record IsLoaded {S W : Type 0} (form : NormalForm S W) (load : LoadWords) (text : List ℕ) (exhausted : Bool) : Type 0 where
@@ -33,8 +28,3 @@ pub record IsLoaded {S W : Type 0} (form : NormalForm S W) (load : LoadWords) (t
   pub is : IsRun form load.cap load.limit run
   pub headline : MeetsHeadline form run.setup run.commands run.order
   pub text_is : IsTextOf run.report (summary_text run.report (Some 0)) text exhausted
-
--- the same, of the structure with this name
-abbrev pub MakesSummary : Served → LoadWords → List ℕ → Bool → Type 0
-MakesSummary served.Queue load text exhausted = IsLoaded queue_form load text exhausted
-MakesSummary served.List load text exhausted = IsLoaded (list_form the_list) load text exhausted

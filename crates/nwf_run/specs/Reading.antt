@@ -25,13 +25,13 @@ files_by_name held replay file = held (name_of replay file)
 pub record Refuses (tells : Bool) (held : List ℕ → Option (List ℕ)) (replay : Replay) (file : ℕ) (refusal : Refusal) : Type 0 where
   pub from : first_of replay ≤ file
   pub within : file ≤ length replay.files
-  pub first : IsTrue tells → IsFirstRefused replay.served (length replay.files) (files_by_name held replay) (first_of replay) file refusal
+  pub first : IsTrue tells → IsFirstRefused replay.client (length replay.files) (files_by_name held replay) (first_of replay) file refusal
 
 -- a file is reached; where bytes are told, each one before it is there and accepted
 pub record Reaches (tells : Bool) (held : List ℕ → Option (List ℕ)) (replay : Replay) (file : ℕ) : Type 0 where
   pub from : first_of replay ≤ file
   pub within : file ≤ length replay.files
-  pub before : IsTrue tells → AcceptedBefore replay.served (length replay.files) (files_by_name held replay) (first_of replay) file
+  pub before : IsTrue tells → AcceptedBefore replay.client (length replay.files) (files_by_name held replay) (first_of replay) file
 
 -- why reading stopped
 abbrev pub StopsAt : Bool → (List ℕ → Option (List ℕ)) → Replay → Stop → Type 0

@@ -4,27 +4,29 @@ use Rattle.std.specs.Io.KnownBytes.{Appends}
 use Rattle.lin_report.specs.Calls.{Report}
 use Rattle.lin_report.specs.Text.{report_text, summary_text}
 use Rattle.script_reader.specs.declared.schedules.ScheduleEntry.{ScheduleEntry}
+use Rattle.schedule_runs.specs.Orders.{IsOrderOf}
 use Rattle.nwf_run.specs.declared.running.Replayed.{Replayed}
 use Rattle.nwf_run.specs.declared.stops.Stop.{Stop}
 use Rattle.nwf_run.specs.declared.stops.Stop.TheVariants.{Usage, NoMemory}
+use Rattle.nwf_run.specs.Forms.{form_of}
 use Rattle.nwf_run.specs.Judging.{Accepts}
 use Rattle.nwf_run.specs.Loads.{IsLoadOf}
 use Rattle.nwf_run.specs.Outside.{Opening, Rose, AppendsPrefix}
 use Rattle.nwf_run.specs.Reading.{files_by_name, Opens, OpensUntil, StopsAt}
 use Rattle.nwf_run.specs.Running.{IsRunOfFiles}
-use Rattle.nwf_run.specs.Runs.{FilesRun, IsNamedBy, IsRunOf, IsTextOf, RunMeetsHeadline}
+use Rattle.nwf_run.specs.Runs.{FilesRun, IsRun, IsTextOf, RunMeetsHeadline}
 use Rattle.nwf_run.specs.Stops.{status_of, message_of}
-use Rattle.nwf_run.specs.Words.{Asked, Replay, structure_of}
+use Rattle.nwf_run.specs.Words.{Asked, Replay, client_asked}
 use Rattle.nwf_run.specs.Words.Asked.{a_replay, a_load, a_run}
 
 -- the run is that of the replay: of the commands of its files, in the order that its schedule names; where bytes are
 -- told, the files are all there and accepted
 pub record IsReplayOf (tells : Bool) (held : List ℕ → Option (List ℕ)) (replay : Replay) (run : FilesRun) : Type 0 where
   pub entries : List ScheduleEntry
-  pub accepted : IsTrue tells → Accepts replay.served (length replay.files) (files_by_name held replay) entries run.commands
+  pub accepted : IsTrue tells → Accepts replay.client (length replay.files) (files_by_name held replay) entries run.commands
   pub seats : length run.commands ≡ length replay.files
-  pub named : IsNamedBy replay.served entries run
-  pub runs : IsRunOf replay.served replay.cap replay.limit run
+  pub named : IsOrderOf (form_of replay.client) run.setup run.commands entries run.order
+  pub runs : IsRun (form_of replay.client) replay.cap replay.limit run
 
 -- the run is the one that is asked for
 abbrev pub IsRunFor : Bool → (List ℕ → Option (List ℕ)) → Asked → FilesRun → Type 0
@@ -43,7 +45,7 @@ text_for (a_run r) report = report_text report None
 pub record Makes (tells : Bool) (held : List ℕ → Option (List ℕ)) (asked : Asked) (text : List ℕ) (exhausted : Bool) : Type 0 where
   pub run : FilesRun
   pub is : IsRunFor tells held asked run
-  pub headline : RunMeetsHeadline (structure_of asked) run
+  pub headline : RunMeetsHeadline (client_asked asked) run
   pub text_is : IsTextOf run.report (text_for asked run.report) text exhausted
 
 -- why a call stops: its words ask for nothing that is served, or reading stopped at a file, or a load had no memory

@@ -3,16 +3,12 @@ use Rattle.std.specs.Prelude.{◌≡◌, ℕ, Bool, IsTrue, List, [], length, su
 use Rattle.lin_report.specs.declared.calls.Op.{Op}
 use Rattle.lin_report.specs.Text.{report_text}
 use Rattle.normal_traits.specs.NormalForm.{NormalForm}
-use Rattle.queue_laws.specs.Form.{queue_form}
-use Rattle.list_laws.specs.Lists.{the_list}
-use Rattle.list_laws.specs.Form.{list_form}
 use Rattle.run_history.specs.Headline.{MeetsHeadline}
+use Rattle.nwf_run.specs.Forms.{form_of}
 use Rattle.nwf_run.specs.Judging.{SayFirst}
 use Rattle.nwf_run.specs.Reading.{files_by_name}
 use Rattle.nwf_run.specs.Runs.{FilesRun, IsRun, IsTextOf}
 use Rattle.nwf_run.specs.Words.{Replay}
-use Rattle.nwf_run.specs.declared.words.Served.{Served}
-use Rattle.nwf_run.specs.declared.words.Served.TheVariants as served
 
 -- the run is that of its commands, in the order in which the threads came to make its steps, of which nothing else is
 -- known; each command was made and answered
@@ -20,11 +16,6 @@ pub record IsThreadRun {S W : Type 0} (form : NormalForm S W) (cap limit : ℕ) 
   pub runs : IsRun form cap limit run
   pub whole : length run.report.receipts ≡ sum_by length run.commands
   pub over : run.report.pending ≡ []
-
--- the same, of the structure with this name
-abbrev pub IsThreadRunOf : Served → ℕ → ℕ → FilesRun → Type 0
-IsThreadRunOf served.Queue cap limit run = IsThreadRun queue_form cap limit run
-IsThreadRunOf served.List cap limit run = IsThreadRun (list_form the_list) cap limit run
 
 -- the text is that of the report of a run of these commands, and the run meets the headline
 pub record IsThreaded {S W : Type 0} (form : NormalForm S W) (cap limit : ℕ) (commands : List (List Op)) (text : List ℕ) (exhausted : Bool) : Type 0 where
@@ -34,13 +25,8 @@ pub record IsThreaded {S W : Type 0} (form : NormalForm S W) (cap limit : ℕ) (
   pub headline : MeetsHeadline form run.setup run.commands run.order
   pub text_is : IsTextOf run.report (report_text run.report None) text exhausted
 
--- the same, of the structure with this name
-abbrev pub MakesThreadReport : Served → ℕ → ℕ → List (List Op) → List ℕ → Bool → Type 0
-MakesThreadReport served.Queue cap limit commands text exhausted = IsThreaded queue_form cap limit commands text exhausted
-MakesThreadReport served.List cap limit commands text exhausted = IsThreaded (list_form the_list) cap limit commands text exhausted
-
 -- the run is one of named command files, which are all there and accepted where bytes are told
 pub record IsRunOfFiles (tells : Bool) (held : List ℕ → Option (List ℕ)) (words : Replay) (run : FilesRun) : Type 0 where
-  pub accepted : IsTrue tells → SayFirst words.served (length words.files) (files_by_name held words) run.commands
+  pub accepted : IsTrue tells → SayFirst words.client (length words.files) (files_by_name held words) run.commands
   pub seats : length run.commands ≡ length words.files
-  pub runs : IsThreadRunOf words.served words.cap words.limit run
+  pub runs : IsThreadRun (form_of words.client) words.cap words.limit run

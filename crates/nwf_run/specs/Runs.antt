@@ -1,24 +1,20 @@
 -- Runs of command files and their reports, and what every such run meets.
 use Rattle.std.specs.Prelude.{◌≡◌, ℕ, ◌↔◌, Bool, true, false, List, length, Some, Any}
+use Rattle.lin_report.specs.declared.calls.Client.{Client}
 use Rattle.lin_report.specs.declared.calls.Op.{Op}
 use Rattle.lin_report.specs.declared.calls.Receipt.{Receipt}
 use Rattle.lin_report.specs.declared.calls.Reply.TheVariants.{Exhausted}
 use Rattle.lin_report.specs.Calls.{Report}
 use Rattle.lin_report.specs.Text.{report_text}
 use Rattle.script_reader.specs.declared.schedules.ScheduleEntry.{ScheduleEntry}
-use Rattle.normal_traits.specs.AtOnce.{ChangesAtOnce}
 use Rattle.normal_traits.specs.NormalForm.{NormalForm}
-use Rattle.queue_laws.specs.Form.{queue_form}
-use Rattle.list_laws.specs.Lists.{the_list}
-use Rattle.list_laws.specs.Form.{list_form}
 use Rattle.fast_slow_engine.specs.declared.setup.Setup.{Setup}
 use Rattle.fast_slow_engine.specs.Runs.{moves_over, run_of}
 use Rattle.fast_slow_engine.specs.Reports.{report_of_run}
 use Rattle.run_history.specs.Headline.{MeetsHeadline}
 use Rattle.schedule_runs.specs.Orders.{IsOrderOf}
+use Rattle.nwf_run.specs.Forms.{AtOnceButTheTree, form_of}
 use Rattle.nwf_run.specs.Judging.{Accepts, files_of_bytes}
-use Rattle.nwf_run.specs.declared.words.Served.{Served}
-use Rattle.nwf_run.specs.declared.words.Served.TheVariants as served
 
 -- a run of command files, and its report
 pub record FilesRun : Type 0 where
@@ -38,21 +34,11 @@ pub record IsRun {S W : Type 0} (form : NormalForm S W) (cap limit : ℕ) (run :
   pub unpublished : run.setup.publishes ≡ false
   pub made : run.report ≡ report_of_run (run_of form run.setup (moves_over form run.setup run.commands run.order))
 
--- the same, of the structure with this name
-abbrev pub IsRunOf : Served → ℕ → ℕ → FilesRun → Type 0
-IsRunOf served.Queue cap limit run = IsRun queue_form cap limit run
-IsRunOf served.List cap limit run = IsRun (list_form the_list) cap limit run
-
--- its order is the one that the entries of a schedule name for its commands
-abbrev pub IsNamedBy : Served → List ScheduleEntry → FilesRun → Type 0
-IsNamedBy served.Queue entries run = IsOrderOf queue_form run.setup run.commands entries run.order
-IsNamedBy served.List entries run = IsOrderOf (list_form the_list) run.setup run.commands entries run.order
-
--- what the laws of every run give for this one: its report is complete and linearizable, and more; and the first entry
--- of each list makes its change, which is the premise of a part of it
-abbrev pub RunMeetsHeadline : Served → FilesRun → Type 0
-RunMeetsHeadline served.Queue run = MeetsHeadline queue_form run.setup run.commands run.order × ChangesAtOnce queue_form
-RunMeetsHeadline served.List run = MeetsHeadline (list_form the_list) run.setup run.commands run.order × ChangesAtOnce (list_form the_list)
+-- what the laws of every run give for this one: its report is complete and linearizable, and more; and for which clients
+-- the first entry of each list makes its change, which is the premise of one part of it: of the queue, the list and the
+-- buckets it is told too that a call that was left no block won nothing, and of the tree all else
+abbrev pub RunMeetsHeadline : Client → FilesRun → Type 0
+RunMeetsHeadline client run = MeetsHeadline (form_of client) run.setup run.commands run.order × AtOnceButTheTree client
 
 -- a call was answered that it found no block left
 abbrev pub Exhausts : Report → Type 0
@@ -72,22 +58,17 @@ pub record IsDriven {S W : Type 0} (form : NormalForm S W) (cap limit : ℕ) (en
   pub headline : MeetsHeadline form run.setup run.commands run.order
   pub text_is : IsTextOf run.report (report_text run.report (Some 0)) text exhausted
 
--- the same, of the structure with this name
-abbrev pub MakesReport : Served → ℕ → ℕ → List ScheduleEntry → List (List Op) → List ℕ → Bool → Type 0
-MakesReport served.Queue cap limit entries commands text exhausted = IsDriven queue_form cap limit entries commands text exhausted
-MakesReport served.List cap limit entries commands text exhausted = IsDriven (list_form the_list) cap limit entries commands text exhausted
-
 -- the run is that of a replay of these bytes: of the commands of its files, in the order that its schedule names, where
 -- all of them are accepted
-pub record IsReplayOfBytes (served : Served) (cap limit : ℕ) (schedule : List ℕ) (files : List (List ℕ)) (run : FilesRun) : Type 0 where
+pub record IsReplayOfBytes (client : Client) (cap limit : ℕ) (schedule : List ℕ) (files : List (List ℕ)) (run : FilesRun) : Type 0 where
   pub entries : List ScheduleEntry
-  pub accepted : Accepts served (length files) (files_of_bytes schedule files) entries run.commands
-  pub named : IsNamedBy served entries run
-  pub runs : IsRunOf served cap limit run
+  pub accepted : Accepts client (length files) (files_of_bytes schedule files) entries run.commands
+  pub named : IsOrderOf (form_of client) run.setup run.commands entries run.order
+  pub runs : IsRun (form_of client) cap limit run
 
 -- the text is that of the report of the run of a replay of these bytes, which meets the headline
-pub record MakesReplayOfBytes (served : Served) (cap limit : ℕ) (schedule : List ℕ) (files : List (List ℕ)) (text : List ℕ) (exhausted : Bool) : Type 0 where
+pub record MakesReplayOfBytes (client : Client) (cap limit : ℕ) (schedule : List ℕ) (files : List (List ℕ)) (text : List ℕ) (exhausted : Bool) : Type 0 where
   pub run : FilesRun
-  pub is : IsReplayOfBytes served cap limit schedule files run
-  pub headline : RunMeetsHeadline served run
+  pub is : IsReplayOfBytes client cap limit schedule files run
+  pub headline : RunMeetsHeadline client run
   pub text_is : IsTextOf run.report (report_text run.report (Some 0)) text exhausted

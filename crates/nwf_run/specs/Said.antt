@@ -5,7 +5,7 @@ use Rattle.nwf_run.specs.declared.words.RunWords.{RunWords}
 use Rattle.nwf_run.specs.Words.{Replay}
 
 abbrev pub said : ReplayWords → Replay
-said words = record { served = words.served; cap = words.cap; limit = words.limit; schedule = Some words.schedule.now; files = map string_bytes words.files.now }
+said words = record { client = words.client; cap = words.cap; limit = words.limit; schedule = Some words.schedule.now; files = map string_bytes words.files.now }
 
 abbrev pub said_run : RunWords → Replay
-said_run words = record { served = words.served; cap = words.cap; limit = words.limit; schedule = None; files = map string_bytes words.files.now }
+said_run words = record { client = words.client; cap = words.cap; limit = words.limit; schedule = None; files = map string_bytes words.files.now }

@@ -6,35 +6,32 @@ use Rattle.lin_report.specs.declared.calls.Client.{Client}
 use Rattle.lin_report.specs.declared.calls.Client.TheVariants as client
 use Rattle.script_reader.specs.Words.{number_up_to}
 use Rattle.nwf_run.specs.declared.load_words.LoadWords.{LoadWords}
-use Rattle.nwf_run.specs.declared.words.Served.{Served}
-use Rattle.nwf_run.specs.declared.words.Served.TheVariants as served
 
 -- what the words of a replay say, or of a run with threads, which has no schedule
 pub record Replay : Type 0 where
-  pub served : Served
+  pub client : Client
   pub cap : ℕ
   pub limit : ℕ
   -- the names of the files: the schedule, where there is one, and a command file for each seat
   pub schedule : Option (List ℕ)
   pub files : List (List ℕ)
 
--- the structure that a word names
-abbrev pub served_named : List ℕ → Option Served
-served_named word = if bytes_eq word (codes "queue") then Some served.Queue else (if bytes_eq word (codes "list") then Some served.List else None)
-
--- the client whose commands the command files have
-abbrev pub client_of : Served → Client
-client_of served.Queue = client.Queue
-client_of served.List = client.List
+-- the client that a word names
+abbrev pub client_named : List ℕ → Option Client
+client_named word =
+    if bytes_eq word (codes "queue") then Some client.Queue
+    else (if bytes_eq word (codes "list") then Some client.List
+    else (if bytes_eq word (codes "tree") then Some client.Tree
+    else (if bytes_eq word (codes "buckets") then Some client.Buckets else None)))
 
 -- a number word between two bounds: one or more ASCII digits, of which leading zeros count nothing
 abbrev pub number_in : ℕ → ℕ → List ℕ → Option ℕ
 number_in least most word =
     option_and_then (λ n. if nat_lt 0 (length word) && nat_le least n then Some n else None) (number_up_to most word)
 
--- a structure that is served, with its blocks and its contention limit in range
-abbrev pub replay_of : Option Served → Option ℕ → Option ℕ → Option (List ℕ) → List (List ℕ) → Option Replay
-replay_of (Some structure) (Some cap) (Some limit) schedule files = Some (record { served = structure; cap = cap; limit = limit; schedule = schedule; files = files })
+-- a client, with its blocks and its contention limit in range
+abbrev pub replay_of : Option Client → Option ℕ → Option ℕ → Option (List ℕ) → List (List ℕ) → Option Replay
+replay_of (Some structure) (Some cap) (Some limit) schedule files = Some (record { client = structure; cap = cap; limit = limit; schedule = schedule; files = files })
 replay_of (Some structure) (Some cap) None schedule files = None
 replay_of (Some structure) None limit schedule files = None
 replay_of None cap limit schedule files = None
@@ -44,7 +41,7 @@ replay_of None cap limit schedule files = None
 abbrev pub replay_words : List (List ℕ) → Option Replay
 replay_words (command ∷ client ∷ cap ∷ limit ∷ schedule ∷ files) =
     if bytes_eq command (codes "replay") && nat_lt 0 (length files) && nat_le (length files) 8
-    then replay_of (served_named client) (number_in 1 65536 cap) (number_in 1 255 limit) (Some schedule) files
+    then replay_of (client_named client) (number_in 1 65536 cap) (number_in 1 255 limit) (Some schedule) files
     else None
 replay_words _ = None
 
@@ -52,7 +49,7 @@ replay_words _ = None
 abbrev pub run_words : List (List ℕ) → Option Replay
 run_words (command ∷ client ∷ cap ∷ limit ∷ files) =
     if bytes_eq command (codes "run") && nat_lt 0 (length files) && nat_le (length files) 8
-    then replay_of (served_named client) (number_in 1 65536 cap) (number_in 1 255 limit) None files
+    then replay_of (client_named client) (number_in 1 65536 cap) (number_in 1 255 limit) None files
     else None
 run_words _ = None
 
@@ -61,10 +58,10 @@ abbrev pub starts_run : List (List ℕ) → Bool
 starts_run (command ∷ words) = bytes_eq command (codes "run")
 starts_run [] = false
 
--- a load of a structure that is served, with each of its numbers in range
-abbrev pub load_of : Option Served → Option ℕ → Option ℕ → Option ℕ → Option ℕ → Option ℕ → Option LoadWords
+-- a load of a client, with each of its numbers in range
+abbrev pub load_of : Option Client → Option ℕ → Option ℕ → Option ℕ → Option ℕ → Option ℕ → Option LoadWords
 load_of (Some structure) (Some cap) (Some limit) (Some threads) (Some calls) (Some seed) =
-    Some (record { served = structure; cap = cap; limit = limit; threads = threads; calls = calls; seed = seed })
+    Some (record { client = structure; cap = cap; limit = limit; threads = threads; calls = calls; seed = seed })
 load_of _ _ _ _ _ _ = None
 
 -- `load CLIENT CAP LIMIT THREADS CALLS SEED`, with 1 to 65,536 blocks, a limit from 1 to 255, one to eight seats,
@@ -72,7 +69,7 @@ load_of _ _ _ _ _ _ = None
 abbrev pub load_words : List (List ℕ) → Option LoadWords
 load_words (command ∷ client ∷ cap ∷ limit ∷ threads ∷ calls ∷ seed ∷ []) =
     if bytes_eq command (codes "load")
-    then load_of (served_named client) (number_in 1 65536 cap) (number_in 1 255 limit) (number_in 1 8 threads) (number_in 1 65535 calls) (number_in 0 4294967295 seed)
+    then load_of (client_named client) (number_in 1 65536 cap) (number_in 1 255 limit) (number_in 1 8 threads) (number_in 1 65535 calls) (number_in 0 4294967295 seed)
     else None
 load_words _ = None
 
@@ -82,11 +79,11 @@ pub data Asked : Type 0 where
   a_load : LoadWords → Asked
   a_run : Replay → Asked
 
--- the structure that it is of
-abbrev pub structure_of : Asked → Served
-structure_of (a_replay r) = r.served
-structure_of (a_load l) = l.served
-structure_of (a_run r) = r.served
+-- the client that it is of
+abbrev pub client_asked : Asked → Client
+client_asked (a_replay r) = r.client
+client_asked (a_load l) = l.client
+client_asked (a_run r) = r.client
 
 -- the words that name its files, where it has files
 abbrev pub files_asked : Option Asked → Option Replay

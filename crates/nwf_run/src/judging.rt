@@ -4,10 +4,8 @@ ghost use Rattle.lin_report.specs.CommandFiles.{IsCommandFile};
 ghost use Rattle.script_reader.specs.Schedules.{schedule_outcome};
 ghost use Rattle.script_reader.specs.Scripts.{script_outcome};
 ghost use Rattle.nwf_run.specs.Judging.{Accepts, IsJudged, IsReason, files_of_bytes};
-ghost use Rattle.nwf_run.specs.Words.{client_of};
 
 use crate::stops::NoReport;
-use crate::words::Served;
 use lin_report::{Client, Op};
 use script_reader::{ScheduleEntry, ScriptFault, read_schedule, read_script};
 use std::alloc::Global;
@@ -57,17 +55,17 @@ pub fn judge_commands(
 /// Judges the files of a replay from their bytes, in order up to the first that is refused.
 pub fn judge_files(
     alloc: Global,
-    served: Served,
+    client: Client,
     schedule: &[u8],
     files: &[&[u8]],
 ) -> Result<Scripts, NoReport>
     requires some { 1 ≤ length files.now }
     requires few { length files.now ≤ 8 }
-    ensures accepts { IfOk result (λ s. Accepts served (length files.now) (files_of_bytes schedule.now (map (λ file. file.now) files.now)) s.schedule.items (map (λ ops. ops.items) s.commands.items)) }
+    ensures accepts { IfOk result (λ s. Accepts client (length files.now) (files_of_bytes schedule.now (map (λ file. file.now) files.now)) s.schedule.items (map (λ ops. ops.items) s.commands.items)) }
     ensures count { IfOk result (λ s. length s.commands.items ≡ length files.now) }
     ensures seats { IfOk result (λ s. All (λ entry. entry.seat < length files.now) s.schedule.items) }
-    ensures commands { IfOk result (λ s. All (λ ops. IsCommandFile (client_of served) ops.items) s.commands.items) }
-    ensures refused { IfErr result (IsReason served (length files.now) (files_of_bytes schedule.now (map (λ file. file.now) files.now))) }
+    ensures commands { IfOk result (λ s. All (λ ops. IsCommandFile client ops.items) s.commands.items) }
+    ensures refused { IfErr result (IsReason client (length files.now) (files_of_bytes schedule.now (map (λ file. file.now) files.now))) }
 {
     let entries = judge_schedule(alloc, schedule, files.len() as u32)?;
     let Ok(mut commands) = Vec::with_capacity(alloc, files.len()) else {
@@ -75,7 +73,7 @@ pub fn judge_files(
     };
     for bytes in files {
         let file = commands.len() as u32 + 1;
-        let ops = judge_commands(alloc, bytes, served.client(), file)?;
+        let ops = judge_commands(alloc, bytes, client, file)?;
         commands.push_reserved(ops);
     }
     Ok(Scripts {

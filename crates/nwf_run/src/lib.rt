@@ -10,8 +10,8 @@ pub use run::run_main;
 pub use running::Replayed;
 pub use stops::NoReport;
 pub use thread_runs::{Gate, NoGate};
-pub use words::Served;
 
+mod clients;
 mod judging;
 mod load_words;
 mod loading;

@@ -2,13 +2,14 @@
 ghost use Rattle.std.specs.Prelude.{◌≡◌, ◌≤◌, map, IfSome, string_bytes};
 ghost use Rattle.nwf_run.specs.Words.{load_words};
 
-use crate::words::{MAX_CAP, MAX_LIMIT, Served, number_in};
+use crate::words::{MAX_CAP, MAX_LIMIT, client_named, number_in};
+use lin_report::Client;
 
 /// What the words of a load say: which structure, how many blocks there are, how often a call may fail on its
 /// fast path, how many seats make calls, how many calls each of them makes, and the seed of these calls.
 #[derive(Clone, Copy, Debug, PartialEq, Eq)]
 pub struct LoadWords {
-    pub served: Served,
+    pub client: Client,
     pub cap: u32,
     pub limit: u32,
     pub threads: u32,
@@ -36,7 +37,7 @@ pub fn load_words(words: &[String]) -> Option<LoadWords>
         return None;
     }
     Some(LoadWords {
-        served: Served::named(client.as_str())?,
+        client: client_named(client.as_str())?,
         cap: number_in(1, MAX_CAP, cap.as_str())?,
         limit: number_in(1, MAX_LIMIT, limit.as_str())?,
         threads: number_in(1, MAX_THREADS, threads.as_str())?,

@@ -1,18 +1,17 @@
 //! Runs generated files in rounds and makes the text of the summary.
 ghost use Rattle.std.specs.Prelude.{◌≡◌, ◌≤◌, IfOk};
 ghost use Rattle.node_arena.specs.Opening.{IsLaidOut};
-ghost use Rattle.nwf_run.specs.Loads.{IsLoaded, MakesSummary};
+ghost use Rattle.nwf_run.specs.Forms.{form_of};
+ghost use Rattle.nwf_run.specs.Loads.{IsLoaded};
 
+use crate::clients::at_client;
 use crate::load_words::LoadWords;
 use crate::running::{Replayed, any_exhausted, runs_can_be_written};
-use crate::words::Served;
 use event_core::Core;
 use fast_slow_engine::Setup;
 use generated_files::generate;
 use generated_files::laws::each_runs;
-use harris_list::HarrisList;
 use lin_report::{NoMemory, report_room, write_summary};
-use ms_queue::MsQueue;
 use normal_traits::Normalized;
 use run_history::headline::files_meet_headline;
 use schedule_runs::laws::steps_run_in_order;
@@ -52,16 +51,13 @@ fn summary_of<C: Normalized>(alloc: Global, load: LoadWords) -> Result<Replayed,
     Ok(Replayed { text, exhausted })
 }
 
-/// The summary of the run of a structure by its name.
+/// The summary of the run of a client.
 pub fn make_summary(alloc: Global, load: LoadWords) -> Result<Replayed, NoMemory>
     requires cap { (1 ≤ load.cap) × (load.cap ≤ 65536) }
     requires limit { load.limit ≤ 255 }
     requires threads { (1 ≤ load.threads) × (load.threads ≤ 8) }
     requires calls { load.calls ≤ 65535 }
-    ensures { IfOk result (λ made. MakesSummary load.served load made.text.items made.exhausted) }
+    ensures { IfOk result (λ made. IsLoaded (form_of load.client) load made.text.items made.exhausted) }
 {
-    match load.served {
-        Served::Queue => summary_of::<MsQueue>(alloc, load),
-        Served::List => summary_of::<HarrisList>(alloc, load),
-    }
+    at_client!(load.client, summary_of[](alloc, load))
 }

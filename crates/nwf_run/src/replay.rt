@@ -9,7 +9,7 @@ ghost use Rattle.nwf_run.specs.Replaying.{Ends, IsRunFor, Makes, OpensAll, Opens
 ghost use Rattle.nwf_run.specs.Runs.{Exhausts, FilesRun, RunMeetsHeadline};
 ghost use Rattle.nwf_run.specs.Said.{said};
 ghost use Rattle.nwf_run.specs.Stops.{status_of, message_of, USAGE_MESSAGE, NO_MEMORY_MESSAGE, refused_message, unread_message};
-ghost use Rattle.nwf_run.specs.Words.{asked_words, files_asked, structure_of};
+ghost use Rattle.nwf_run.specs.Words.{asked_words, files_asked, client_asked};
 ghost use Rattle.nwf_run.specs.Words.Asked.{a_replay};
 ghost use Rattle.nwf_run.specs.declared.stops.Stop.{Stop};
 
@@ -40,7 +40,7 @@ fn replay_files<F: Files>(
     ensures held { (n : List ℕ) → F.held files.new n ≡ F.held files.old n }
 {
     let scripts = read_scripts(alloc, words, files)?;
-    let made = make_report(alloc, words.served, words.cap, words.limit, scripts)?;
+    let made = make_report(alloc, words.client, words.cap, words.limit, scripts)?;
     Ok(made)
 }
 
@@ -111,9 +111,9 @@ pub fn replay_main<F: Files, K: Sink>(
 
     // What is written for accepted files is the report of their run, which meets the headline: all of it or,
     // after a fault of the sink, its first bytes; the status says whether a call of it found no block left.
-    ensures done { result ≡ 0 → IsSomeAnd (asked_words (map string_bytes words.now)) (λ a. (run : FilesRun) × IsRunFor (F.tells files.old) (F.held files.old) a run × RunMeetsHeadline (structure_of a) run × (¬ Exhausts run.report) × Appends (K.written out.old) (K.written out.new) (text_for a run.report)) }
-    ensures exhausted { result ≡ 7 → IsSomeAnd (asked_words (map string_bytes words.now)) (λ a. (run : FilesRun) × IsRunFor (F.tells files.old) (F.held files.old) a run × RunMeetsHeadline (structure_of a) run × Exhausts run.report × Appends (K.written out.old) (K.written out.new) (text_for a run.report)) }
-    ensures cut { result ≡ 5 → IsSomeAnd (asked_words (map string_bytes words.now)) (λ a. (run : FilesRun) × IsRunFor (F.tells files.old) (F.held files.old) a run × RunMeetsHeadline (structure_of a) run × AppendsPrefix (K.written out.old) (K.written out.new) (text_for a run.report)) }
+    ensures done { result ≡ 0 → IsSomeAnd (asked_words (map string_bytes words.now)) (λ a. (run : FilesRun) × IsRunFor (F.tells files.old) (F.held files.old) a run × RunMeetsHeadline (client_asked a) run × (¬ Exhausts run.report) × Appends (K.written out.old) (K.written out.new) (text_for a run.report)) }
+    ensures exhausted { result ≡ 7 → IsSomeAnd (asked_words (map string_bytes words.now)) (λ a. (run : FilesRun) × IsRunFor (F.tells files.old) (F.held files.old) a run × RunMeetsHeadline (client_asked a) run × Exhausts run.report × Appends (K.written out.old) (K.written out.new) (text_for a run.report)) }
+    ensures cut { result ≡ 5 → IsSomeAnd (asked_words (map string_bytes words.now)) (λ a. (run : FilesRun) × IsRunFor (F.tells files.old) (F.held files.old) a run × RunMeetsHeadline (client_asked a) run × AppendsPrefix (K.written out.old) (K.written out.new) (text_for a run.report)) }
 
     // A file is refused only where it is there and not accepted and each file before it is, and the message
     // names it. No later one was opened.

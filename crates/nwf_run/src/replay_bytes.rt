@@ -10,7 +10,7 @@ ghost use Rattle.nwf_run.specs.declared.stops.NoReport.TheVariants as no;
 use crate::judging::judge_files;
 use crate::running::{Replayed, make_report};
 use crate::stops::NoReport;
-use crate::words::Served;
+use lin_report::Client;
 use std::alloc::Global;
 
 /// Runs command files, one seat for each, step by step as a schedule says, over so many blocks and with this
@@ -18,7 +18,7 @@ use std::alloc::Global;
 /// file is told, of which the schedule is number 0.
 pub fn replay_of_bytes(
     alloc: Global,
-    served: Served,
+    client: Client,
     cap: u32,
     limit: u32,
     schedule: &[u8],
@@ -29,15 +29,15 @@ pub fn replay_of_bytes(
     requires some { 1 ≤ length files.now }
     requires few { length files.now ≤ 8 }
     // All files are accepted, and the text is that of the report of their run, which meets the headline.
-    ensures report { IfOk result (λ made. MakesReplayOfBytes served cap limit schedule.now (map (λ file. file.now) files.now) made.text.items made.exhausted) }
+    ensures report { IfOk result (λ made. MakesReplayOfBytes client cap limit schedule.now (map (λ file. file.now) files.now) made.text.items made.exhausted) }
     // The file that is told is the first that is refused.
-    ensures refused { IfErr result (IsReason served (length files.now) (files_of_bytes schedule.now (map (λ file. file.now) files.now))) }
+    ensures refused { IfErr result (IsReason client (length files.now) (files_of_bytes schedule.now (map (λ file. file.now) files.now))) }
     // Where all are accepted there is a report, and where one is refused first it is told, unless there was no
     // memory.
-    ensures accepted { (entries : List ScheduleEntry) (commands : List (List Op)) → Accepts served (length files.now) (files_of_bytes schedule.now (map (λ file. file.now) files.now)) entries commands → IsOkUnless result no.NoMemory }
-    ensures first { (file : ℕ) (refusal : Refusal) → IsFirstRefused served (length files.now) (files_of_bytes schedule.now (map (λ file. file.now) files.now)) 0 file refusal → (result ≡ Err (no.Refused file refusal)) ⊎ (result ≡ Err no.NoMemory) }
+    ensures accepted { (entries : List ScheduleEntry) (commands : List (List Op)) → Accepts client (length files.now) (files_of_bytes schedule.now (map (λ file. file.now) files.now)) entries commands → IsOkUnless result no.NoMemory }
+    ensures first { (file : ℕ) (refusal : Refusal) → IsFirstRefused client (length files.now) (files_of_bytes schedule.now (map (λ file. file.now) files.now)) 0 file refusal → (result ≡ Err (no.Refused file refusal)) ⊎ (result ≡ Err no.NoMemory) }
 {
-    let scripts = judge_files(alloc, served, schedule, files)?;
-    let made = make_report(alloc, served, cap, limit, scripts)?;
+    let scripts = judge_files(alloc, client, schedule, files)?;
+    let made = make_report(alloc, client, cap, limit, scripts)?;
     Ok(made)
 }

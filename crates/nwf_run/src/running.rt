@@ -5,17 +5,15 @@ ghost use Rattle.node_arena.specs.Opening.{IsLaidOut};
 ghost use Rattle.lin_report.specs.declared.calls.Op.{Op};
 ghost use Rattle.lin_report.specs.Text.{reply_is_exhausted};
 ghost use Rattle.lin_report.specs.CommandFiles.{IsCommandFile};
-ghost use Rattle.nwf_run.specs.Words.{client_of};
 ghost use Rattle.nwf_run.specs.Writable.{RunsCanBeWritten};
-ghost use Rattle.nwf_run.specs.Runs.{IsDriven, MakesReport};
+ghost use Rattle.nwf_run.specs.Forms.{form_of};
+ghost use Rattle.nwf_run.specs.Runs.{IsDriven};
 
+use crate::clients::at_client;
 use crate::judging::Scripts;
-use crate::words::Served;
 use event_core::Core;
 use fast_slow_engine::Setup;
-use harris_list::HarrisList;
-use lin_report::{NoMemory, Op, Receipt, Reply, report_room, write_report};
-use ms_queue::MsQueue;
+use lin_report::{Client, NoMemory, Op, Receipt, Reply, report_room, write_report};
 use normal_traits::Normalized;
 use run_history::headline::files_meet_headline;
 use schedule_runs::drive;
@@ -58,7 +56,7 @@ pub fn runs_can_be_written<C: Normalized>()
 {}
 
 /// The report of a structure's run. All memory of the run and of the report is taken before the run is made.
-fn report_of<C: Normalized>(
+pub fn report_of<C: Normalized>(
     alloc: Global,
     cap: u32,
     limit: u32,
@@ -92,10 +90,10 @@ fn report_of<C: Normalized>(
     Ok(Replayed { text, exhausted })
 }
 
-/// The report of the run of a structure by its name.
+/// The report of the run of a client.
 pub fn make_report(
     alloc: Global,
-    served: Served,
+    client: Client,
     cap: u32,
     limit: u32,
     scripts: Scripts,
@@ -105,11 +103,8 @@ pub fn make_report(
     requires some { 1 ≤ length scripts.commands.items }
     requires few { length scripts.commands.items ≤ 8 }
     requires seats { All (λ entry. entry.seat < length scripts.commands.items) scripts.schedule.items }
-    requires commands { All (λ ops. IsCommandFile (client_of served) ops.items) scripts.commands.items }
-    ensures { IfOk result (λ made. MakesReport served cap limit scripts.schedule.items (map (λ ops. ops.items) scripts.commands.items) made.text.items made.exhausted) }
+    requires commands { All (λ ops. IsCommandFile client ops.items) scripts.commands.items }
+    ensures { IfOk result (λ made. IsDriven (form_of client) cap limit scripts.schedule.items (map (λ ops. ops.items) scripts.commands.items) made.text.items made.exhausted) }
 {
-    match served {
-        Served::Queue => report_of::<MsQueue>(alloc, cap, limit, scripts),
-        Served::List => report_of::<HarrisList>(alloc, cap, limit, scripts),
-    }
+    at_client!(client, report_of[](alloc, cap, limit, scripts))
 }

@@ -3,7 +3,6 @@ ghost use Rattle.std.specs.Prelude.{◌≡◌, ◌<◌, ◌≤◌, ◌+◌, ◌�
 ghost use Rattle.lin_report.specs.CommandFiles.{IsCommandFile};
 ghost use Rattle.script_reader.specs.Schedules.{schedule_outcome};
 ghost use Rattle.script_reader.specs.Scripts.{script_outcome};
-ghost use Rattle.nwf_run.specs.Words.{client_of};
 ghost use Rattle.nwf_run.specs.Said.{said, said_run};
 ghost use Rattle.nwf_run.specs.Judging.{Accepts, SayFirst};
 ghost use Rattle.nwf_run.specs.Reading.{FaultsAsTold, FileReads, OpensUntil, StopsAt, files_by_name};
@@ -91,9 +90,9 @@ pub fn read_command_files<F: Files>(
     files: &mut F,
 ) -> Result<Vec<Vec<Op>>, Stop>
     requires few { length words.now.files.now ≤ 8 }
-    ensures says { IfOk result (λ read. IsTrue (F.tells files.old) → SayFirst words.now.served (length (said_run words.now).files) (files_by_name (F.held files.old) (said_run words.now)) (map (λ ops. ops.items) read.items)) }
+    ensures says { IfOk result (λ read. IsTrue (F.tells files.old) → SayFirst words.now.client (length (said_run words.now).files) (files_by_name (F.held files.old) (said_run words.now)) (map (λ ops. ops.items) read.items)) }
     ensures count { IfOk result (λ read. length read.items ≡ length words.now.files.now) }
-    ensures commands { IfOk result (λ read. All (λ ops. IsCommandFile (client_of words.now.served) ops.items) read.items) }
+    ensures commands { IfOk result (λ read. All (λ ops. IsCommandFile words.now.client ops.items) read.items) }
     ensures stops { IfErr result (StopsAt (F.tells files.old) (F.held files.old) (said_run words.now)) }
     ensures faults { FaultsAsTold (F.faults files.old) (F.faults files.new) result }
     ensures opened { OpensUntil (said_run words.now) (F.faults files.old) (F.opened files.old) (F.opened files.new) result }
@@ -104,7 +103,7 @@ pub fn read_command_files<F: Files>(
     };
     for name in words.files {
         let file = commands.len() as u32 + 1;
-        let ops = read_commands(alloc, files, name.as_str(), words.served.client(), file)?;
+        let ops = read_commands(alloc, files, name.as_str(), words.client, file)?;
         commands.push_reserved(ops);
     }
     Ok(commands)
@@ -118,10 +117,10 @@ pub fn read_scripts<F: Files>(
 ) -> Result<Scripts, Stop>
     requires some { 1 ≤ length words.now.files.now }
     requires few { length words.now.files.now ≤ 8 }
-    ensures accepts { IfOk result (λ s. IsTrue (F.tells files.old) → Accepts words.now.served (length (said words.now).files) (files_by_name (F.held files.old) (said words.now)) s.schedule.items (map (λ ops. ops.items) s.commands.items)) }
+    ensures accepts { IfOk result (λ s. IsTrue (F.tells files.old) → Accepts words.now.client (length (said words.now).files) (files_by_name (F.held files.old) (said words.now)) s.schedule.items (map (λ ops. ops.items) s.commands.items)) }
     ensures count { IfOk result (λ s. length s.commands.items ≡ length words.now.files.now) }
     ensures seats { IfOk result (λ s. All (λ entry. entry.seat < length words.now.files.now) s.schedule.items) }
-    ensures commands { IfOk result (λ s. All (λ ops. IsCommandFile (client_of words.now.served) ops.items) s.commands.items) }
+    ensures commands { IfOk result (λ s. All (λ ops. IsCommandFile words.now.client ops.items) s.commands.items) }
     ensures stops { IfErr result (StopsAt (F.tells files.old) (F.held files.old) (said words.now)) }
     ensures faults { FaultsAsTold (F.faults files.old) (F.faults files.new) result }
     ensures opened { OpensUntil (said words.now) (F.faults files.old) (F.opened files.old) (F.opened files.new) result }
@@ -129,7 +128,7 @@ pub fn read_scripts<F: Files>(
 {
     let schedule = read_entries(alloc, files, words.schedule, words.files.len() as u32)?;
     let listed = RunWords {
-        served: words.served,
+        client: words.client,
         cap: words.cap,
         limit: words.limit,
         files: words.files,

@@ -1,4 +1,5 @@
 //! The top calls on files and sinks in memory, by subject, and the call on bytes.
+mod buckets;
 mod bytes;
 mod faults;
 mod lists;
@@ -8,3 +9,4 @@ mod queues;
 mod refusals;
 mod rows;
 mod runs;
+mod trees;

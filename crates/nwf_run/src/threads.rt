@@ -2,15 +2,13 @@
 ghost use Rattle.std.specs.Prelude.{◌≤◌, All, IfOk, length, map};
 ghost use Rattle.node_arena.specs.Opening.{IsLaidOut};
 ghost use Rattle.lin_report.specs.CommandFiles.{IsCommandFile};
-ghost use Rattle.nwf_run.specs.Words.{client_of};
-ghost use Rattle.nwf_run.specs.Running.{IsThreaded, MakesThreadReport};
+ghost use Rattle.nwf_run.specs.Forms.{form_of};
+ghost use Rattle.nwf_run.specs.Running.{IsThreaded};
 
+use crate::clients::at_client;
 use crate::running::{Replayed, any_exhausted, commands_of, runs_can_be_written};
-use crate::words::Served;
 use fast_slow_engine::Setup;
-use harris_list::HarrisList;
-use lin_report::{NoMemory, Op, report_room, write_report};
-use ms_queue::MsQueue;
+use lin_report::{Client, NoMemory, Op, report_room, write_report};
 use normal_traits::Normalized;
 use std::alloc::Global;
 use std::sync::Wait;
@@ -21,7 +19,7 @@ use thread_runs::run::run;
 
 /// The report of a structure's run with threads. All memory of the run and of the report is taken before the
 /// first thread starts.
-fn threaded<R: Threads + Wait + Sync, C: Normalized + Send + Sync, G: Gate + Sync>(
+fn threaded<C: Normalized + Send + Sync, R: Threads + Wait + Sync, G: Gate + Sync>(
     rt: &R,
     alloc: Global,
     cap: u32,
@@ -53,11 +51,11 @@ fn threaded<R: Threads + Wait + Sync, C: Normalized + Send + Sync, G: Gate + Syn
     Ok(Replayed { text, exhausted })
 }
 
-/// The report of the run with threads of a structure by its name.
+/// The report of the run with threads of a client.
 pub fn make_thread_report<R: Threads + Wait + Sync, G: Gate + Sync>(
     rt: &R,
     alloc: Global,
-    served: Served,
+    client: Client,
     cap: u32,
     limit: u32,
     commands: Vec<Vec<Op>>,
@@ -67,11 +65,8 @@ pub fn make_thread_report<R: Threads + Wait + Sync, G: Gate + Sync>(
     requires limit { limit ≤ 255 }
     requires some { 1 ≤ length commands.items }
     requires few { length commands.items ≤ 8 }
-    requires commands { All (λ ops. IsCommandFile (client_of served) ops.items) commands.items }
-    ensures { IfOk result (λ made. MakesThreadReport served cap limit (map (λ ops. ops.items) commands.items) made.text.items made.exhausted) }
+    requires commands { All (λ ops. IsCommandFile client ops.items) commands.items }
+    ensures { IfOk result (λ made. IsThreaded (form_of client) cap limit (map (λ ops. ops.items) commands.items) made.text.items made.exhausted) }
 {
-    match served {
-        Served::Queue => threaded::<R, MsQueue, G>(rt, alloc, cap, limit, commands, gate),
-        Served::List => threaded::<R, HarrisList, G>(rt, alloc, cap, limit, commands, gate),
-    }
+    at_client!(client, threaded[R, G](rt, alloc, cap, limit, commands, gate))
 }

@@ -1,48 +1,29 @@
 //! The words of the command line.
 ghost use Rattle.std.specs.Prelude.{◌≡◌, ◌≤◌, Some, map, length, IfSome, string_bytes};
 ghost use Rattle.std.specs.Option.{option_map};
-ghost use Rattle.nwf_run.specs.Words.{number_in, replay_words, run_words, served_named, client_of};
+ghost use Rattle.nwf_run.specs.Words.{number_in, replay_words, run_words, client_named};
 ghost use Rattle.nwf_run.specs.Said.{said_run};
 
 use lin_report::Client;
 use script_reader::number_up_to;
 
-/// The structures that are served, each named by its word.
-#[derive(Clone, Copy, Debug, PartialEq, Eq)]
-pub enum Served {
-    /// Michael and Scott's queue.
-    Queue,
-    /// Harris's sorted list.
-    List,
-}
-
-impl Served {
-    /// The structure that a word names.
-    pub fn named(word: &str) -> Option<Served>
-        ensures { result ≡ served_named word.now }
-    {
-        match word {
-            "queue" => Some(Served::Queue),
-            "list" => Some(Served::List),
-            _ => None,
-        }
-    }
-
-    /// The client whose commands the command files have.
-    pub fn client(self) -> Client
-        ensures { result ≡ client_of self }
-    {
-        match self {
-            Served::Queue => Client::Queue,
-            Served::List => Client::List,
-        }
+/// The client that a word names.
+pub fn client_named(word: &str) -> Option<Client>
+    ensures { result ≡ client_named word.now }
+{
+    match word {
+        "queue" => Some(Client::Queue),
+        "list" => Some(Client::List),
+        "tree" => Some(Client::Tree),
+        "buckets" => Some(Client::Buckets),
+        _ => None,
     }
 }
 
 /// What the words of a run with threads say: those of a replay without a schedule.
 #[derive(Clone, Copy, Debug)]
 pub struct RunWords<'a> {
-    pub served: Served,
+    pub client: Client,
     pub cap: u32,
     pub limit: u32,
     pub files: &'a [String],
@@ -52,7 +33,7 @@ pub struct RunWords<'a> {
 /// its fast path, and the names of the files.
 #[derive(Clone, Copy, Debug)]
 pub struct ReplayWords<'a> {
-    pub served: Served,
+    pub client: Client,
     pub cap: u32,
     pub limit: u32,
     pub schedule: &'a str,
@@ -68,7 +49,7 @@ const MAX_FILES: usize = 8;
 
 /// Reads `replay CLIENT CAP LIMIT SCHEDULE` and one to eight FILE words. Other words are no replay.
 pub fn replay_words(words: &[String]) -> Option<ReplayWords<'_>>
-    ensures words { option_map (λ w. record { served = w.served; cap = w.cap; limit = w.limit; schedule = Some w.schedule.now; files = map string_bytes w.files.now }) result ≡ replay_words (map string_bytes words.now) }
+    ensures words { option_map (λ w. record { client = w.client; cap = w.cap; limit = w.limit; schedule = Some w.schedule.now; files = map string_bytes w.files.now }) result ≡ replay_words (map string_bytes words.now) }
     ensures cap { IfSome result (λ w. (1 ≤ w.cap) × (w.cap ≤ 65536)) }
     ensures limit { IfSome result (λ w. w.limit ≤ 255) }
     ensures files { IfSome result (λ w. (1 ≤ length w.files.now) × (length w.files.now ≤ 8)) }
@@ -80,12 +61,12 @@ pub fn replay_words(words: &[String]) -> Option<ReplayWords<'_>>
         return None;
     }
     match (
-        Served::named(client.as_str()),
+        client_named(client.as_str()),
         number_in(1, MAX_CAP, cap.as_str()),
         number_in(1, MAX_LIMIT, limit.as_str()),
     ) {
-        (Some(served), Some(cap), Some(limit)) => Some(ReplayWords {
-            served,
+        (Some(client), Some(cap), Some(limit)) => Some(ReplayWords {
+            client,
             cap,
             limit,
             schedule: schedule.as_str(),
@@ -109,12 +90,12 @@ pub fn run_words(words: &[String]) -> Option<RunWords<'_>>
         return None;
     }
     match (
-        Served::named(client.as_str()),
+        client_named(client.as_str()),
         number_in(1, MAX_CAP, cap.as_str()),
         number_in(1, MAX_LIMIT, limit.as_str()),
     ) {
-        (Some(served), Some(cap), Some(limit)) => Some(RunWords {
-            served,
+        (Some(client), Some(cap), Some(limit)) => Some(RunWords {
+            client,
             cap,
             limit,
             files,

@@ -1,7 +1,7 @@
 //! The call on bytes, on the first worked example.
 use crate::replay_bytes::replay_of_bytes;
 use crate::stops::NoReport;
-use crate::words::Served;
+use lin_report::Client;
 use script_reader::{Cause, Refusal};
 use std::test::Fail;
 
@@ -9,7 +9,7 @@ use std::test::Fail;
 fn report_of_bytes(rt: HostRuntime) -> Result<(), Fail> {
     let alloc = rt.alloc();
     let files = [b"put 7\ntake\n".as_slice()];
-    let made = replay_of_bytes(alloc, Served::Queue, 8, 3, b"0 end\n0 end\n", &files)
+    let made = replay_of_bytes(alloc, Client::Queue, 8, 3, b"0 end\n0 end\n", &files)
         .ok()
         .ok_or("no report")?;
     assert_eq!(rt;
@@ -24,7 +24,7 @@ fn report_of_bytes(rt: HostRuntime) -> Result<(), Fail> {
 fn first_refused_bytes(rt: HostRuntime) -> Result<(), Fail> {
     let alloc = rt.alloc();
     let files = [b"take\n".as_slice(), b"tak\n".as_slice()];
-    let why = replay_of_bytes(alloc, Served::Queue, 8, 3, b"1 end\n", &files).err();
+    let why = replay_of_bytes(alloc, Client::Queue, 8, 3, b"1 end\n", &files).err();
     let refusal = Refusal {
         line: 1,
         cause: Cause::BadCommand,

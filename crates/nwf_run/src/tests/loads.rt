@@ -6,7 +6,7 @@ use std::test::Fail;
 
 /// Loads of one seat, whose calls come one after the other: the first one that finds no block left is answered so, and
 /// so is each later one that wants a block.
-const ONE_SEAT: [Row; 6] = [
+const ONE_SEAT: [Row; 9] = [
     (
         "load list 65536 3 1 100 7",
         "",
@@ -43,6 +43,27 @@ const ONE_SEAT: [Row; 6] = [
         "calls 100 fast 100 slow 0 exhausted 27 pending 0 overtaken 0/",
     ),
     (
+        "load buckets 2 3 1 100 7",
+        "",
+        "",
+        7,
+        "calls 100 fast 100 slow 0 exhausted 27 pending 0 overtaken 0/",
+    ),
+    (
+        "load tree 65536 3 1 100 7",
+        "",
+        "",
+        0,
+        "calls 100 fast 100 slow 0 exhausted 0 pending 0 overtaken 0/",
+    ),
+    (
+        "load tree 3 3 1 100 7",
+        "",
+        "",
+        7,
+        "calls 100 fast 100 slow 0 exhausted 26 pending 0 overtaken 0/",
+    ),
+    (
         "load queue 3 1 1 10 4294967295",
         "",
         "",
@@ -67,18 +88,27 @@ fn loaded(alloc: Global, words: &str, room: usize) -> Result<(u8, u64, SinkInMem
 #[test]
 fn eight_seats_take_turns(rt: HostRuntime) -> Result<(), Fail> {
     let alloc = rt.alloc();
-    let words = "load list 65536 3 8 2000 42";
-    let (status, calls, first) = loaded(alloc, words, AMPLE)?;
-    let (_, _, second) = loaded(alloc, words, AMPLE)?;
-    assert_eq!(rt; status, 0);
-    assert_eq!(rt; calls, 0);
-    assert!(rt; first.bytes().starts_with(b"calls 16000 fast "));
-    assert!(rt;
-        first
-            .bytes()
-            .ends_with(b" exhausted 0 pending 0 overtaken 0\n")
-    );
-    assert_eq!(rt; first.bytes(), second.bytes());
+    for (words, beginning) in [
+        (
+            "load list 65536 3 8 2000 42",
+            b"calls 16000 fast ".as_slice(),
+        ),
+        ("load tree 65536 3 8 500 42", b"calls 4000 fast "),
+        ("load buckets 65536 3 8 500 42", b"calls 4000 fast "),
+    ] {
+        let (status, calls, first) = loaded(alloc, words, AMPLE)?;
+        let (_, _, second) = loaded(alloc, words, AMPLE)?;
+        assert_eq!(rt; status, 0, "{words}");
+        assert_eq!(rt; calls, 0, "{words}");
+        assert!(rt; first.bytes().starts_with(beginning), "{words}");
+        assert!(rt;
+            first
+                .bytes()
+                .ends_with(b" exhausted 0 pending 0 overtaken 0\n"),
+            "{words}"
+        );
+        assert_eq!(rt; first.bytes(), second.bytes(), "{words}");
+    }
     Ok(())
 }
 

@@ -5,7 +5,7 @@ use std::alloc::{AllocError, Global};
 use std::test::Fail;
 
 /// Files that are refused: the first one at fault, its line and the cause.
-const REFUSED: [Row; 15] = [
+const REFUSED: [Row; 19] = [
     (
         ONE,
         "0 end/",
@@ -98,6 +98,34 @@ const REFUSED: [Row; 15] = [
         "nwf: refused file 1 line 1 cause 1/",
     ),
     (
+        "replay tree 8 3 s f0",
+        "0 end/",
+        "set 1 2/has 1/",
+        3,
+        "nwf: refused file 1 line 2 cause 1/",
+    ),
+    (
+        "replay tree 8 3 s f0",
+        "0 end/",
+        "set 1/",
+        3,
+        "nwf: refused file 1 line 1 cause 1/",
+    ),
+    (
+        "replay tree 8 3 s f0",
+        "0 end/",
+        "set 1048575 4294967295/set 1048576 0/",
+        3,
+        "nwf: refused file 1 line 2 cause 2/",
+    ),
+    (
+        "replay buckets 8 3 s f0",
+        "0 end/",
+        "add 1/get 1/",
+        3,
+        "nwf: refused file 1 line 2 cause 1/",
+    ),
+    (
         TWO,
         "1 end/",
         "take/|tak/",
@@ -123,8 +151,8 @@ const UNSERVED: [&str; 36] = [
     "",
     "replay",
     "replay stack 8 3 s f0",
-    "replay tree 8 3 s f0",
-    "replay buckets 8 3 s f0",
+    "replay trees 8 3 s f0",
+    "replay bucket 8 3 s f0",
     "replay lists 8 3 s f0",
     "replay queues 8 3 s f0",
     "run queue 8 3 f0",
@@ -141,7 +169,7 @@ const UNSERVED: [&str; 36] = [
     "replay queue 8 3 s f0 f0 f0 f0 f0 f0 f0 f0 f0",
     "load",
     "load stack 8 3 1 1 0",
-    "load tree 8 3 1 1 0",
+    "load tre 8 3 1 1 0",
     "load queue 0 3 1 1 0",
     "load queue 65537 3 1 1 0",
     "load queue 8 0 1 1 0",

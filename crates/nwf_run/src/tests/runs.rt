@@ -26,7 +26,7 @@ pub fn ran<R: Threads + Wait + Sync, G: Gate + Sync>(
     Ok(run_main(rt, alloc, &words, files, sink, gate))
 }
 
-const ROWS: [Row; 12] = [
+const ROWS: [Row; 14] = [
     (
         "run queue 8 3 f0",
         "put 7/take/",
@@ -44,6 +44,18 @@ const ROWS: [Row; 12] = [
         "put 1/put 2/take/",
         7,
         "0 1 put 1 done 0 1 fast/0 2 put 2 exhausted 2 3 fast/0 3 take value 1 4 5 fast/calls 3 fast 3 slow 0 exhausted 1 pending 0/",
+    ),
+    (
+        "run tree 8 3 f0",
+        "get 5/set 5 70/set 5 71/get 5/rem 5/rem 5/",
+        0,
+        "0 1 get 5 absent 0 1 fast/0 2 set 5 70 yes 2 3 fast/0 3 set 5 71 no 4 5 fast/0 4 get 5 value 70 6 7 fast/0 5 rem 5 yes 8 9 fast/0 6 rem 5 no 10 11 fast/calls 6 fast 6 slow 0 exhausted 0 pending 0/",
+    ),
+    (
+        "run buckets 1 3 f0",
+        "add 0/has 32/del 0/add 32/",
+        7,
+        "0 1 add 0 yes 0 1 fast/0 2 has 32 no 2 3 fast/0 3 del 0 yes 4 5 fast/0 4 add 32 exhausted 6 7 fast/calls 4 fast 4 slow 0 exhausted 1 pending 0/",
     ),
     // Files without commands, beside one with them and alone.
     (

@@ -1,4 +1,4 @@
-use Rattle.std.proofs.Common.{rules, ◌≡◌, false, map, string_bytes}
+use Rattle.std.proofs.Common.{rules, ◌≡◌, true, false, map, string_bytes}
 use Rattle.nwf_run.specs.Words.{starts_run}
 use Rattle.nwf_run.proofs.program.nwf_main.Goals as goal
 
@@ -26,6 +26,11 @@ pub returns-else-starts_run-clause-unread : goal.returns-else-starts_run-clause-
 returns-else-starts_run-clause-unread g c = λ is.
     let other : starts_run (map string_bytes c.args.words.now) ≡ false = search rules in
     rw other (c.replay_main.ensures.unread is)
+
+pub returns-then-starts_run-clause-all_opened : goal.returns-then-starts_run-clause-all_opened
+returns-then-starts_run-clause-all_opened g c = λ is.
+    let this : starts_run (map string_bytes c.args.words.now) ≡ true = search rules in
+    rw this (c.run_main.ensures.all_opened is)
 
 pub returns-else-starts_run-clause-all_opened : goal.returns-else-starts_run-clause-all_opened
 returns-else-starts_run-clause-all_opened g c = λ is.

@@ -13,5 +13,5 @@ returns-clause-report c =
     let files = map bytes_of c.args.files.now in
     let entries = c.in_ok-scripts.scripts.schedule.items in
     let commands = map ops_of c.in_ok-scripts.scripts.commands.items in
-    let accepts = subst (λ n. Accepts c.args.served n (files_of_bytes c.args.schedule.now files) entries commands) (sym (length-map c.args.files.now bytes_of)) c.in_ok-scripts.ensures.accepts in
-    bytes_made c.args.served c.args.cap c.args.limit c.args.schedule.now files entries commands c.in_ok-made.made.text.items c.in_ok-made.made.exhausted accepts c.in_ok-made.ensures
+    let accepts = subst (λ n. Accepts c.args.client n (files_of_bytes c.args.schedule.now files) entries commands) (sym (length-map c.args.files.now bytes_of)) c.in_ok-scripts.ensures.accepts in
+    bytes_made c.args.client c.args.cap c.args.limit c.args.schedule.now files entries commands c.in_ok-made.made.text.items c.in_ok-made.made.exhausted accepts c.in_ok-made.ensures

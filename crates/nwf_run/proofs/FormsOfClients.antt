@@ -1,0 +1,26 @@
+-- The clients and their forms.
+use Rattle.std.proofs.Common.{◌≡◌, [], refl}
+use Rattle.lin_report.specs.declared.calls.Client.{Client}
+use Rattle.lin_report.specs.declared.calls.Client.TheVariants as client
+use Rattle.normal_traits.specs.World.{Listed}
+use Rattle.queue_laws.proofs.AtOnce.{queue_changes_at_once}
+use Rattle.list_laws.specs.Lists.{the_list}
+use Rattle.list_laws.proofs.AtOnce.{list_changes_at_once}
+use Rattle.bucket_set.specs.Buckets.{buckets}
+use Rattle.nwf_run.specs.Forms.{AtOnceButTheTree, BUCKETS, form_of}
+
+-- the form of a client is of its commands
+pub of_its_commands : (c : Client) → (form_of c).client ≡ c
+of_its_commands client.Queue = refl
+of_its_commands client.List = refl
+of_its_commands client.Tree = refl
+of_its_commands client.Buckets = refl
+
+a_list : Listed
+a_list = record { identity = 0; call = record { seat = 0; number = 0; op = record { code = 0; key = 0; value = 0 } }; block = 0; entries = [] }
+
+pub at_once_but_the_tree : (c : Client) → AtOnceButTheTree c
+at_once_but_the_tree client.Queue = (λ at_once is. absurd cc, λ other. queue_changes_at_once)
+at_once_but_the_tree client.List = (λ at_once is. absurd cc, λ other. list_changes_at_once the_list)
+at_once_but_the_tree client.Tree = (λ at_once is. absurd (let none = at_once a_list in cc), λ other. absurd (other refl))
+at_once_but_the_tree client.Buckets = (λ at_once is. absurd cc, λ other. list_changes_at_once (buckets BUCKETS))
