@@ -56,7 +56,7 @@ module _ {S W : Type 0} (form : NormalForm S W) (laws : Laws form) (world : Worl
       let life = mine.parts.lives i entry listed in
       record { succeeded = is.0; past = life.taken (life.succeeded is.0); gone = is.1 }
 
-  abbrev walk_at : ℕ → SlowStep → SlowWalk
+  abbrev pub walk_at : ℕ → SlowStep → SlowWalk
   walk_at j step = record { block = offer.list.block; entries = offer.list.entries; next = j; step = step }
 
   some_entry : (a b : Entry) → Some a ≡ Some b → a ≡ b
@@ -181,6 +181,15 @@ module _ {S W : Type 0} (form : NormalForm S W) (laws : Laws form) (world : Worl
 
   kept_by : (j : ℕ) (step : SlowStep) (after : World) → Did j step after → HasOffers form after offers × IsStep form world after
   kept_by j step after did = (executes_kept form laws world after offers holds block offer (walk_at j step) did.0 did.1, did.1.step)
+
+  -- it leaves all as it is, or is a step of a run
+  pub helps_did : (after : World) → Helps form world offer after → (after ≡ world) ⊎ ((j : ℕ) × (step : SlowStep) × ((seen : Seen) × Executes form world after offers block offer (walk_at j step) seen))
+  helps_did after looks = inl refl
+  helps_did after (installs_first entry listed at) = inr (0, Install, first_did entry listed at)
+  helps_did after (installs_second entry listed behind at) = inr (1, Install, second_did entry listed behind at)
+  helps_did after (succeeds j entry listed behind pending shown) = inr (j, Succeed, succeed_did j entry listed behind pending shown)
+  helps_did after (fails j entry listed behind pending past hidden) = inr (j, Fail, fail_did j entry listed behind pending past hidden)
+  helps_did after (clears_bit j entry listed behind succeeded shown) = inr (j, Clear, clear_did j entry listed behind succeeded shown)
 
   pub helps_kept : (after : World) → Helps form world offer after → HasOffers form after offers × IsStep form world after
   helps_kept after looks = (holds, nothing)

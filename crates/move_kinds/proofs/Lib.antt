@@ -1,0 +1,13 @@
+pub mod Does
+pub mod Touches
+pub mod KindDeeds
+pub mod SpareKept
+pub mod KindsLeave
+pub mod KindsKeep
+pub mod BlockReads
+pub mod BlockContents
+pub mod Contents
+pub mod OutcomesKept
+pub mod HelperChanges
+pub mod TellsKept
+pub mod LawLemmas

@@ -1,0 +1,5 @@
+use Rattle.move_kinds.proofs.LawLemmas.{kinds_keep_blocks}
+use Rattle.move_kinds.proofs.kind_laws.kinds_keep_blocks.Goals as goal
+
+pub returns : goal.returns
+returns g c = kinds_keep_blocks g.C.Normalized.form g.met.C.Normalized.laws

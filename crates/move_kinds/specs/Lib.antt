@@ -1,0 +1,6 @@
+pub mod Moves
+pub mod Contents
+pub mod Offering
+pub mod Kinds
+pub mod Telling
+pub mod KindLaws
