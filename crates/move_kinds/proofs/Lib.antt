@@ -10,4 +10,5 @@ pub mod Contents
 pub mod OutcomesKept
 pub mod HelperChanges
 pub mod TellsKept
+pub mod Stores
 pub mod LawLemmas

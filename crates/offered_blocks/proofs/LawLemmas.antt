@@ -11,7 +11,7 @@ use Rattle.offered_blocks.proofs.Blocks.Settled.{from_pending, none_marked, pend
 use Rattle.offered_blocks.proofs.Blocks.Settled as settled
 use Rattle.offered_blocks.proofs.Helpers.Allowed.{from_untaken}
 use Rattle.offered_blocks.proofs.Helpers.Helping.{helps_kept}
-use Rattle.offered_blocks.proofs.Helpers.Running.{run_helps}
+use Rattle.offered_blocks.proofs.Helpers.Running.{run_helps, run_knows}
 use Rattle.offered_blocks.proofs.Others.Beside as beside
 use Rattle.offered_blocks.proofs.Others.Exchanges.{exchange_kept}
 use Rattle.offered_blocks.proofs.Others.Stores.{store_kept, store_step}
@@ -24,7 +24,8 @@ module _ {S W : Type 0} (form : NormalForm S W) (laws : Laws form) where
   helpers_keep world after offers block offer holds stands helps = helps_kept form laws world offers holds block offer stands after helps
 
   pub runs_help : helper.RunsHelp form
-  runs_help world offers block offer walk seen words holds stands knows made = run_helps form world offers holds block offer stands walk seen words knows made
+  runs_help world offers block offer walk seen words holds stands knows made =
+      (run_helps form world offers holds block offer stands walk seen words knows made, run_knows form world offers holds block offer stands walk seen words knows made)
 
   pub late_wins_nothing : helper.LateWinsNothing form
   late_wins_nothing world offers block offer j entry holds stands listed behind at =

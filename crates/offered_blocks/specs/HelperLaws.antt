@@ -13,6 +13,7 @@ use Rattle.cas_executor_laws.specs.Parts.{IsMade, Knows, Helps as RunKnows}
 use Rattle.offered_blocks.specs.Blocks.{Offer, IsExecuting, MayBeMarked, has_taken, site_of}
 use Rattle.offered_blocks.specs.Holds.{HasOffers}
 use Rattle.offered_blocks.specs.HelperSteps.{AreBehind, HasStopped, Helps, state_at}
+use Rattle.offered_blocks.specs.RunWorlds.{ran_world}
 
 module _ {S W : Type 0} (form : NormalForm S W) where
   -- what a helper does to the list of one block is an allowed step of the client, and what holds of all blocks holds
@@ -22,14 +23,14 @@ module _ {S W : Type 0} (form : NormalForm S W) where
       (world after : World) (offers : ℕ → Option (Offer S)) (block : ℕ) (offer : Offer S) → HasOffers form world offers → offers block ≡ Some offer
       → Helps form world offer after → HasOffers form after offers × IsStep form world after
 
-  -- a step of a run that knows what it must is one of these: it leaves the words of one, and the run knows what it must
-  -- afterwards, or where the list has stopped
+  -- a step of a run that knows what it must is one of these, and the run knows what it must afterwards, or where the list
+  -- has stopped
   abbrev pub RunsHelp : Type 0
   RunsHelp =
       (world : World) (offers : ℕ → Option (Offer S)) (block : ℕ) (offer : Offer S) (walk : SlowWalk) (seen : Seen) (words : ℕ → ℕ) → HasOffers form world offers → offers block ≡ Some offer
       → Knows (site_of offer) world.words (has_taken world.journal offer.list) walk → IsMade (slow_request walk) world.words words seen
-      → (after : World) × Helps form world offer after × ((place : ℕ) → after.words place ≡ words place)
-      × RunKnows (site_of offer) after.words (has_taken after.journal offer.list) (slow_fed walk seen) (slow_execution walk seen)
+      → Helps form world offer (ran_world form world offer walk seen words)
+      × RunKnows (site_of offer) words (has_taken (ran_world form world offer walk seen words).journal offer.list) (slow_fed walk seen) (slow_execution walk seen)
 
   -- behind entries that are done a listed exchange wins for the executed list alone, for an entry that is pending and
   -- did not take effect: so a late one wins nothing

@@ -9,7 +9,8 @@ pub fn helpers_keep<C: Normalized>()
     ensures { HelpersKeep C.form }
 {}
 
-/// A step of a run on the list of an offered block is such a step, and the run knows afterwards what it must.
+/// A step of a run on the list of an offered block is such a step, with the won exchange and the change of the entry that
+/// it installs, and the run knows afterwards what it must.
 pub fn runs_help<C: Normalized>()
     ensures { RunsHelp C.form }
 {}

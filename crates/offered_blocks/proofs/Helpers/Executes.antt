@@ -16,7 +16,7 @@ use Rattle.offered_blocks.proofs.Blocks.Items.{both}
 pub same_item : (list : Listed) (j : ℕ) (before : Bool) → ((list.identity == list.identity) && (j == j) || before) ≡ true
 same_item list j before = or_left ((list.identity == list.identity) && (j == j)) before (and_from (list.identity == list.identity) (j == j) (eq-eqb list.identity list.identity refl) (eq-eqb j j refl))
 
-and_second : (a b : Bool) → b ≡ false → (a && b) ≡ false
+pub and_second : (a b : Bool) → b ≡ false → (a && b) ≡ false
 and_second true b e = e
 and_second false b e = refl
 

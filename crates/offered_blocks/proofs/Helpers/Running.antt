@@ -1,6 +1,6 @@
 -- A step of a run that knows what it must is one that a helper may make, and the run knows what it must afterwards.
-use Rattle.std.proofs.Common.{◌≡◌, ◌≢◌, ◌∙◌, refl, sym, subst, ap, ℕ, ◌∷◌, true, false, inl, inr, Option, Some, arith}
-use Rattle.std.proofs.lemmas.Bool.{cases_eq}
+use Rattle.std.proofs.Common.{◌≡◌, ◌≢◌, ◌∙◌, refl, sym, subst, ap, ℕ, ◌&&◌, ◌∷◌, Bool, true, false, inl, inr, slice_get, Option, Some, arith}
+use Rattle.std.proofs.lemmas.Bool.{and_from, cases_eq}
 use Rattle.step_memory.specs.declared.steps.Seen.{Seen}
 use Rattle.step_memory.specs.Step.{place_of}
 use Rattle.word_fields.specs.Versioned.{marked_word}
@@ -23,7 +23,8 @@ use Rattle.offered_blocks.specs.Blocks.{Offer, IsOffer, has_taken, site_of}
 use Rattle.offered_blocks.specs.Holds.{HasOffers}
 use Rattle.offered_blocks.specs.HelperSteps.{AreBehind, Helps, entered, first_entered}
 use Rattle.offered_blocks.specs.HelperSteps.Helps.{looks, installs_first, installs_second, succeeds, fails, clears_bit}
-use Rattle.offered_blocks.proofs.Helpers.Executes.{Tells, taken_by}
+use Rattle.offered_blocks.specs.RunWorlds.{ran_by, ran_world, with_words}
+use Rattle.offered_blocks.proofs.Helpers.Executes.{Tells, and_second, taken_by}
 use Rattle.offered_blocks.proofs.Helpers.Executes.Tells.{no_win, wins}
 use Rattle.offered_blocks.proofs.Helpers.OwnDeeds.{own_helps}
 
@@ -50,29 +51,55 @@ module _ {S W : Type 0} (form : NormalForm S W) (world : World) (offers : ℕ �
   behind : AreBehind world offer walk.next
   behind i entry listed before = let done = knows.done i entry listed before in (done.succeeded, done.gone)
 
-  -- a world with the words that the step left, which the helper may have made
+  -- a world that the helper may have made, which is the one with the words that the step left
   record Ran : Type 0 where
     pub after : World
     pub helps : Helps form world offer after
-    pub words_are : (place : ℕ) → after.words place ≡ words place
+    pub is : after ≡ ran_world form world offer walk seen words
     pub tells : Tells form world after offer.list walk seen
 
+  abbrev entry_there : Option Entry
+  entry_there = slice_get offer.list.entries walk.next
+
+  -- without a won install it is the old one with other words
+  kept_is : (f : ℕ → ℕ) → (installs walk.step && seen.won) ≡ false → ((place : ℕ) → f place ≡ words place) → with_words world f ≡ ran_world form world offer walk seen words
+  kept_is f none same = (λ i. with_words world (λ place. same place i)) ∙ ap (λ (b : Bool). ran_by form world offer walk.next words b entry_there) (sym none)
+
+  no_install : installs walk.step ≡ false → (installs walk.step && seen.won) ≡ false
+  no_install none = ap (λ b. b && seen.won) none
+
   stays_ran : installs walk.step ≡ false → ((place : ℕ) → words place ≡ world.words place) → Ran
-  stays_ran no_install leaves = record { after = world; helps = looks; words_are = λ place. sym (leaves place); tells = no_win (inl no_install) refl refl }
+  stays_ran none leaves = record { after = world; helps = looks; is = kept_is world.words (no_install none) (λ place. sym (leaves place)); tells = no_win (inl none) refl refl }
 
   lost_ran : seen.won ≡ false → ((place : ℕ) → words place ≡ world.words place) → Ran
-  lost_ran saw leaves = record { after = world; helps = looks; words_are = λ place. sym (leaves place); tells = no_win (inr saw) refl refl }
+  lost_ran saw leaves = record { after = world; helps = looks; is = kept_is world.words (and_second (installs walk.step) seen.won saw) (λ place. sym (leaves place)); tells = no_win (inr saw) refl refl }
 
   put_ran : (at to : ℕ) → installs walk.step ≡ false → words at ≡ to → ((place : ℕ) → place ≢ at → words place ≡ world.words place) → Helps form world offer (put_word at to world) → Ran
-  put_ran at to no_install there others helps = record { after = put_word at to world; helps = helps; words_are = put_is at to world.words words there others; tells = no_win (inl no_install) refl refl }
+  put_ran at to none there others helps = record {
+    after = put_word at to world;
+    helps = helps;
+    is = kept_is (with_word at to world.words) (no_install none) (put_is at to world.words words there others);
+    tells = no_win (inl none) refl refl;
+  }
+
+  -- the world with this entry
+  abbrev with_entry : ℕ → (ℕ → ℕ) → World
+  with_entry j f = ran_by form world offer j f true (Some own)
+
+  entry_is : (j : ℕ) → walk.next ≡ j → installs walk.step ≡ true → seen.won ≡ true → ((place : ℕ) → with_word own.target (marked_word own.to) world.words place ≡ words place)
+      → with_entry j (with_word own.target (marked_word own.to) world.words) ≡ ran_world form world offer walk seen words
+  entry_is j at install saw same =
+      (λ i. with_entry j (λ place. same place i)) ∙ ap (λ k. with_entry k words) (sym at) ∙ ap (λ (e : Option Entry). ran_by form world offer walk.next words true e) (sym own_listed)
+      ∙ ap (λ (b : Bool). ran_by form world offer walk.next words b (slice_get offer.list.entries walk.next)) (sym (and_from (installs walk.step) seen.won install saw))
 
   install_ran : installs walk.step ≡ true → seen.won ≡ true → world.words own.target ≡ own.from → words own.target ≡ marked_word own.to → ((place : ℕ) → place ≢ own.target → words place ≡ world.words place) → Ran
   install_ran install saw at there others =
+      let same = put_is own.target (marked_word own.to) world.words words there others in
       elim (cases_eq walk.next 0) [
         | inl first ↦ record {
           after = first_entered form world offer own;
           helps = installs_first own (subst (λ j. IsEntry offer.list.entries j own) first own_listed) at;
-          words_are = put_is own.target (marked_word own.to) world.words words there others;
+          is = entry_is 0 first install saw same;
           tells = wins install saw own (form.cause_of world (By offer.list 0) own) own_listed at
               (ap (λ k. record { place = own.target; before = own.from; after = own.to; maker = By offer.list k; cause = form.cause_of world (By offer.list 0) own } ∷ world.journal) (sym first))
               (ap (λ k. with_change (object form) (listed_if (form.adds offer.list k) offer.list) world.changes) (sym first));
@@ -84,7 +111,7 @@ module _ {S W : Type 0} (form : NormalForm S W) (world : World) (offers : ℕ �
             record {
               after = entered form world offer 1 own;
               helps = installs_second own (subst (λ j. IsEntry offer.list.entries j own) second own_listed) (subst (λ j. AreBehind world offer j) second behind) at;
-              words_are = put_is own.target (marked_word own.to) world.words words there others;
+              is = entry_is 1 second install saw same;
               tells = wins install saw own (form.cause_of world (By offer.list 1) own) own_listed at
                   (ap (λ k. record { place = own.target; before = own.from; after = own.to; maker = By offer.list k; cause = form.cause_of world (By offer.list 1) own } ∷ world.journal) (sym second))
                   (ap (λ k. with_change (object form) (listed_if (form.adds offer.list k) offer.list) world.changes) (sym second));
@@ -123,19 +150,14 @@ module _ {S W : Type 0} (form : NormalForm S W) (world : World) (offers : ℕ �
       (subst (λ r. IsMade r world.words words seen) (request_is (site_of offer) mine.site world.words words (has_taken world.journal offer.list) (has_taken world.journal offer.list) walk seen knows own own_listed) made)
       (knows.at_entry own own_listed)
 
-  made_there : (after : World) → ((place : ℕ) → after.words place ≡ words place) → IsMade (slow_request walk) world.words after.words seen
-  made_there after same = record {
-    here = same (place_of (slow_request walk)) ∙ made.here;
-    beside = λ place apart. same place ∙ made.beside place apart;
-    tells = made.tells;
-  }
+  abbrev after_ran : World
+  after_ran = ran_world form world offer walk seen words
 
-  pub run_helps : (after : World) × Helps form world offer after × ((place : ℕ) → after.words place ≡ words place)
-      × RunHelps (site_of offer) after.words (has_taken after.journal offer.list) (slow_fed walk seen) (slow_execution walk seen)
-  run_helps =
-      let r = ran in (
-        r.after,
-        r.helps,
-        r.words_are,
-        own_helps form world offers holds.blocks block offer stands walk seen r.after.words (has_taken r.after.journal offer.list) knows (made_there r.after r.words_are) (taken_by form world r.after offer.list walk seen r.tells),
-      )
+  pub run_tells : Tells form world after_ran offer.list walk seen
+  run_tells = (let r = ran in subst (λ (w : World). Tells form world w offer.list walk seen) r.is r.tells)
+
+  pub run_helps : Helps form world offer after_ran
+  run_helps = (let r = ran in subst (Helps form world offer) r.is r.helps)
+
+  pub run_knows : RunHelps (site_of offer) words (has_taken after_ran.journal offer.list) (slow_fed walk seen) (slow_execution walk seen)
+  run_knows = own_helps form world offers holds.blocks block offer stands walk seen words (has_taken after_ran.journal offer.list) knows made (taken_by form world after_ran offer.list walk seen run_tells)
