@@ -105,7 +105,7 @@ module _ {S W : Type 0} (form : NormalForm S W) (world after : World) (offers : 
     does_of (restarts head word offer phase of dead won offers_same) = puts (12 + head) _ (record_plain head won.small) won.after_is
     does_of (executes block offer stands is offers_same) = helper_does block offer stands is
     does_of (beside entry is uses offers_same) = exchanges Beside (form.adds_beside world entry) entry is uses
-    does_of (enters list j entry is uses offers_same) = exchanges (By list j) (listed_if (form.adds list j) list) entry is uses
+    does_of (enters list j entry fast is uses offers_same) = exchanges (By list j) (listed_if (form.adds list j) list) entry is uses
 
     -- ---- the offers stay
 
@@ -130,4 +130,4 @@ module _ {S W : Type 0} (form : NormalForm S W) (world after : World) (offers : 
     offers_stay (restarts head word o phase of dead won offers_same) block offer = same_offers block offer offers_same
     offers_stay (executes b o stands is offers_same) block offer = same_offers block offer offers_same
     offers_stay (beside entry is uses offers_same) block offer = same_offers block offer offers_same
-    offers_stay (enters list j entry is uses offers_same) block offer = same_offers block offer offers_same
+    offers_stay (enters list j entry fast is uses offers_same) block offer = same_offers block offer offers_same

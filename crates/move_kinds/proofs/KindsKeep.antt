@@ -123,4 +123,4 @@ module _ {S W : Type 0} (form : NormalForm S W) (laws : Laws form) (world : Worl
         (λ e. let both : Generate ≡ Executing = sym (phase-word Generate (record_number word) ((record_round word + 1) % 2 ^ 17) 0) ∙ e in absurd cc))
     kind_kept (executes block offer stands is o) = with_offers o (helps_kept form laws world offers holds block offer stands after is).0
     kind_kept (beside entry is uses o) = with_offers o (exchange_kept form laws world after offers holds Beside (form.adds_beside world entry) entry is)
-    kind_kept (enters list j entry is uses o) = with_offers o (exchange_kept form laws world after offers holds (By list j) (listed_if (form.adds list j) list) entry is)
+    kind_kept (enters list j entry fast is uses o) = with_offers o (exchange_kept form laws world after offers holds (By list j) (listed_if (form.adds list j) list) entry is)

@@ -14,6 +14,7 @@ use Rattle.move_kinds.proofs.Does.{does_of, does_step}
 use Rattle.move_kinds.proofs.HelperChanges.{none_new, new_named}
 use Rattle.move_kinds.proofs.KindsKeep.{kind_kept}
 use Rattle.move_kinds.proofs.KindsLeave.{kind_leaves}
+use Rattle.move_kinds.proofs.MayMake.{may_make, record_kept}
 use Rattle.move_kinds.proofs.SpareKept as spare
 use Rattle.move_kinds.proofs.TellsKept.{tells_still}
 
@@ -57,3 +58,9 @@ module _ {S W : Type 0} (form : NormalForm S W) (laws : Laws form) where
   pub kinds_keep_telling : law.KindsKeepTelling form
   kinds_keep_telling world after offers offers' mover hand call begun at payload told holds kind new tells =
       tells_still form laws world after offers offers' holds (leaves_none world after offers offers' mover hand holds kind) call begun at payload told new tells
+
+  pub records_kept : law.RecordsKept form
+  records_kept world after offers offers' mover hand call begun holds owned kind number = (
+    may_make form laws world after offers offers' holds owned mover hand call begun number kind,
+    record_kept form laws world after offers offers' holds owned mover hand call begun number kind,
+  )

@@ -10,5 +10,6 @@ pub mod Contents
 pub mod OutcomesKept
 pub mod HelperChanges
 pub mod TellsKept
+pub mod MayMake
 pub mod Stores
 pub mod LawLemmas

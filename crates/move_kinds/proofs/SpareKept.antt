@@ -44,7 +44,7 @@ module _ {S W : Type 0} (form : NormalForm S W) (laws : Laws form) (world after 
   unnamed_after (restarts head word o phase of dead won offers_same) = unnamed_same offers_same
   unnamed_after (executes b o stands is offers_same) = unnamed_same offers_same
   unnamed_after (beside entry is uses offers_same) = unnamed_same offers_same
-  unnamed_after (enters list j entry is uses offers_same) = unnamed_same offers_same
+  unnamed_after (enters list j entry fast is uses offers_same) = unnamed_same offers_same
 
   pub spare_kept : IsSpare after offers' block
   spare_kept = record { some = spare.some; unused = unused_after (does_of form world after offers hand laws holds offers' mover kind); unnamed = unnamed_after kind }

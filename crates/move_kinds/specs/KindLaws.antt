@@ -4,7 +4,7 @@ use Rattle.lin_report.specs.declared.calls.Outcome.{Outcome}
 use Rattle.word_fields.specs.declared.records.Phase.{Phase}
 use Rattle.word_fields.specs.declared.records.Phase.TheVariants.{Executing}
 use Rattle.word_fields.specs.Payloads.{payload_block}
-use Rattle.word_fields.specs.Records.{record_payload, record_phase}
+use Rattle.word_fields.specs.Records.{record_number, record_payload, record_phase}
 use Rattle.node_arena.specs.MemoryMap.{record_place}
 use Rattle.normal_traits.specs.World.{Called, World}
 use Rattle.normal_traits.specs.NormalForm.{NormalForm}
@@ -17,6 +17,7 @@ use Rattle.offered_blocks.specs.Records.{Names, RecordTells}
 use Rattle.move_kinds.specs.Contents.{HasContents}
 use Rattle.move_kinds.specs.Kinds.{Kind}
 use Rattle.move_kinds.specs.Moves.{Leaves}
+use Rattle.move_kinds.specs.Owned.{AllOwned, RecordKnown}
 use Rattle.move_kinds.specs.Telling.{MayMake, NewOf, NoneNew}
 
 module _ {S W : Type 0} (form : NormalForm S W) where
@@ -58,3 +59,12 @@ module _ {S W : Type 0} (form : NormalForm S W) where
       (world after : World) (offers offers' : ℕ → Option (Offer S)) (mover : ℕ) (hand : Option ℕ) (call : Called) (begun : ℕ) (at : Phase) (payload : ℕ) (told : Option Outcome) → HasOffers form world offers
       → Kind form world after offers offers' mover hand → MayMake form world after offers call begun at payload
       → RecordTells form world offers call begun at payload told → RecordTells form after offers' call begun at payload told
+
+  -- where the record of a seat is that of the seat's call, a move makes no change of the call but of the list that the
+  -- record names. So it keeps what the record tells, as long as it is not an exchange of that record itself
+  abbrev pub RecordsKept : Type 0
+  RecordsKept =
+      (world after : World) (offers offers' : ℕ → Option (Offer S)) (mover : ℕ) (hand : Option ℕ) (call : Called) (begun : ℕ) → HasOffers form world offers → AllOwned form world offers
+      → Kind form world after offers offers' mover hand → record_number (world.words (record_place call.seat)) ≡ call.number
+      → MayMake form world after offers call begun (record_phase (world.words (record_place call.seat))) (record_payload (world.words (record_place call.seat)))
+      × (after.words (record_place call.seat) ≡ world.words (record_place call.seat) → RecordKnown form world offers call begun → RecordKnown form after offers' call begun)

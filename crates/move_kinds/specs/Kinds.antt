@@ -1,6 +1,6 @@
 -- The kinds of moves: what one move of one seat does to the client's world and to the offers, with what the mover
 -- knew of it. Each part of what holds in a run is kept by each kind, so no proof of that looks at phases.
-use Rattle.std.specs.Prelude.{◌≡◌, ℕ, ◌<◌, ◌⊎◌, true, false, Option, Some}
+use Rattle.std.specs.Prelude.{◌≡◌, ◌≢◌, ℕ, ◌<◌, ◌⊎◌, true, false, Option, Some}
 use Rattle.lin_report.specs.declared.calls.Outcome.{Outcome}
 use Rattle.word_fields.specs.declared.records.Phase.TheVariants.{Generate, Executing, Wrapping}
 use Rattle.word_fields.specs.Records.{record_of, record_phase, record_number, packed_record}
@@ -15,7 +15,7 @@ use Rattle.normal_traits.specs.World.Maker.{By, Beside}
 use Rattle.normal_traits.specs.NormalForm.{NormalForm}
 use Rattle.normal_traits.specs.Steps.{listed_if, put_word}
 use Rattle.fast_slow_engine.specs.HelpWords.{again_word, executing_word, named_block, wrapping_word}
-use Rattle.offered_blocks.specs.Blocks.{Offer}
+use Rattle.offered_blocks.specs.Blocks.{Offer, record_for}
 use Rattle.offered_blocks.specs.HelperSteps.{Helps}
 use Rattle.offered_blocks.specs.OtherSteps.{CanName, IsExchange, IsSpare, IsStored, with_offer}
 use Rattle.move_kinds.specs.Offering.{IsOfferFor, StopsAt}
@@ -37,6 +37,10 @@ pub record IsWon (world after : World) (head word to : ℕ) : Type 0 where
 -- no block becomes used but that in hand
 abbrev pub UsesHand : World → World → Option ℕ → Type 0
 UsesHand world after hand = (block : ℕ) → after.used block ≡ true → (world.used block ≡ true) ⊎ (hand ≡ Some block)
+
+-- the record of the list's seat is of another call than the list's
+abbrev pub IsUnannounced : World → Listed → Type 0
+IsUnannounced world list = record_number (record_for world list) ≢ list.call.number
 
 module _ {S W : Type 0} (form : NormalForm S W) (world after : World) where
   -- a move of a seat with this block in hand
@@ -71,6 +75,6 @@ module _ {S W : Type 0} (form : NormalForm S W) (world after : World) where
     executes : (block : ℕ) (offer : Offer S) → offers block ≡ Some offer → Helps form world offer after → offers' ≡ offers → Kind offers offers' mover hand
     -- a search or a wrap-up wins an exchange
     beside : (entry : Entry) → IsExchange form world after offers Beside (form.adds_beside world entry) entry → UsesHand world after hand → offers' ≡ offers → Kind offers offers' mover hand
-    -- an entry of a list that its own seat executes wins
-    enters : (list : Listed) (j : ℕ) (entry : Entry) → IsExchange form world after offers (By list j) (listed_if (form.adds list j) list) entry → UsesHand world after hand → offers' ≡ offers
+    -- an entry of a list that its own seat executes wins; the call of the list was not announced
+    enters : (list : Listed) (j : ℕ) (entry : Entry) → IsUnannounced world list → IsExchange form world after offers (By list j) (listed_if (form.adds list j) list) entry → UsesHand world after hand → offers' ≡ offers
         → Kind offers offers' mover hand

@@ -3,4 +3,5 @@ pub mod Contents
 pub mod Offering
 pub mod Kinds
 pub mod Telling
+pub mod Owned
 pub mod KindLaws

@@ -1,5 +1,5 @@
 //! What is so of every kind of move, of any structure in normalized form.
-ghost use Rattle.move_kinds.specs.KindLaws.{KindsKeepBlocks, KindsKeepSpare, KindsLeave, KindsKeepContents, HelpersChangeNamed, KindsKeepTelling};
+ghost use Rattle.move_kinds.specs.KindLaws.{KindsKeepBlocks, KindsKeepSpare, KindsLeave, KindsKeepContents, HelpersChangeNamed, KindsKeepTelling, RecordsKept};
 
 use normal_traits::Normalized;
 
@@ -32,4 +32,10 @@ pub fn helpers_change_named<C: Normalized>()
 /// What the record of a call tells stays so where a move makes no change for it but that of the list it names.
 pub fn kinds_keep_telling<C: Normalized>()
     ensures { KindsKeepTelling C.form }
+{}
+
+/// While the record of a seat is that of the seat's call, a move of any kind makes no change of the call but of the list
+/// that the record names; and what the record tells stays so, unless the move is an exchange of that record.
+pub fn records_kept<C: Normalized>()
+    ensures { RecordsKept C.form }
 {}

@@ -5,8 +5,8 @@ use Rattle.op_record.specs.Progress.{IsEarlier}
 use Rattle.help_queue_laws.specs.declared.phases.Phase.{Phase as QueuePhase}
 use Rattle.help_queue_laws.specs.declared.phases.Phase.TheVariants.{Look, StoreValue, StoreOp, StoreRecord, Enters, Drive, Collect, Helps}
 use Rattle.help_queue_laws.specs.declared.phases.Helping.{Helping}
-use Rattle.help_queue_laws.proofs.Scenes.{Scene, IsSince}
-use Rattle.help_queue_laws.proofs.Knowledge.{BackFacts, IsHelped, PhaseFacts}
+use Rattle.help_queue_laws.proofs.Known.Scenes.{Scene, IsSince}
+use Rattle.help_queue_laws.proofs.Known.Knowledge.{BackFacts, IsHelped, PhaseFacts}
 use Rattle.fast_slow_engine.specs.declared.phases.Phase.{Phase}
 use Rattle.run_queue.specs.QueueViews.{helping_view, next_number, phase_view}
 use Rattle.fast_slow_engine.specs.declared.phases.Phase.TheVariants as phase

@@ -8,8 +8,8 @@ use Rattle.node_arena.specs.MemoryMap.{record_place}
 use Rattle.help_queue.specs.Gathers.{is_open}
 use Rattle.normal_traits.specs.World.{Called, Listed, World}
 use Rattle.normal_traits.specs.NormalForm.{NormalForm}
-use Rattle.help_queue_laws.proofs.Scenes.{Scene, IsSound}
-use Rattle.help_queue_laws.proofs.Knowledge.{IsHelped, PhaseFacts}
+use Rattle.help_queue_laws.proofs.Known.Scenes.{Scene, IsSound}
+use Rattle.help_queue_laws.proofs.Known.Knowledge.{IsHelped, PhaseFacts}
 use Rattle.fast_slow_engine.specs.declared.phases.Phase.{Phase}
 use Rattle.fast_slow_engine.specs.declared.phases.Phase.TheVariants as phase
 use Rattle.offered_blocks.specs.Blocks.{Offer, IsExecuting}
@@ -17,7 +17,7 @@ use Rattle.offered_blocks.specs.Records.{RecordIsRight}
 use Rattle.run_queue.specs.QueueViews.{next_number, phase_view}
 use Rattle.run_queue.proofs.Moves.Owners.{Publishes}
 use Rattle.run_queue.proofs.Moves.WonRecords.{same_fields, is_made, none_executed}
-use Rattle.helper_knowledge.specs.Callers.{IfStill, caller_of}
+use Rattle.move_kinds.specs.Owned.{RecordKnown}
 use Rattle.helper_knowledge.specs.Meetings.{Meets}
 
 -- a seat that publishes makes the call that the queue counts
@@ -37,11 +37,6 @@ runs (phase.Value reference) number is = absurd is
 runs (phase.End reply) number is = absurd is
 
 module _ {S W : Type 0} (form : NormalForm S W) (world : World) (offers : ℕ → Option (Offer S)) where
-  -- what the record of a seat tells, where it is that of the call which the seat makes
-  abbrev pub RecordKnown : Called → ℕ → Type 0
-  RecordKnown call begun =
-      IfStill (caller_of call begun) (record_number (world.words (record_place call.seat))) (RecordIsRight form world offers call begun (record_of (world.words (record_place call.seat))))
-
   -- what the queue has of a head, its seat's phase, and a record word that a helper loaded
   pub record HeadIs (a : Scene) (seats head word : ℕ) (phase : Phase S W) (number : ℕ) : Type 0 where
     pub small : head < 8
@@ -52,7 +47,7 @@ module _ {S W : Type 0} (form : NormalForm S W) (world : World) (offers : ℕ �
     pub facts : PhaseFacts a seats head (next_number phase number) (phase_view phase)
 
   module _ (a : Scene) (seats head word : ℕ) (phase : Phase S W) (call : Called) (begun : ℕ) (is : HeadIs a seats head word phase call.number) (seat_is : call.seat ≡ head)
-      (stood : world.words (record_place head) ≡ packed_record (record_of word)) (known : RecordKnown call begun) where
+      (stood : world.words (record_place head) ≡ packed_record (record_of word)) (known : RecordKnown form world offers call begun) where
     there : a.records head ≡ packed_record (record_of word)
     there = is.reads head is.small ∙ stood
 
@@ -70,6 +65,6 @@ module _ {S W : Type 0} (form : NormalForm S W) (world : World) (offers : ℕ �
       stood = stood;
       seat_is = seat_is;
       number_is = number_now;
-      tells = subst (λ (r : RecordWord). RecordIsRight form world offers call begun r) fields_now (known (sym number_now ∙ sym (ap (λ (r : RecordWord). r.number) fields_now)));
+      tells = subst (λ (r : RecordWord). RecordIsRight form world offers call begun r) fields_now (known (ap (λ (r : RecordWord). r.number) fields_now ∙ number_now));
       none = λ generates list executing. none_executed a is.sound head word is.helped there generates list.call.seat (ap record_phase (is.reads list.call.seat executing.seated) ∙ executing.phase);
     }
