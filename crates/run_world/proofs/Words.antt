@@ -1,0 +1,4 @@
+pub mod WordLemmas
+pub mod Opens
+pub mod Grow
+pub mod Moved

@@ -1,0 +1,5 @@
+pub mod Ghosts
+pub mod Worlds
+pub mod SeatSteps
+pub mod RunGhosts
+pub mod Moves
