@@ -2,3 +2,4 @@ pub mod WordLemmas
 pub mod Opens
 pub mod Grow
 pub mod Moved
+pub mod Seats

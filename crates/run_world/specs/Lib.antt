@@ -3,3 +3,4 @@ pub mod Worlds
 pub mod SeatSteps
 pub mod RunGhosts
 pub mod Moves
+pub mod Lists

@@ -1,6 +1,7 @@
 -- What is known after a move of a seat, and the world after it.
 use Rattle.std.proofs.Common.{◌≡◌, ◌≢◌, ◌∙◌, refl, sym, ap, ℕ, ◌==◌, if◌then◌else◌, true, false, List, ◌∷◌, length, slice_get, slice_index, Option, Some, None, arith}
 use Rattle.std.proofs.lemmas.Bool.Decides.{nat_tests}
+use Rattle.step_memory.specs.declared.steps.Seen.{Seen}
 use Rattle.step_memory.specs.Step.{seen_of, words_after}
 use Rattle.normal_traits.specs.World.{World}
 use Rattle.normal_traits.specs.NormalForm.{NormalForm}
@@ -41,6 +42,18 @@ module _ {S W : Type 0} (form : NormalForm S W) where
   world_made mech held offers words world =
       with_list (words_after (mech_request form mech) words) (world_stepped form mech.phase held offers (seen_of (mech_request form mech) words) world)
 
+  -- what a move asks, and what that sees
+  abbrev pub seen_by : Setup → List Move → Move → Mech S W → Seen
+  seen_by setup older move mech = seen_of (mech_request form (begun move.begins mech)) (run_of form setup older).words
+
+  -- what is known of its seat after a move of this machine
+  abbrev pub seat_after : Setup → List Move → Move → Mech S W → SeatGhost S
+  seat_after setup older move mech =
+      let one = begun move.begins mech in
+      let seen = seen_by setup older move mech in
+      let ghost = ghost_of form setup older in
+      seat_stepped form (length older) (length (world_stepped form one.phase (ghost.seats move.seat).held ghost.offers seen (world_of form setup older)).changes) one seen (ghost.seats move.seat)
+
   module _ (setup : Setup) (older : List Move) (move : Move) (mech : Mech S W) (at : slice_get (run_of form setup older).mechs move.seat ≡ Some mech) where
     -- what is known after the move is that after the step of its machine
     pub made_ghost : ghost_of form setup (move ∷ older) ≡ ghost_stepped form (length older) move.seat (begun move.begins mech) (run_of form setup older).words (ghost_of form setup older)
@@ -55,14 +68,10 @@ module _ {S W : Type 0} (form : NormalForm S W) where
         ∙ ap (λ (g : Ghost S). world_with (run_of form setup (move ∷ older)).words g) (sym made_ghost)
 
     -- what is known of the seat that moves
-    pub made_seat : (ghost_of form setup (move ∷ older)).seats move.seat
-        ≡ (let one = begun move.begins mech in
-        let seen = seen_of (mech_request form one) (run_of form setup older).words in
-        let ghost = ghost_of form setup older in
-        seat_stepped form (length older) (length (world_stepped form one.phase (ghost.seats move.seat).held ghost.offers seen (world_of form setup older)).changes) one seen (ghost.seats move.seat))
+    pub made_seat : (ghost_of form setup (move ∷ older)).seats move.seat ≡ seat_after setup older move mech
     made_seat = ap (λ (g : Ghost S). g.seats move.seat) made_ghost ∙ own_seat move.seat _ (ghost_of form setup older).seats
 
     -- and of the blocks that records have named
     pub made_offers : (ghost_of form setup (move ∷ older)).offers
-        ≡ offers_after (begun move.begins mech).phase (seen_of (mech_request form (begun move.begins mech)) (run_of form setup older).words) ((ghost_of form setup older).seats move.seat).carried.filled (ghost_of form setup older).offers
+        ≡ offers_after (begun move.begins mech).phase (seen_by setup older move mech) ((ghost_of form setup older).seats move.seat).carried.filled (ghost_of form setup older).offers
     made_offers = ap (λ (g : Ghost S). g.offers) made_ghost
