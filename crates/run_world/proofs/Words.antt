@@ -3,3 +3,4 @@ pub mod Opens
 pub mod Grow
 pub mod Moved
 pub mod Seats
+pub mod Wins

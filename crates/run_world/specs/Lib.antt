@@ -4,3 +4,4 @@ pub mod SeatSteps
 pub mod RunGhosts
 pub mod Moves
 pub mod Lists
+pub mod Identities
