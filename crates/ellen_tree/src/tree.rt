@@ -1,11 +1,11 @@
 //! The tree as a structure in normalized form.
 
-use crate::offers::{may_list, offered};
+use crate::offers::{add_stores_of, list_of, may_list};
 use crate::search::{asked, begun, fed};
 use crate::wrap::{begun_wrap, wrap_begun, wrap_fed};
 use ellen_tree_laws::TreeSearch;
 use lin_report::{Client, Op};
-use normal_traits::{Found, List, Normalized, Offer, Wrapped};
+use normal_traits::{Found, List, Normalized, Stores, Wrapped};
 use step_memory::{Request, Seen};
 use tree_help::Help;
 
@@ -46,8 +46,12 @@ impl Normalized for EllenTree {
         found
     }
 
-    fn offer(search: &TreeSearch, op: Op, block: u32) -> Offer {
-        offered(*search, op, block)
+    fn list(search: &TreeSearch, op: Op, block: u32) -> List {
+        list_of(*search, op, block)
+    }
+
+    fn stores(search: &TreeSearch, op: Op, block: u32, stores: &mut Stores) {
+        add_stores_of(*search, op, block, stores);
     }
 
     fn begin_wrap(op: Op, list: &List, stop: u32) -> (Help, Wrapped) {

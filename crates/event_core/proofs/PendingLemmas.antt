@@ -48,6 +48,7 @@ module _ {S W : Type 0} where
         put ∙ ap (λ c. calls ++ option_to_list c) is ∙ ap (λ l. l ++ call_in s.mech) so_far ∙ next_pending seats i s inside at,
         omega (arith, l, longer, one, few),
       )
+
   -- in another order they are the calls of the run
   pub all_gathered : {view : CoreView S W} (setup : Setup) (words : List ℕ) (seats items : List (Seat S W)) (receipts : List Receipt) (events : List Event) (i : ℕ) (pending now new : List PendingCall)
       → core_of setup words seats receipts events ≡ view → items ≡ seats → length items ≤ i → pending ≡ pending_of (map (λ (seat : Seat S W). seat.mech) (take i items)) → now ≡ pending

@@ -1,6 +1,5 @@
 -- The port of seat 0 is whole once it has taken in that of seat 1.
-use Rattle.std.proofs.Common.{arith, ◌≡◌, ◌≢◌, ◌∙◌, refl, sym, ap, ℕ, ◌≤◌, Bool, true, List, [], ◌∷◌, ◌++◌, if◌then◌else◌}
-use mathlib.Core.Option.{some}
+use Rattle.std.proofs.Common.{arith, ◌≡◌, ◌∙◌, sym, ap, Bool, true, List, ◌∷◌, ◌++◌, if◌then◌else◌}
 use lib.ListN.{get_elem?}
 use Rattle.shared_memory.specs.declared.view.View.{View}
 use Rattle.shared_memory.specs.declared.view.Gathered.{Gathered}

@@ -31,6 +31,6 @@ returns g c = record {
       let new : Worker g.row.C.Denot g.row.C-Search.Denot g.row.C-Wrap.Denot = slice_index_or c.for_each_mut.new.s i d in (
         sym (ap table at.left) ∙ at.call.0 ∙ ap table at.argument_is ∙ (c.requires.ready i d inside).0,
         subst (λ (w : Worker g.row.C.Denot g.row.C-Search.Denot g.row.C-Wrap.Denot). Worked w.port.view new.port.view new.machine w.commands.items new.receipts.items) at.argument_is
-        (subst (λ (w : Worker g.row.C.Denot g.row.C-Search.Denot g.row.C-Wrap.Denot). Worked old.port.view w.port.view w.machine old.commands.items w.receipts.items) at.left at.call.1),
+            (subst (λ (w : Worker g.row.C.Denot g.row.C-Search.Denot g.row.C-Wrap.Denot). Worked old.port.view w.port.view w.machine old.commands.items w.receipts.items) at.left at.call.1),
       );
 }

@@ -1,4 +1,4 @@
-use Rattle.std.proofs.Common.{◌≡◌, sym, subst}
+use Rattle.std.proofs.Common.{sym, subst}
 use Rattle.shared_memory.specs.Closing.{IsWhole}
 use Rattle.thread_tests.proofs.Wholes.{whole_of_two}
 use Rattle.thread_tests.proofs.ports.close_two.Goals as goal
