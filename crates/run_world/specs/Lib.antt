@@ -5,3 +5,4 @@ pub mod RunGhosts
 pub mod Moves
 pub mod Lists
 pub mod Identities
+pub mod Hands

@@ -1,0 +1,2 @@
+pub mod OwnBlocks
+pub mod Counts
