@@ -1,9 +1,9 @@
 -- What is so of helpers and of what they know, of any structure in normalized form.
-use Rattle.std.specs.Prelude.{◌≡◌, ◌≢◌, ℕ, Option, Some}
+use Rattle.std.specs.Prelude.{◌≡◌, ◌≢◌, ℕ, ◌^◌, ◌<◌, true, List, length, Option, Some}
 use Rattle.step_memory.specs.declared.steps.Seen.{Seen}
 use Rattle.word_fields.specs.declared.records.Phase.{Phase}
 use Rattle.word_fields.specs.Records.{record_number}
-use Rattle.normal_traits.specs.World.{Called, World}
+use Rattle.normal_traits.specs.World.{Called, World, is_word}
 use Rattle.normal_traits.specs.NormalForm.{NormalForm}
 use Rattle.fast_slow_engine.specs.declared.help.Work.{Work}
 use Rattle.fast_slow_engine.specs.declared.help.WorkTurn.TheVariants.{Going}
@@ -11,10 +11,12 @@ use Rattle.fast_slow_engine.specs.HelpTable.{CanWork, work_fed, work_hand, work_
 use Rattle.offered_blocks.specs.Blocks.{Offer}
 use Rattle.offered_blocks.specs.Holds.{HasOffers}
 use Rattle.offered_blocks.specs.OtherSteps.{IsSpare}
+use Rattle.move_kinds.specs.Contents.{HasContents}
 use Rattle.move_kinds.specs.Kinds.{Kind}
 use Rattle.helper_knowledge.specs.Callers.{Caller, Follows, caller_of}
 use Rattle.helper_knowledge.specs.Carried.{Carried}
 use Rattle.helper_knowledge.specs.HelperStep.{HandIsSpare, RestsOn, Steps, UsedSmall}
+use Rattle.helper_knowledge.specs.Knowing.{KnowsOffer}
 use Rattle.helper_knowledge.specs.Meetings.{HasWon, IsNew, Meets}
 use Rattle.helper_knowledge.specs.WorkKnown.{KnowsWork, MayAdvance, NamedBy}
 
@@ -49,6 +51,12 @@ module _ {S W : Type 0} (form : NormalForm S W) where
       (world after : World) (offers : ℕ → Option (Offer S)) (caller : Caller) (head word : ℕ) (hand : Option ℕ) (own own' : Carried S) (identity cap : ℕ) (seen : Seen) (does : Work S W)
       → RestsOn form world offers head caller → HandIsSpare world offers hand → UsedSmall after → CanWork form does → Steps form world after offers head word hand own own' identity cap seen does → work_turn form does head word seen ≡ Going
       → KnowsWork form world offers caller head word hand own does → KnowsWork form after offers caller head word (work_hand does hand cap seen) own' (work_fed form does head word hand cap seen)
+
+  -- a block that is filled for a list holds the operation and the list of its call
+  abbrev pub FilledHolds : Type 0
+  FilledHolds =
+      (world : World) (offers : ℕ → Option (Offer S)) (caller : Caller) (head word block : ℕ) (stores : List (ℕ × ℕ)) (offer : Offer S) → HasOffers form world offers → ((place : ℕ) → is_word world place ≡ true → place < 2 ^ 32)
+      → KnowsOffer form world caller head word block stores (length stores) offer → HasContents world offer
 
   -- and where it wins an exchange of the record, that is one of the kinds, and the record tells what is right
   abbrev pub AdvancesAreRight : Type 0

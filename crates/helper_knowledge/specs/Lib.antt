@@ -5,3 +5,4 @@ pub mod WorkKnown
 pub mod Meetings
 pub mod HelperStep
 pub mod KnowledgeLaws
+pub mod CallLaws

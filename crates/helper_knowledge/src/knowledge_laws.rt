@@ -1,5 +1,5 @@
 //! What is so of helpers and of what they know, of any structure in normalized form.
-ghost use Rattle.helper_knowledge.specs.KnowledgeLaws.{KnowledgeKept, NamedKept, WorkIsKind, WorkGoesOn, AdvancesAreRight};
+ghost use Rattle.helper_knowledge.specs.KnowledgeLaws.{KnowledgeKept, NamedKept, WorkIsKind, WorkGoesOn, FilledHolds, AdvancesAreRight};
 
 use normal_traits::Normalized;
 
@@ -22,6 +22,11 @@ pub fn work_is_kind<C: Normalized>()
 /// After it the helper knows what it must for its next work, and outcomes that it is about to tell fit a record.
 pub fn work_goes_on<C: Normalized>()
     ensures { WorkGoesOn C.form }
+{}
+
+/// A block into which all stores of a list were made holds the operation and the list of its call, as others read them.
+pub fn filled_holds<C: Normalized>()
+    ensures { FilledHolds C.form }
 {}
 
 /// Where a helper wins the exchange of the record that it was about to make, however late it came to it, that is one of

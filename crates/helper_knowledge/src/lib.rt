@@ -2,4 +2,5 @@
 //! helper's own leaves it what it needs for the next one, and that it is enough where an exchange of the record is won.
 #![tactic(auto)]
 
+pub mod call_laws;
 pub mod knowledge_laws;

@@ -115,7 +115,7 @@ module _ {S W : Type 0} (form : NormalForm S W) (laws : Laws form) (world : Worl
         with_offers o (left_kept after head word _ won
         (elim phase [
           | inl generates ↦ (λ e. let both : Generate ≡ Executing = sym generates ∙ e in absurd cc)
-          | inr wraps ↦ (λ e. let both : Wrapping ≡ Executing = sym wraps ∙ e in absurd cc)
+          | inr wraps ↦ (λ e. let both : Wrapping ≡ Executing = sym wraps.phase ∙ e in absurd cc)
         ])
         (λ e. let both : Completed ≡ Executing = sym (phase-word Completed (record_number word) (record_round word) (outcome_payload outcome)) ∙ e in absurd cc))
     kind_kept (restarts head word offer phase of dead won o) =

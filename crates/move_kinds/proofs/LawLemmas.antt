@@ -15,6 +15,7 @@ use Rattle.move_kinds.proofs.HelperChanges.{none_new, new_named}
 use Rattle.move_kinds.proofs.KindsKeep.{kind_kept}
 use Rattle.move_kinds.proofs.KindsLeave.{kind_leaves}
 use Rattle.move_kinds.proofs.MayMake.{may_make, record_kept}
+use Rattle.move_kinds.proofs.OwnedKinds.{kind_owned}
 use Rattle.move_kinds.proofs.SpareKept as spare
 use Rattle.move_kinds.proofs.TellsKept.{tells_still}
 
@@ -64,3 +65,6 @@ module _ {S W : Type 0} (form : NormalForm S W) (laws : Laws form) where
     may_make form laws world after offers offers' holds owned mover hand call begun number kind,
     record_kept form laws world after offers offers' holds owned mover hand call begun number kind,
   )
+
+  pub owners_kept : law.OwnersKept form
+  owners_kept world after offers offers' mover hand holds kind none owned = kind_owned form laws world after offers offers' holds mover hand kind none owned

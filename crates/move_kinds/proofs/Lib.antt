@@ -11,5 +11,7 @@ pub mod OutcomesKept
 pub mod HelperChanges
 pub mod TellsKept
 pub mod MayMake
+pub mod OwnedKept
+pub mod OwnedKinds
 pub mod Stores
 pub mod LawLemmas

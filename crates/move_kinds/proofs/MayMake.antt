@@ -68,7 +68,7 @@ module _ {S W : Type 0} (form : NormalForm S W) (laws : Laws form) (world after 
   named_of list change is of now =
       let seat : list.call.seat ≡ call.seat = ap (λ (l : Listed). l.call.seat) (sym is) ∙ of.seat in
       let at : world.words (record_place list.call.seat) ≡ word = ap (λ s. world.words (record_place s)) seat in (
-        elim now.phase [ | inl executing ↦ inl (ap record_phase (sym at) ∙ executing) | inr wrapping ↦ inr (ap record_phase (sym at) ∙ wrapping) ],
+        elim now.phase [ inl executing ↦ inl (ap record_phase (sym at) ∙ executing) | inr wrapping ↦ inr (ap record_phase (sym at) ∙ wrapping) ],
         λ n. (let block : payload_block (record_payload word) ≡ list.block = ap (λ w. payload_block (record_payload w)) (sym at) ∙ now.block in
             let one : n.offer ≡ now.offer = some_offer n.offer now.offer (offers list.block) (subst (λ b. offers b ≡ Some n.offer) block n.stands) now.stands in
             is ∙ sym now.list_is ∙ ap (λ (o : Offer S). o.list) (sym one)),
@@ -86,6 +86,7 @@ module _ {S W : Type 0} (form : NormalForm S W) (laws : Laws form) (world after 
               offer = offer;
               stands = ap offers mine.block_is ∙ is.stands;
               list_is = refl;
+              seated = made.1.seated;
               phase = inl made.1.phase;
               block = made.1.block;
             }))
@@ -108,7 +109,7 @@ module _ {S W : Type 0} (form : NormalForm S W) (laws : Laws form) (world after 
   not_announced list change is of fast =
       let seat : list.call.seat ≡ call.seat = ap (λ (l : Listed). l.call.seat) (sym is) ∙ of.seat in
       let number' : list.call.number ≡ call.number = ap (λ (l : Listed). l.call.number) (sym is) ∙ of.number in
-      absurd (fast (ap (λ s. record_number (world.words (record_place s))) seat ∙ number ∙ sym number'))
+      absurd (fast.1 (ap (λ s. record_number (world.words (record_place s))) seat ∙ number ∙ sym number'))
 
   owned_only : (list : Listed) → IsStep form world after → after.changes ≡ change_of (object form) list world.changes ∷ world.changes → IsOwned form world offers list → Only
   owned_only list step made (unannounced fast) = new_of list made (λ change is among of. not_announced list change is of fast)
@@ -149,17 +150,17 @@ module _ {S W : Type 0} (form : NormalForm S W) (laws : Laws form) (world after 
   by_phase : Only → (at : Phase) → record_phase word ≡ at → MayMake form world after offers call begun at (record_payload word)
   by_phase only phase.Idle at = λ change among of. elim (only change among of) [
     | inl old ↦ old
-    | inr now ↦ elim now.0 [ | inl e ↦ absurd (let both : phase.Idle ≡ phase.Executing = sym at ∙ e in cc) | inr e ↦ absurd (let both : phase.Idle ≡ phase.Wrapping = sym at ∙ e in cc) ]
+    | inr now ↦ elim now.0 [ inl e ↦ absurd (let both : phase.Idle ≡ phase.Executing = sym at ∙ e in cc) | inr e ↦ absurd (let both : phase.Idle ≡ phase.Wrapping = sym at ∙ e in cc) ]
   ]
   by_phase only phase.Generate at = λ change among of. elim (only change among of) [
     | inl old ↦ old
-    | inr now ↦ elim now.0 [ | inl e ↦ absurd (let both : phase.Generate ≡ phase.Executing = sym at ∙ e in cc) | inr e ↦ absurd (let both : phase.Generate ≡ phase.Wrapping = sym at ∙ e in cc) ]
+    | inr now ↦ elim now.0 [ inl e ↦ absurd (let both : phase.Generate ≡ phase.Executing = sym at ∙ e in cc) | inr e ↦ absurd (let both : phase.Generate ≡ phase.Wrapping = sym at ∙ e in cc) ]
   ]
   by_phase only phase.Executing at = λ n change among of. elim (only change among of) [ inl old ↦ inl old | inr now ↦ inr (now.1 n) ]
   by_phase only phase.Wrapping at = λ n change among of. elim (only change among of) [ inl old ↦ inl old | inr now ↦ inr (now.1 n) ]
   by_phase only phase.Completed at = λ change among of. elim (only change among of) [
     | inl old ↦ old
-    | inr now ↦ elim now.0 [ | inl e ↦ absurd (let both : phase.Completed ≡ phase.Executing = sym at ∙ e in cc) | inr e ↦ absurd (let both : phase.Completed ≡ phase.Wrapping = sym at ∙ e in cc) ]
+    | inr now ↦ elim now.0 [ inl e ↦ absurd (let both : phase.Completed ≡ phase.Executing = sym at ∙ e in cc) | inr e ↦ absurd (let both : phase.Completed ≡ phase.Wrapping = sym at ∙ e in cc) ]
   ]
 
   pub may_make : Kind form world after offers offers' mover hand → MayMake form world after offers call begun (record_phase word) (record_payload word)

@@ -17,7 +17,7 @@ use Rattle.offered_blocks.specs.Records.{Names, RecordTells}
 use Rattle.move_kinds.specs.Contents.{HasContents}
 use Rattle.move_kinds.specs.Kinds.{Kind}
 use Rattle.move_kinds.specs.Moves.{Leaves}
-use Rattle.move_kinds.specs.Owned.{AllOwned, RecordKnown}
+use Rattle.move_kinds.specs.Owned.{AllOwned, AnnouncesNone, RecordKnown}
 use Rattle.move_kinds.specs.Telling.{MayMake, NewOf, NoneNew}
 
 module _ {S W : Type 0} (form : NormalForm S W) where
@@ -68,3 +68,10 @@ module _ {S W : Type 0} (form : NormalForm S W) where
       → Kind form world after offers offers' mover hand → record_number (world.words (record_place call.seat)) ≡ call.number
       → MayMake form world after offers call begun (record_phase (world.words (record_place call.seat))) (record_payload (world.words (record_place call.seat)))
       × (after.words (record_place call.seat) ≡ world.words (record_place call.seat) → RecordKnown form world offers call begun → RecordKnown form after offers' call begun)
+
+  -- that the lists which took effect are owned is kept by every kind of move. Where a seat announces a call, its lists of
+  -- that call are to be dead, or to have made their change
+  abbrev pub OwnersKept : Type 0
+  OwnersKept =
+      (world after : World) (offers offers' : ℕ → Option (Offer S)) (mover : ℕ) (hand : Option ℕ) → HasOffers form world offers → (kind : Kind form world after offers offers' mover hand)
+      → AnnouncesNone form kind → AllOwned form world offers → AllOwned form after offers'

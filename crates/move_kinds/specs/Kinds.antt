@@ -10,7 +10,7 @@ use Rattle.node_arena.specs.MemoryMap.{block_place, op_place, value_place, recor
 use Rattle.op_record.specs.Outcomes.{completed_word}
 use Rattle.help_queue.specs.Gathers.{is_open}
 use Rattle.normal_traits.specs.declared.lists.Entry.{Entry}
-use Rattle.normal_traits.specs.World.{Listed, World}
+use Rattle.normal_traits.specs.World.{ChangedBy, Listed, World}
 use Rattle.normal_traits.specs.World.Maker.{By, Beside}
 use Rattle.normal_traits.specs.NormalForm.{NormalForm}
 use Rattle.normal_traits.specs.Steps.{listed_if, put_word}
@@ -40,7 +40,14 @@ UsesHand world after hand = (block : ℕ) → after.used block ≡ true → (wor
 
 -- the record of the list's seat is of another call than the list's
 abbrev pub IsUnannounced : World → Listed → Type 0
-IsUnannounced world list = record_number (record_for world list) ≢ list.call.number
+IsUnannounced world list = (list.call.seat < 8) × (record_number (record_for world list) ≢ list.call.number)
+
+-- the record word is in Wrapping, and the list that it names has made the change of its call, with this outcome
+pub record HasChanged {S : Type 0} (world : World) (offers : ℕ → Option (Offer S)) (head word : ℕ) (outcome : Outcome) : Type 0 where
+  pub phase : record_phase word ≡ Wrapping
+  pub offer : Offer S
+  pub of : IsOfferFor offers (named_block word) head (record_number word) offer
+  pub by : ChangedBy world offer.list outcome
 
 module _ {S W : Type 0} (form : NormalForm S W) (world after : World) where
   -- a move of a seat with this block in hand
@@ -66,7 +73,7 @@ module _ {S W : Type 0} (form : NormalForm S W) (world after : World) where
     settles : (head word stop : ℕ) (offer : Offer S) → record_phase word ≡ Executing → IsOfferFor offers (named_block word) head (record_number word) offer → StopsAt world offer stop
         → IsWon world after head word (wrapping_word word stop) → offers' ≡ offers → Kind offers offers' mover hand
     -- a call is completed
-    completes : (head word : ℕ) (outcome : Outcome) → (record_phase word ≡ Generate) ⊎ (record_phase word ≡ Wrapping)
+    completes : (head word : ℕ) (outcome : Outcome) → (record_phase word ≡ Generate) ⊎ HasChanged world offers head word outcome
         → IsWon world after head word (completed_word (record_of word) outcome) → offers' ≡ offers → Kind offers offers' mover hand
     -- its list is dead, and is to be made anew
     restarts : (head word : ℕ) (offer : Offer S) → record_phase word ≡ Wrapping → IsOfferFor offers (named_block word) head (record_number word) offer → form.dead offer.list world

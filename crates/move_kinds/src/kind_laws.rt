@@ -1,5 +1,5 @@
 //! What is so of every kind of move, of any structure in normalized form.
-ghost use Rattle.move_kinds.specs.KindLaws.{KindsKeepBlocks, KindsKeepSpare, KindsLeave, KindsKeepContents, HelpersChangeNamed, KindsKeepTelling, RecordsKept};
+ghost use Rattle.move_kinds.specs.KindLaws.{KindsKeepBlocks, KindsKeepSpare, KindsLeave, KindsKeepContents, HelpersChangeNamed, KindsKeepTelling, RecordsKept, OwnersKept};
 
 use normal_traits::Normalized;
 
@@ -38,4 +38,10 @@ pub fn kinds_keep_telling<C: Normalized>()
 /// that the record names; and what the record tells stays so, unless the move is an exchange of that record.
 pub fn records_kept<C: Normalized>()
     ensures { RecordsKept C.form }
+{}
+
+/// Each list that took effect is of a call that was not announced, or named by the record of its call, or dead, or has
+/// made its change: a move of any kind keeps that.
+pub fn owners_kept<C: Normalized>()
+    ensures { OwnersKept C.form }
 {}

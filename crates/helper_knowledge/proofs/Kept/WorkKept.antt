@@ -1,21 +1,14 @@
 -- What a helper knows is kept by whatever leaves its block, the offered blocks and the laws of the client.
-use Rattle.std.proofs.Common.{◌≡◌, ◌∙◌, refl, sym, subst, ap, ℕ, zero, suc, ◌<◌, ◌≤◌, ◌%◌, ◌^◌, List, [], ◌∷◌, ◌++◌, length, slice_get, Option, Some, None, All, arith}
+use Rattle.std.proofs.Common.{◌≡◌, ◌∙◌, sym, subst, ap, ℕ, ◌≤◌, List, length, slice_get, Option, Some, None, All, arith}
 use Rattle.lin_report.specs.declared.calls.Op.{Op}
-use Rattle.node_arena.specs.declared.places.TheConstants.{OP_FIELD, VALUE_FIELD}
-use Rattle.node_arena.specs.MemoryMap.{block_place}
 use Rattle.word_fields.specs.Announced.{op_word}
 use Rattle.word_fields.specs.Records.{record_number, record_payload, record_phase}
 use Rattle.word_fields.specs.Payloads.{payload_stop}
 use Rattle.word_fields.specs.declared.records.Phase.{Phase}
-use Rattle.normal_traits.specs.declared.lists.Entry.{Entry}
 use Rattle.normal_traits.specs.World.{World}
 use Rattle.normal_traits.specs.NormalForm.{NormalForm}
-use Rattle.normal_traits.specs.Steps.{IsStep, IsOffered}
+use Rattle.normal_traits.specs.Steps.{IsOffered}
 use Rattle.normal_traits.specs.Laws.{Laws, IsGoodStore}
-use Rattle.cas_executor.specs.declared.block_read.ReadStep.{ReadStep}
-use Rattle.cas_executor.specs.BlockReads.{ReadWalk, count_of, entry_field}
-use Rattle.cas_executor_laws.specs.Parts.{Deed}
-use Rattle.cas_executor_laws.specs.Reads.{HasRead, ReadTo, stored_count, stored_entries, stored_entry}
 use Rattle.cas_executor_laws.proofs.SiteLemmas.{knows_kept, stop_kept}
 use Rattle.fast_slow_engine.specs.declared.help.Work.{Work}
 use Rattle.fast_slow_engine.specs.HelpTable.{CanWork}
@@ -33,7 +26,6 @@ use Rattle.helper_knowledge.specs.WorkKnown.MayAdvance.{offers_it, answers, exha
 use Rattle.move_kinds.proofs.OutcomesKept.{right_still, changed_still}
 use Rattle.move_kinds.proofs.Stores.Into.{offer_into}
 use Rattle.word_fields.specs.declared.records.Phase.TheVariants as marks
-use Rattle.cas_executor.specs.declared.block_read.ReadStep.TheVariants as reads
 use Rattle.fast_slow_engine.specs.declared.help.Work.TheVariants as work
 
 -- what holds where the seat still makes a call is kept

@@ -1,17 +1,16 @@
 -- A block that is filled for a list holds the operation and the list of its call.
-use Rattle.std.proofs.Common.{◌≡◌, ◌∙◌, sym, ap, subst, ℕ, ◌<◌, ◌≤◌, ◌^◌, ◌==◌, Bool, true, false, if◌then◌else◌, List, length, slice_get, Option, Some, arith}
+use Rattle.std.proofs.Common.{◌≡◌, ◌∙◌, sym, ap, subst, ℕ, ◌<◌, ◌≤◌, ◌^◌, true, List, length, slice_get, Option, Some, arith}
 use Rattle.std.proofs.lemmas.Option.{slice_get_within}
 use Rattle.lin_report.specs.declared.calls.Op.{Op}
 use Rattle.word_fields.specs.Records.{record_number, number_below}
 use Rattle.word_fields.proofs.AnnouncedLemmas.{code-op_word, key-op_word, value-value_word}
-use Rattle.node_arena.specs.declared.places.TheConstants.{OP_FIELD, VALUE_FIELD, LENGTH_FIELD}
+use Rattle.node_arena.specs.declared.places.TheConstants.{OP_FIELD, VALUE_FIELD}
 use Rattle.node_arena.specs.MemoryMap.{block_place}
 use Rattle.normal_traits.specs.declared.lists.Entry.{Entry}
 use Rattle.normal_traits.specs.World.{World, is_word}
 use Rattle.normal_traits.specs.NormalForm.{NormalForm}
 use Rattle.normal_traits.specs.Laws.{IsGoodEntry, Laws}
 use Rattle.normal_traits.proofs.Stays.{all_at}
-use Rattle.cas_executor.specs.BlockReads.{count_of}
 use Rattle.cas_executor_laws.specs.Reads.{stored_count, stored_entries}
 use Rattle.fast_slow_engine.specs.HelpWords.{announced_op}
 use Rattle.fast_slow_engine.specs.OfferStores.{offer_stores}
@@ -19,10 +18,8 @@ use Rattle.fast_slow_engine.proofs.Commands.{code_fits, key_fits}
 use Rattle.offered_blocks.specs.Blocks.{Offer}
 use Rattle.move_kinds.proofs.BlockContents.{AllStand, reads_list, reads_op, reads_value}
 use Rattle.helper_knowledge.specs.Callers.{Caller}
-use Rattle.move_kinds.specs.Moves.{NotesStay}
 use Rattle.helper_knowledge.specs.Knowing.{KnowsOffer}
 use Rattle.move_kinds.specs.Contents.{HasContents}
-use Rattle.move_kinds.proofs.BlockReads.{count_stays, entries_stay, op_stays, value_stays}
 
 op_same : (a b : Op) → a.code ≡ b.code → a.key ≡ b.key → a.value ≡ b.value → a ≡ b
 op_same a b c k v = λ i. record { code = c i; key = k i; value = v i }

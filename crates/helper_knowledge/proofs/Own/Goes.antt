@@ -1,5 +1,5 @@
 -- After a step of its own a helper knows what it must for the next one, whatever its work is.
-use Rattle.std.proofs.Common.{◌≡◌, ◌∙◌, refl, sym, subst, ap, ℕ, ◌+◌, ◌==◌, ◌&&◌, ◌<◌, ◌^◌, not, Bool, true, false, if◌then◌else◌, length, slice_get, Option, Some, None, arith}
+use Rattle.std.proofs.Common.{◌≡◌, ◌∙◌, refl, sym, subst, ap, ℕ, ◌+◌, ◌==◌, ◌<◌, ◌^◌, not, Bool, true, false, if◌then◌else◌, length, Option, Some, None, arith}
 use Rattle.std.specs.Prelude.{get_or, nat_lt}
 use Rattle.std.proofs.lemmas.Bool.{and_parts, eqb-true}
 use Rattle.std.proofs.lemmas.Bool.Decides.{nat_tests}
@@ -14,20 +14,17 @@ use Rattle.step_memory.specs.declared.steps.Seen.{Seen}
 use Rattle.word_fields.specs.Announced.{announced_value, op_number, value_number}
 use Rattle.word_fields.specs.Fields.{field_of}
 use Rattle.word_fields.specs.Payloads.{payload_stop}
-use Rattle.word_fields.specs.Records.{record_number, record_payload, record_phase}
-use Rattle.normal_traits.specs.declared.form.Found.{Found}
+use Rattle.word_fields.specs.Records.{record_number, record_payload}
 use Rattle.normal_traits.specs.declared.form.Found.TheVariants as found
-use Rattle.normal_traits.specs.declared.form.Wrapped.{Wrapped}
 use Rattle.normal_traits.specs.declared.form.Wrapped.TheVariants as wrapped
 use Rattle.normal_traits.specs.World.{World}
 use Rattle.normal_traits.specs.NormalForm.{NormalForm}
 use Rattle.normal_traits.specs.Steps.{IsStep, put_word}
-use Rattle.normal_traits.specs.Steps.IsStep.{searches, wraps}
-use Rattle.normal_traits.specs.Laws.{FitsRecord, FoundFits, FoundWell, Laws, WrappedFits, WrappedWell}
+use Rattle.normal_traits.specs.Steps.IsStep.{searches}
+use Rattle.normal_traits.specs.Laws.{FoundFits, FoundWell, Laws, WrappedFits, WrappedWell}
 use Rattle.cas_executor.specs.BlockReads.{IsReading, ReadWalk}
 use Rattle.cas_executor.specs.SlowRuns.{SlowWalk, slow_execution, slow_fed}
-use Rattle.cas_executor_laws.specs.Parts.{Helps, Knows}
-use Rattle.fast_slow_engine.specs.declared.phases.Generating.{Generating}
+use Rattle.cas_executor_laws.specs.Parts.{Helps}
 use Rattle.fast_slow_engine.specs.declared.phases.Generating.TheVariants.{Search, LookForBlock, Claim}
 use Rattle.fast_slow_engine.specs.declared.help.Work.{Work}
 use Rattle.fast_slow_engine.specs.declared.help.Work.TheVariants as work
@@ -35,7 +32,6 @@ use Rattle.fast_slow_engine.specs.declared.help.WorkTurn.TheVariants.{Going}
 use Rattle.fast_slow_engine.specs.HelpTable.{CanWork, again_if, filling, work_fed, work_hand, work_turn}
 use Rattle.fast_slow_engine.specs.HelpWords.{announced_op, named_block, told_word}
 use Rattle.offered_blocks.specs.Blocks.{Offer, has_taken, site_of}
-use Rattle.offered_blocks.specs.RunWorlds.{ran_world}
 use Rattle.offered_blocks.proofs.Helpers.Running.{run_knows}
 use Rattle.move_kinds.specs.Kinds.{Kind}
 use Rattle.move_kinds.specs.Offering.{IsOfferFor, StopsAt}
@@ -49,7 +45,7 @@ use Rattle.helper_knowledge.specs.Knowing.{KnowsSearch, ToldWhole}
 use Rattle.helper_knowledge.specs.WorkKnown.{KnowsWork}
 use Rattle.helper_knowledge.proofs.Own.OwnKinds.{wrap_kind}
 use Rattle.helper_knowledge.proofs.Own.WorkKinds.{claim_kind, fills_kind}
-use Rattle.helper_knowledge.proofs.Own.OwnList.{stopped_now, wrap_begins, wrap_goes}
+use Rattle.helper_knowledge.proofs.Own.OwnList.{stopped_now, wrap_goes}
 use Rattle.helper_knowledge.proofs.Own.OwnReads.{own_read}
 use Rattle.helper_knowledge.proofs.Own.OwnSteps.{own_execute, own_look, own_search, own_wrap}
 use Rattle.helper_knowledge.proofs.Own.OwnWork.{own_exhausts, own_fill, own_head, own_names, own_op, own_value}

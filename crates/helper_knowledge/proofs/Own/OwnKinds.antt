@@ -7,7 +7,7 @@ use Rattle.step_memory.specs.declared.steps.Request.TheVariants.{Load, Store, Ex
 use Rattle.step_memory.specs.declared.steps.Seen.{Seen}
 use Rattle.word_fields.specs.Records.{record_number}
 use Rattle.word_fields.specs.Versioned.{versioned_bit}
-use Rattle.word_fields.proofs.VersionedLemmas.{bit-changed, word-split}
+use Rattle.word_fields.proofs.VersionedLemmas.{word-split}
 use Rattle.normal_traits.specs.World.{Listed, World}
 use Rattle.normal_traits.specs.NormalForm.{NormalForm}
 use Rattle.normal_traits.specs.Steps.{IsStep, Requested, put_word}

@@ -4,7 +4,7 @@ use Rattle.lin_report.specs.declared.calls.Op.{Op}
 use Rattle.lin_report.specs.declared.calls.Outcome.{Outcome}
 use Rattle.lin_report.specs.Commands.{IsCommandOf}
 use Rattle.step_memory.specs.declared.steps.Seen.{Seen}
-use Rattle.word_fields.specs.Announced.{op_word, value_word, op_number, value_number}
+use Rattle.word_fields.specs.Announced.{op_word, op_number, value_number}
 use Rattle.word_fields.specs.Records.{record_number}
 use Rattle.word_fields.proofs.AnnouncedLemmas.{code-op_word, key-op_word, value-value_word}
 use Rattle.node_arena.specs.MemoryMap.{op_place, value_place}

@@ -13,7 +13,7 @@ use Rattle.normal_traits.specs.World.{World}
 use Rattle.normal_traits.specs.NormalForm.{NormalForm}
 use Rattle.normal_traits.specs.Steps.{Requested}
 use Rattle.normal_traits.specs.Laws.{Laws, WrappedWell}
-use Rattle.op_record.specs.Outcomes.{FitsPayload, completed_word}
+use Rattle.op_record.specs.Outcomes.{completed_word}
 use Rattle.cas_executor.specs.declared.fast_run.Execution.{Execution}
 use Rattle.cas_executor.specs.declared.fast_run.Execution.TheVariants.{Running, Stopped}
 use Rattle.cas_executor.specs.SlowRuns.{SlowWalk, slow_execution, slow_fed}
@@ -21,7 +21,7 @@ use Rattle.fast_slow_engine.specs.declared.phases.Generating.TheVariants.{Search
 use Rattle.fast_slow_engine.specs.declared.help.Work.{Work}
 use Rattle.fast_slow_engine.specs.declared.help.WorkTurn.TheVariants.{Going}
 use Rattle.fast_slow_engine.specs.HelpTable.{contended, executed_work, found_work, wrapped_work}
-use Rattle.fast_slow_engine.specs.HelpWords.{fitted, named_block, told_word}
+use Rattle.fast_slow_engine.specs.HelpWords.{named_block, told_word}
 use Rattle.cas_executor_laws.specs.Parts.{Helps}
 use Rattle.offered_blocks.specs.Blocks.{Offer, HasBlocks, has_taken, site_of}
 use Rattle.helper_knowledge.specs.Carried.{Carried, list_named}

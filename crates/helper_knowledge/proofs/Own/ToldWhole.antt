@@ -1,6 +1,6 @@
 -- The outcomes of a client are told whole by a record: plain ones by the client's laws, one that names a node because the
 -- node's block is used.
-use Rattle.std.proofs.Common.{◌≡◌, refl, sym, subst, ap, ℕ, ◌<◌, ◌%◌, ◌/◌, ◌^◌, true, arith, mod-eq_of_lt}
+use Rattle.std.proofs.Common.{refl, ap, ◌<◌, ◌^◌, arith, mod-eq_of_lt}
 use Rattle.lin_report.specs.declared.calls.Outcome.{Outcome}
 use Rattle.lin_report.specs.declared.calls.Outcome.TheVariants.{Plain, ValueOf}
 use Rattle.lin_report.specs.declared.calls.Reply.{Reply}

@@ -1,5 +1,5 @@
 -- A step of a helper's own is one of the kinds of moves.
-use Rattle.std.proofs.Common.{◌≡◌, refl, sym, subst, ℕ, ◌<◌, inr, length, slice_get, Option, Some, None}
+use Rattle.std.proofs.Common.{refl, sym, subst, ℕ, ◌<◌, inr, length, Option, Some, None}
 use Rattle.std.specs.Prelude.{get_or}
 use Rattle.std.proofs.lemmas.Option.{slice_get-get_or}
 use Rattle.arrayvec.specs.ArrayVec.{ArrayVec}
@@ -10,7 +10,6 @@ use Rattle.word_fields.specs.Records.{record_payload}
 use Rattle.node_arena.specs.declared.places.TheConstants.{CLAIMS}
 use Rattle.normal_traits.specs.World.{World}
 use Rattle.normal_traits.specs.NormalForm.{NormalForm}
-use Rattle.normal_traits.specs.Steps.{put_word}
 use Rattle.normal_traits.specs.Laws.{Laws}
 use Rattle.cas_executor.specs.SlowRuns.{SlowWalk}
 use Rattle.fast_slow_engine.specs.declared.phases.Generating.TheVariants.{Search, LookForBlock, Claim}

@@ -18,7 +18,7 @@ use Rattle.offered_blocks.specs.Blocks.{Offer}
 use Rattle.offered_blocks.specs.Holds.{HasOffers}
 use Rattle.offered_blocks.specs.OtherSteps.{with_offer}
 use Rattle.offered_blocks.specs.Records.{RecordIsRight, TellsRight}
-use Rattle.move_kinds.specs.Kinds.{Kind, IsWon}
+use Rattle.move_kinds.specs.Kinds.{HasChanged, IsWon, Kind}
 use Rattle.move_kinds.specs.Kinds.Kind.{names as kind_names, settles as kind_settles, completes as kind_completes, restarts as kind_restarts}
 use Rattle.move_kinds.proofs.KindsKeep.{kind_kept}
 use Rattle.helper_knowledge.specs.Callers.{caller_of}
@@ -57,7 +57,7 @@ module _ {S W : Type 0} (form : NormalForm S W) (laws : Laws form) (world : Worl
       → ToOffers to offers → Won to
   others_won to phase is other = won_by to offers (ap (λ b. offers_if b (named_block to) filled offers) (ap is_executing is ∙ other))
 
-  completed_won : (outcome : Outcome) → FitsPayload outcome → (record_phase word ≡ Generate) ⊎ (record_phase word ≡ Wrapping) → TellsRight form world call begun outcome → Won (completed_word (record_of word) outcome)
+  completed_won : (outcome : Outcome) → FitsPayload outcome → (record_phase word ≡ Generate) ⊎ HasChanged world offers head word outcome → TellsRight form world call begun outcome → Won (completed_word (record_of word) outcome)
   completed_won outcome fits phase right =
       let to = completed_word (record_of word) outcome in
       others_won to Completed (phase-word Completed (record_number word) (record_round word) (outcome_payload outcome)) refl (λ same. kind_completes head word outcome phase (won_to to) same)
@@ -96,7 +96,7 @@ module _ {S W : Type 0} (form : NormalForm S W) (laws : Laws form) (world : Worl
       (others_won next Wrapping (phase-word Wrapping (record_number word) (record_round word) _) refl (λ same. kind_settles head word stop offer executes of stopped (won_to next) same)
       (settles_tells form laws world offers holds head word call begun m offer of executes stop stopped))
   won_advances to (completes outcome offer wraps of is fits by fixed) =
-      subst Won (sym is) (completed_won outcome fits (inr wraps) (wrapped_right form laws world offers holds head word call begun m wraps outcome offer of by fixed))
+      subst Won (sym is) (completed_won outcome fits (inr (record { phase = wraps; offer = offer; of = of; by = by })) (wrapped_right form laws world offers holds head word call begun m wraps outcome offer of by fixed))
   won_advances to (restarts offer wraps of is dead) =
       let next = again_word word in
       subst Won (sym is)

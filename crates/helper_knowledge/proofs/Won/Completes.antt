@@ -1,5 +1,5 @@
 -- A won exchange of a record that completes a call: what the helper carried makes the record right.
-use Rattle.std.proofs.Common.{◌≡◌, ◌≢◌, ◌∙◌, refl, sym, subst, ℕ, [], Option}
+use Rattle.std.proofs.Common.{◌≡◌, refl, sym, subst, ℕ, [], Option}
 use Rattle.lin_report.specs.declared.calls.Op.{Op}
 use Rattle.lin_report.specs.declared.calls.Outcome.{Outcome}
 use Rattle.lin_report.specs.declared.calls.Outcome.TheVariants.{Plain}

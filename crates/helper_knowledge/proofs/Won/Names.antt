@@ -1,5 +1,5 @@
 -- A won exchange by which a record names the block in hand: the block may be named, and the record tells of it.
-use Rattle.std.proofs.Common.{◌≡◌, ◌∙◌, refl, sym, subst, ap, ℕ, ◌<◌, ◌^◌, List, length, Option, Some, arith}
+use Rattle.std.proofs.Common.{◌≡◌, ◌∙◌, refl, sym, subst, ap, ℕ, ◌<◌, ◌^◌, List, length, Option, arith}
 use Rattle.word_fields.specs.declared.records.Phase.{Phase as Mark}
 use Rattle.word_fields.specs.declared.records.Phase.TheVariants.{Generate, Executing}
 use Rattle.word_fields.specs.Payloads.{payload_block}
@@ -17,7 +17,7 @@ use Rattle.offered_blocks.specs.Holds.{HasOffers}
 use Rattle.offered_blocks.specs.OtherSteps.{CanName, with_offer}
 use Rattle.offered_blocks.specs.Records.{MadeNone, RecordIsRight, RecordTells}
 use Rattle.offered_blocks.proofs.Records.Naming.{with_here}
-use Rattle.offered_blocks.proofs.Records.Puts.{put, put_step, put_there}
+use Rattle.offered_blocks.proofs.Records.Puts.{put, put_there}
 use Rattle.offered_blocks.proofs.Records.RecordSteps.{offers_right}
 use Rattle.helper_knowledge.specs.Callers.{caller_of}
 use Rattle.helper_knowledge.specs.Knowing.{KnowsOffer}

@@ -2,7 +2,6 @@
 use Rattle.std.proofs.Common.{◌≡◌, ◌≢◌, ◌∙◌, refl, sym, subst, ap, ℕ, ◌&&◌, ◌∷◌, Bool, true, false, inl, inr, slice_get, Option, Some, arith}
 use Rattle.std.proofs.lemmas.Bool.{and_from, cases_eq}
 use Rattle.step_memory.specs.declared.steps.Seen.{Seen}
-use Rattle.step_memory.specs.Step.{place_of}
 use Rattle.word_fields.specs.Versioned.{marked_word}
 use Rattle.normal_traits.specs.declared.lists.Entry.{Entry}
 use Rattle.normal_traits.specs.World.{World}

@@ -1,0 +1,5 @@
+use Rattle.helper_knowledge.proofs.LawLemmas.{calls_follow}
+use Rattle.helper_knowledge.proofs.call_laws.calls_follow.Goals as goal
+
+pub returns : goal.returns
+returns g c = calls_follow g.C.Normalized.form g.met.C.Normalized.laws
