@@ -17,7 +17,7 @@ use Rattle.run_laws.specs.Seats.{EachMech}
 use Rattle.run_laws.specs.Claims.{KeepsClaims, claims_of}
 use Rattle.run_queue.specs.HeldBlocks.{blocks_claimed}
 use Rattle.run_queue.specs.Premises.{ClientLeavesQueue, KeepsQueue}
-use Rattle.run_world.specs.Ghosts.{Ghost, Held}
+use Rattle.run_world.specs.Ghosts.{Held}
 use Rattle.run_world.specs.RunGhosts.{ghost_of, world_of}
 
 -- the block of the held list is in hand

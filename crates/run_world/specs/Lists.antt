@@ -1,5 +1,5 @@
 -- The lists that seats hold, each that of its machine, and the lists that helpers carry, each that of the head's call.
-use Rattle.std.specs.Prelude.{◌≡◌, ℕ, Bool, true, false, ◌⊎◌, List, length, Option, Some, None}
+use Rattle.std.specs.Prelude.{◌≡◌, ℕ, false, ◌⊎◌, List, Option, Some, None}
 use Rattle.arrayvec.specs.ArrayVec.{ArrayVec}
 use Rattle.word_fields.specs.Records.{record_number, record_phase}
 use Rattle.normal_traits.specs.NormalForm.{NormalForm}

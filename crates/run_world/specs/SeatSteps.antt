@@ -1,6 +1,5 @@
 -- What a step of a machine does to what is known of its seat, and to the lists that records have named.
 use Rattle.std.specs.Prelude.{ℕ, not, if◌then◌else◌, Bool, true, false, Option, Some, None}
-use Rattle.lin_report.specs.declared.calls.Op.{Op}
 use Rattle.step_memory.specs.declared.steps.Seen.{Seen}
 use Rattle.normal_traits.specs.declared.form.Found.{Found}
 use Rattle.normal_traits.specs.declared.form.Found.TheVariants.{Contended}

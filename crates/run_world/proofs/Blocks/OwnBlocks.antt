@@ -27,7 +27,7 @@ use Rattle.run_world.specs.Ghosts.{Held, SeatGhost, stopped_in}
 use Rattle.run_world.specs.SeatSteps.{held_in, list_after, newly_held, offered_block}
 use Rattle.run_world.specs.RunGhosts.{ghost_of}
 use Rattle.run_world.specs.Hands.{BlockIn, BlocksHeld, ExecutesWith, HasBlock}
-use Rattle.run_world.proofs.Holding.PlainSteps.{HoldsPlain, failed_plain, help_plain, leads_plain, told_plain}
+use Rattle.run_world.proofs.Holding.PlainSteps.{HoldsPlain, failed_plain, help_plain, leads_plain}
 use Rattle.run_world.proofs.Words.Moved.{seen_by}
 use Rattle.run_world.proofs.Words.Seats.{seats_keep}
 

@@ -1,8 +1,6 @@
 -- The list that a helper carries is of the head's call, with the block in hand.
-use Rattle.std.proofs.Common.{◌≡◌, ◌∙◌, refl, sym, subst, ap, ℕ, ◌+◌, ◌&&◌, nat_lt, if◌then◌else◌, Bool, true, false, List, [], ◌∷◌, length, slice_get, Option, Some, None, rules}
+use Rattle.std.proofs.Common.{◌≡◌, refl, sym, subst, ℕ, ◌+◌, ◌&&◌, nat_lt, if◌then◌else◌, Bool, true, false, [], ◌∷◌, length, Option, Some, None, rules}
 use Rattle.lin_report.specs.declared.calls.Op.{Op}
-use Rattle.lin_report.specs.declared.calls.Outcome.{Outcome}
-use Rattle.lin_report.specs.declared.calls.Outcome.TheVariants as outcome
 use Rattle.lin_report.specs.declared.calls.Reply.TheVariants.{Exhausted}
 use Rattle.step_memory.specs.declared.steps.Seen.{Seen}
 use Rattle.word_fields.specs.Records.{record_number, record_phase}
@@ -11,7 +9,6 @@ use Rattle.normal_traits.specs.declared.form.Found.{Found}
 use Rattle.normal_traits.specs.declared.form.Found.TheVariants as found
 use Rattle.normal_traits.specs.declared.form.Wrapped.{Wrapped}
 use Rattle.normal_traits.specs.declared.form.Wrapped.TheVariants as wrapped
-use Rattle.normal_traits.specs.declared.lists.Entry.{Entry}
 use Rattle.normal_traits.specs.NormalForm.{NormalForm}
 use Rattle.cas_executor.specs.declared.fast_run.Execution.{Execution}
 use Rattle.cas_executor.specs.declared.fast_run.Execution.TheVariants.{Running, Stopped}
@@ -21,7 +18,6 @@ use Rattle.help_queue.specs.Removes.{remove_new}
 use Rattle.fast_slow_engine.specs.declared.phases.Phase.{Phase}
 use Rattle.fast_slow_engine.specs.declared.phases.Phase.TheVariants.{Idle, Generate, Apply, Wrap, Help, End}
 use Rattle.fast_slow_engine.specs.declared.phases.Generating.TheVariants.{Search, LookForBlock, Claim}
-use Rattle.fast_slow_engine.specs.declared.phases.Applying.{Applying}
 use Rattle.fast_slow_engine.specs.declared.phases.Applying.TheVariants.{Fill, Execute}
 use Rattle.fast_slow_engine.specs.declared.help.Help as helper
 use Rattle.fast_slow_engine.specs.declared.help.Helping.{Helping}
@@ -30,7 +26,7 @@ use Rattle.fast_slow_engine.specs.declared.help.Work.TheVariants as work
 use Rattle.fast_slow_engine.specs.Hands.{holds_none}
 use Rattle.fast_slow_engine.specs.HelpTable.{help_fed, helping_ends, helping_fed, helping_hand, work_turn}
 use Rattle.fast_slow_engine.specs.Mechs.{Mech}
-use Rattle.fast_slow_engine.specs.PhaseTable.{executed, failed, helped, in_phase, offered, rests, searched, spent, stepped, told, with_hand, wrapped_up}
+use Rattle.fast_slow_engine.specs.PhaseTable.{executed, helped, in_phase, offered, rests, searched, spent, stepped, with_hand, wrapped_up}
 use Rattle.fast_slow_engine.specs.Runs.{CanMove, begun}
 use Rattle.offered_blocks.specs.Blocks.{Offer}
 use Rattle.helper_knowledge.specs.Carried.{Carried}

@@ -1,5 +1,5 @@
 -- The list that a helper carries, after a step of its work.
-use Rattle.std.proofs.Common.{◌≡◌, ◌∙◌, refl, sym, ap, ℕ, ◌+◌, ◌==◌, nat_lt, if◌then◌else◌, Bool, true, false, length, Option, Some, None, inl, inr, rules}
+use Rattle.std.proofs.Common.{◌≡◌, refl, ap, ℕ, ◌+◌, ◌==◌, nat_lt, if◌then◌else◌, Bool, true, false, length, Option, Some, None, inl, inr, rules}
 use Rattle.arrayvec.specs.ArrayVec.{ArrayVec}
 use Rattle.lin_report.specs.declared.calls.Op.{Op}
 use Rattle.lin_report.specs.declared.calls.Outcome.{Outcome}
@@ -20,7 +20,6 @@ use Rattle.cas_executor.specs.declared.fast_run.Execution.{Execution}
 use Rattle.cas_executor.specs.declared.fast_run.Execution.TheVariants as execution
 use Rattle.cas_executor.specs.SlowRuns.{SlowWalk, slow_execution, slow_fed}
 use Rattle.cas_executor.specs.BlockReads.{ReadWalk, read_fed, read_result}
-use Rattle.fast_slow_engine.specs.declared.phases.Generating.{Generating}
 use Rattle.fast_slow_engine.specs.declared.phases.Generating.TheVariants.{Search, LookForBlock, Claim}
 use Rattle.fast_slow_engine.specs.declared.help.Work.{Work}
 use Rattle.fast_slow_engine.specs.declared.help.Work.TheVariants as work
@@ -33,7 +32,7 @@ use Rattle.offered_blocks.specs.Blocks.{Offer}
 use Rattle.helper_knowledge.specs.Carried.{Carried, OfSome, list_named}
 use Rattle.helper_knowledge.specs.HelperStep.{call_in}
 use Rattle.run_world.specs.SeatSteps.{filled_worked, named_if}
-use Rattle.run_world.specs.Lists.{Advancing, CarriesHelp, CarriesWork, IsCarried, IsFilling, IsNaming}
+use Rattle.run_world.specs.Lists.{Advancing, CarriesHelp, CarriesWork, IsFilling}
 
 -- a word that completes a call names no block
 told_names : (word : ℕ) (outcome : Outcome) → is_executing (record_phase (told_word word outcome)) ≡ false

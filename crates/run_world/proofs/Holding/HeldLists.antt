@@ -1,5 +1,5 @@
 -- The list that a seat holds is that of its machine.
-use Rattle.std.proofs.Common.{◌≡◌, ◌∙◌, refl, sym, subst, ℕ, ◌&&◌, nat_lt, if◌then◌else◌, Bool, true, false, [], ◌∷◌, length, slice_get, Option, Some, None, rules}
+use Rattle.std.proofs.Common.{◌≡◌, ◌∙◌, refl, sym, subst, ℕ, ◌&&◌, nat_lt, if◌then◌else◌, Bool, true, false, [], ◌∷◌, length, Option, Some, None, rules}
 use Rattle.lin_report.specs.declared.calls.Op.{Op}
 use Rattle.lin_report.specs.declared.calls.Outcome.{Outcome}
 use Rattle.lin_report.specs.declared.calls.Outcome.TheVariants as outcome
@@ -29,7 +29,7 @@ use Rattle.run_world.specs.Ghosts.{Held, SeatGhost, stopped_in}
 use Rattle.run_world.specs.SeatSteps.{held_in, list_after, newly_held}
 use Rattle.run_world.specs.Lists.{IsHeld, IsOffering, HoldsIn, ListsHeld}
 use Rattle.run_world.specs.RunGhosts.{ghost_of}
-use Rattle.run_world.proofs.Holding.PlainSteps.{HoldsPlain, failed_plain, help_plain, leads_plain, told_plain}
+use Rattle.run_world.proofs.Holding.PlainSteps.{HoldsPlain, failed_plain, help_plain, leads_plain}
 use Rattle.run_world.proofs.Words.Moved.{seen_by}
 use Rattle.run_world.proofs.Words.Seats.{seats_keep}
 

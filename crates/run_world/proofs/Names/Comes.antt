@@ -1,6 +1,5 @@
 -- Where a list was before a move: it is new, or was kept, and a list that a record names was carried.
-use Rattle.std.proofs.Common.{◌≡◌, ◌≢◌, ◌∙◌, refl, sym, subst, ap, ℕ, ◌==◌, ◌&&◌, if◌then◌else◌, Bool, true, false, List, [], ◌∷◌, length, slice_get, Option, Some, None, ◌⊎◌, inl, inr, arith, rules}
-use Rattle.std.proofs.lemmas.Bool.{cases_eq}
+use Rattle.std.proofs.Common.{◌≡◌, ◌≢◌, ◌∙◌, refl, sym, ap, ℕ, ◌==◌, ◌&&◌, if◌then◌else◌, Bool, true, false, Option, Some, None, ◌⊎◌, inl, inr, arith, rules}
 use Rattle.std.proofs.lemmas.Bool.Decides.{nat_tests}
 use Rattle.step_memory.specs.declared.steps.Seen.{Seen}
 use Rattle.word_fields.specs.Records.{record_phase}
@@ -17,21 +16,16 @@ use Rattle.fast_slow_engine.specs.declared.help.Helping.{Helping}
 use Rattle.fast_slow_engine.specs.declared.help.Helping.TheVariants.{Known}
 use Rattle.fast_slow_engine.specs.declared.help.Work.{Work}
 use Rattle.fast_slow_engine.specs.declared.help.Work.TheVariants as work
-use Rattle.fast_slow_engine.specs.declared.setup.Setup.{Setup}
 use Rattle.fast_slow_engine.specs.HelpTable.{work_fed}
 use Rattle.fast_slow_engine.specs.HelpWords.{is_executing, named_block}
 use Rattle.fast_slow_engine.specs.Mechs.{Mech}
-use Rattle.fast_slow_engine.specs.Runs.{Move, begun, run_of}
 use Rattle.offered_blocks.specs.Blocks.{Offer}
 use Rattle.helper_knowledge.specs.Carried.{Carried}
 use Rattle.helper_knowledge.specs.Meetings.{offers_if}
 use Rattle.run_laws.proofs.Steps.{some_same}
-use Rattle.run_world.specs.Ghosts.{Ghost, Held, SeatGhost, stopped_in}
+use Rattle.run_world.specs.Ghosts.{Held, SeatGhost, stopped_in}
 use Rattle.run_world.specs.SeatSteps.{filled_after, filled_helped, filled_worked, held_in, list_after, named_if, offers_after, offers_helped, offers_worked}
-use Rattle.run_world.specs.Identities.{Keeper, holder, carrier, named, kept_list, list_held, list_offered}
-use Rattle.run_world.specs.RunGhosts.{ghost_moved, ghost_of}
-use Rattle.run_world.proofs.Words.Grow.{others_stay}
-use Rattle.run_world.proofs.Words.Moved.{made_offers, made_seat, seat_after, seen_by}
+use Rattle.run_world.specs.Identities.{Keeper, holder, carrier, named, list_held, list_offered}
 
 pub none_some : {A B : Type 0} (x : A) → None ≡ Some x → B
 none_some x e = absurd (search rules)

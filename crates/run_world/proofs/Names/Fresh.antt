@@ -1,6 +1,5 @@
 -- No exchange was made for a list that a helper carries.
-use Rattle.std.proofs.Common.{◌≡◌, refl, ap, ℕ, ◌==◌, ◌&&◌, ◌||◌, Bool, true, false, List, [], ◌∷◌, Some, ◌⊎◌, inl, inr, arith, rules}
-use Rattle.std.specs.List.{list_any}
+use Rattle.std.proofs.Common.{◌≡◌, refl, ap, ℕ, ◌==◌, ◌||◌, Bool, true, false, List, [], ◌∷◌, inl, inr, arith, rules}
 use Rattle.std.proofs.lemmas.Bool.{and_parts, cases_Bool}
 use Rattle.std.proofs.lemmas.Bool.Decides.{nat_tests}
 use Rattle.normal_traits.specs.World.{Among, Listed, Maker, Won}

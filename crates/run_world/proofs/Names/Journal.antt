@@ -1,9 +1,7 @@
 -- Each list in the journal is known by its identity.
-use Rattle.std.proofs.Common.{◌≡◌, ◌∙◌, refl, sym, subst, ap, ℕ, ◌+◌, ◌<◌, ◌==◌, ◌&&◌, Bool, true, false, List, [], ◌∷◌, length, slice_get, Option, Some, None, ◌⊎◌, inl, inr, arith, rules}
-use Rattle.std.specs.List.{list_any}
-use Rattle.std.proofs.lemmas.Bool.Decides.{nat_tests}
+use Rattle.std.proofs.Common.{◌≡◌, ◌∙◌, refl, sym, subst, ap, ℕ, ◌<◌, List, [], ◌∷◌, length, slice_get, Option, Some, None, ◌⊎◌, inl, inr, arith, rules}
 use Rattle.step_memory.specs.declared.steps.Seen.{Seen}
-use Rattle.normal_traits.specs.World.{Among, Listed, Maker, Took, Won, World}
+use Rattle.normal_traits.specs.World.{Among, Listed, Won, World}
 use Rattle.normal_traits.specs.World.Maker.{By, Beside}
 use Rattle.normal_traits.specs.NormalForm.{NormalForm}
 use Rattle.normal_traits.specs.Steps.{IsFresh}
@@ -12,10 +10,9 @@ use Rattle.fast_slow_engine.specs.declared.setup.Setup.{Setup}
 use Rattle.fast_slow_engine.specs.HelpWords.{named_block}
 use Rattle.fast_slow_engine.specs.Mechs.{Mech}
 use Rattle.fast_slow_engine.specs.Runs.{Move, begun, run_of}
-use Rattle.offered_blocks.specs.Blocks.{Offer, has_taken, is_of}
 use Rattle.run_laws.proofs.Steps.{some_same}
-use Rattle.run_world.specs.Ghosts.{Ghost, Held}
-use Rattle.run_world.specs.Identities.{Keeper, holder, carrier, named, kept_list, list_held, list_offered, JournalIdentities, CarriedFresh}
+use Rattle.run_world.specs.Ghosts.{Ghost}
+use Rattle.run_world.specs.Identities.{Keeper, holder, carrier, named, kept_list, list_held, list_offered, JournalIdentities}
 use Rattle.run_world.specs.RunGhosts.{ghost_moved, ghost_of, world_of}
 use Rattle.run_world.proofs.Words.Moved.{seen_by}
 use Rattle.run_world.proofs.Words.Wins.{Wins, nothing, beside, takes, installed, move_wins}

@@ -1,5 +1,5 @@
 -- Where each list was before a move, and so that identities differ.
-use Rattle.std.proofs.Common.{◌≡◌, ◌≢◌, ◌∙◌, refl, sym, subst, ap, ℕ, ◌<◌, List, [], ◌∷◌, length, slice_get, Option, Some, None, ◌⊎◌, inl, inr, arith, rules}
+use Rattle.std.proofs.Common.{◌≡◌, ◌∙◌, refl, sym, subst, ap, ℕ, List, [], ◌∷◌, length, slice_get, Option, Some, None, ◌⊎◌, inl, inr, arith, rules}
 use Rattle.std.proofs.lemmas.Bool.{cases_eq}
 use Rattle.normal_traits.specs.World.{Listed}
 use Rattle.normal_traits.specs.NormalForm.{NormalForm}
@@ -8,7 +8,7 @@ use Rattle.fast_slow_engine.specs.Mechs.{Mech}
 use Rattle.fast_slow_engine.specs.PhaseTable.{mech_fed}
 use Rattle.fast_slow_engine.specs.Runs.{Move, begun, run_of}
 use Rattle.offered_blocks.specs.Blocks.{Offer}
-use Rattle.run_world.specs.Ghosts.{Ghost, Held, SeatGhost}
+use Rattle.run_world.specs.Ghosts.{Ghost, SeatGhost}
 use Rattle.run_world.specs.Identities.{Keeper, holder, carrier, named, kept_list, list_held, list_offered, IdentitiesBelow, IdentitiesDiffer}
 use Rattle.run_world.specs.RunGhosts.{ghost_moved, ghost_of}
 use Rattle.run_world.proofs.Words.Grow.{others_stay}

@@ -1,5 +1,5 @@
 -- What is known of a run only grows, and what is known of the other seats stays.
-use Rattle.std.proofs.Common.{◌≡◌, ◌≢◌, refl, ap, ℕ, ◌==◌, ◌||◌, ◌&&◌, if◌then◌else◌, Bool, true, false, List, [], ◌∷◌, length, slice_get, Option, Some, None}
+use Rattle.std.proofs.Common.{◌≡◌, ◌≢◌, refl, ℕ, ◌==◌, ◌||◌, ◌&&◌, if◌then◌else◌, Bool, true, false, List, [], ◌∷◌, length, slice_get, Option, Some, None}
 use Rattle.step_memory.specs.declared.steps.Request.{Request}
 use Rattle.step_memory.specs.declared.steps.Request.TheVariants.{Load, Store, Exchange, Add}
 use Rattle.step_memory.specs.declared.steps.Seen.{Seen}
@@ -25,7 +25,7 @@ use Rattle.fast_slow_engine.specs.PhaseTable.{mech_request}
 use Rattle.fast_slow_engine.specs.Runs.{Move, RunState, begun, run_of}
 use Rattle.move_kinds.specs.Moves.{Grows}
 use Rattle.offered_blocks.specs.Blocks.{Offer}
-use Rattle.offered_blocks.specs.RunWorlds.{ran_by, used_by, with_words}
+use Rattle.offered_blocks.specs.RunWorlds.{ran_by}
 use Rattle.run_world.specs.Ghosts.{Ghost, Held, uses_block, world_with}
 use Rattle.run_world.specs.Worlds.{asked_beside, asked_listed, asked_named, with_block, won_beside, won_entry, world_helped, world_stepped, world_worked}
 use Rattle.run_world.specs.RunGhosts.{ghost_moved, ghost_of}

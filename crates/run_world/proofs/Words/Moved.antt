@@ -1,5 +1,5 @@
 -- What is known after a move of a seat, and the world after it.
-use Rattle.std.proofs.Common.{◌≡◌, ◌≢◌, ◌∙◌, refl, sym, ap, ℕ, ◌==◌, if◌then◌else◌, true, false, List, ◌∷◌, length, slice_get, slice_index, Option, Some, None, arith}
+use Rattle.std.proofs.Common.{◌≡◌, ◌≢◌, ◌∙◌, sym, ap, ℕ, ◌==◌, if◌then◌else◌, true, false, List, ◌∷◌, length, slice_get, slice_index, Option, Some, arith}
 use Rattle.std.proofs.lemmas.Bool.Decides.{nat_tests}
 use Rattle.step_memory.specs.declared.steps.Seen.{Seen}
 use Rattle.step_memory.specs.Step.{seen_of, words_after}

@@ -16,7 +16,6 @@ use Rattle.fast_slow_engine.specs.declared.phases.Phase.{Phase}
 use Rattle.fast_slow_engine.specs.declared.phases.Phase.TheVariants.{Generate, Apply, Wrap, Help}
 use Rattle.fast_slow_engine.specs.declared.phases.Generating.TheVariants.{Search}
 use Rattle.fast_slow_engine.specs.declared.phases.Applying.TheVariants.{Execute}
-use Rattle.fast_slow_engine.specs.declared.help.Help as helper
 use Rattle.fast_slow_engine.specs.declared.help.Helping.{Helping}
 use Rattle.fast_slow_engine.specs.declared.help.Helping.TheVariants.{Known}
 use Rattle.fast_slow_engine.specs.declared.help.Work.{Work}
