@@ -1,2 +1,4 @@
 pub mod Known
+pub mod Tells
 pub mod Moves
+pub mod Kept
