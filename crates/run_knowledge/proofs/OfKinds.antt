@@ -1,0 +1,3 @@
+-- Of which kind a step is, phase by phase.
+pub mod OwnStores
+pub mod Entries
