@@ -1,6 +1,6 @@
 -- What a step of a machine does to the client's world and to the blocks that records have named, by its phase; and what it
 -- rests on. No run is in it: the laws of one step speak of these, and a run supplies them.
-use Rattle.std.specs.Prelude.{◌≡◌, ◌≢◌, ℕ, ◌+◌, ◌^◌, ◌<◌, ◌⊎◌, Bool, true, false, not, slice_get, Option, Some}
+use Rattle.std.specs.Prelude.{◌≡◌, ◌≢◌, ℕ, ◌+◌, ◌^◌, ◌<◌, ◌⊎◌, Bool, true, false, not, length, slice_get, Option, Some, None}
 use Rattle.arrayvec.specs.ArrayVec.{ArrayVec}
 use Rattle.step_memory.specs.declared.steps.Seen.{Seen}
 use Rattle.word_fields.specs.declared.records.Phase.TheVariants as marks
@@ -26,19 +26,23 @@ use Rattle.fast_slow_engine.specs.declared.help.Helping.TheVariants.{Record, Kno
 use Rattle.fast_slow_engine.specs.declared.help.Work.{Work}
 use Rattle.fast_slow_engine.specs.declared.help.Work.TheVariants as work
 use Rattle.fast_slow_engine.specs.Mechs.{Mech}
+use Rattle.fast_slow_engine.specs.PhaseTable.{mech_fed}
 use Rattle.offered_blocks.specs.Blocks.{Offer}
 use Rattle.offered_blocks.specs.Holds.{HasOffers}
 use Rattle.offered_blocks.specs.OtherSteps.{IsSpare}
 use Rattle.move_kinds.specs.Kinds.{Kind}
+use Rattle.move_kinds.specs.Moves.{Leaves}
 use Rattle.helper_knowledge.specs.Callers.{Caller, caller_of}
 use Rattle.helper_knowledge.specs.Carried.{Carried}
-use Rattle.helper_knowledge.specs.HelperStep.{RestsOn, Steps}
+use Rattle.helper_knowledge.specs.HelperStep.{RestsOn, Steps, UsedSmall}
 use Rattle.helper_knowledge.specs.Meetings.{IsNew, Meets, won_offers, won_world}
+use Rattle.helper_knowledge.specs.WorkKnown.{NamedBy}
 use Rattle.run_world.specs.Ghosts.{Held, SeatGhost}
 use Rattle.run_world.specs.Hands.{BlockIn, IsUnspent}
 use Rattle.run_world.specs.Lists.{HoldsIn}
+use Rattle.run_world.specs.SeatSteps.{seat_stepped}
 use Rattle.run_world.specs.Worlds.{won_entry}
-use Rattle.run_knowledge.specs.Known.{KnowsIn, MakesCommand}
+use Rattle.run_knowledge.specs.Known.{KnowsIn, MakesCommand, NoneFrom}
 
 -- the call of the machine isn't announced yet: it is on its fast path, or about to announce
 abbrev pub is_unannounced : {S W : Type 0} → Phase S W → Bool
@@ -64,7 +68,7 @@ module _ {S W : Type 0} (form : NormalForm S W) (world after : World) (offers of
 
   -- an entry of the held list wins, or nothing is done
   pub data Enters (run : FastWalk) (held : Option (Held S)) (seen : Seen) : Type 0 where
-    misses : seen.won ≡ false → after ≡ world → Enters run held seen
+    misses : seen.won ≡ false → ((entry : Entry) → slice_get run.entries run.next ≡ Some entry → world.words entry.target ≢ entry.from) → after ≡ world → Enters run held seen
     wins : (list : Held S) (entry : Entry) → held ≡ Some list → seen.won ≡ true → slice_get run.entries run.next ≡ Some entry → world.words entry.target ≡ entry.from
         → after ≡ won_entry form list.list run.next (Some entry) world → Enters run held seen
 
@@ -87,7 +91,7 @@ module _ {S W : Type 0} (form : NormalForm S W) (world after : World) (offers of
 
   -- a step of a helper: it loads the record, works, or removes a completed call from the queue word
   abbrev pub HelpSteps : Helping S W → ℕ → Mech S W → Carried S → Carried S → ℕ → Seen → Type 0
-  HelpSteps (Record known) head mech own own' identity seen = (after ≡ world) × (offers' ≡ offers)
+  HelpSteps (Record known) head mech own own' identity seen = (after ≡ world) × (offers' ≡ offers) × (seen.before ≡ world.words (record_place head))
   HelpSteps (Known word does) head mech own own' identity seen = WorkSteps does head word mech own own' identity seen
   HelpSteps (Remove removal) head mech own own' identity seen = ((after ≡ world) ⊎ Puts QUEUE) × (offers' ≡ offers)
 
@@ -125,8 +129,10 @@ module _ {S W : Type 0} (form : NormalForm S W) (world : World) (offers : ℕ �
   MeetsWork (work.Advance to) head word hand filled = world.words (record_place head) ≡ packed_record (record_of word) → MeetsHead head word hand filled
   MeetsWork _ head word hand filled = Unit {0}
 
-  -- of a helper, what holds of the call of its head
+  -- of a helper, what holds of the call of its head; where it loads the record, what that names if it is open
   abbrev pub RestsHelp : Helping S W → ℕ → Option ℕ → Option (Offer S) → Type 0
+  RestsHelp (Record known) head hand filled =
+      is_open (record_phase (world.words (record_place head))) ≡ true → NamedBy form world offers (record_phase (world.words (record_place head))) head (world.words (record_place head))
   RestsHelp (Known word does) head hand filled = RestsOn form world offers head (callers head) × MeetsWork does head word hand filled
   RestsHelp _ head hand filled = Unit {0}
 
@@ -152,9 +158,27 @@ module _ {S W : Type 0} (form : NormalForm S W) (world : World) (offers : ℕ �
     pub closed : is_unannounced at ≡ true → is_open (record_phase (world.words (record_place mech.seat))) ≡ false
     pub helps : RestsIn at mech.hand own.carried.filled
 
+-- what a step leaves: it is an allowed step by which what is known grows, and holds of all blocks; the used blocks and that
+-- in hand are of an arena; and a list that it names is new
+pub record MoveLeaves {S W : Type 0} (form : NormalForm S W) (world after : World) (offers offers' : ℕ → Option (Offer S)) (mech : Mech S W) (identity : ℕ) : Type 0 where
+  pub leaves : Leaves form world after offers offers' None
+  pub holds : HasOffers form after offers'
+  pub used : UsedSmall after
+  pub fresh : NoneFrom after identity 0
+  pub cap : mech.setup.cap < 2 ^ 17
+  pub small : (block : ℕ) → mech.hand ≡ Some block → block < 2 ^ 17
+
 module _ {S W : Type 0} (form : NormalForm S W) where
   -- each step of each machine, in whatever phase it is, is one of the kinds of moves
   abbrev pub StepsAreKinds : Type 0
   StepsAreKinds =
       (world after : World) (offers offers' : ℕ → Option (Offer S)) (callers : ℕ → Caller) (at : Phase S W) (mech : Mech S W) (own own' : SeatGhost S) (identity : ℕ) (seen : Seen)
       → RestsMove form world offers callers at mech own → StepsIn form world after offers offers' at mech own own' identity seen → Kind form world after offers offers' mech.seat mech.hand
+
+  -- and the machine knows after it what it must in its next phase
+  abbrev pub StepsKnow : Type 0
+  StepsKnow =
+      (world after : World) (offers offers' : ℕ → Option (Offer S)) (callers : ℕ → Caller) (mech : Mech S W) (own : SeatGhost S) (identity : ℕ) (seen : Seen)
+      → RestsMove form world offers callers mech.phase mech own → StepsIn form world after offers offers' mech.phase mech own (seat_stepped form identity (length after.changes) mech seen own) identity seen
+      → MoveLeaves form world after offers offers' mech identity
+      → KnowsIn form (mech_fed form mech seen).phase (mech_fed form mech seen) (seat_stepped form identity (length after.changes) mech seen own) after offers' callers

@@ -58,7 +58,7 @@ module _ {S W : Type 0} (form : NormalForm S W) (laws : Laws form) (world after 
 
   -- an entry of it
   entering : (run : FastWalk) (stores : ArrayVec (ℕ × ℕ)) → Rests (phase.Apply run stores Execute) → Enters form world after offers offers' run own.held seen → IsKind offers
-  entering run stores rests (misses lost same) = quiet same refl
+  entering run stores rests (misses lost passed same) = quiet same refl
   entering run stores rests (wins list entry holds won next found is) =
       let knows : OfSome (KnowsRun form world run) (Some list) = subst (OfSome (KnowsRun form world run)) holds rests.knows in
       let offering : OfSome (IsOffering form run stores mech) (Some list) = subst (OfSome (IsOffering form run stores mech)) holds rests.lists in

@@ -1,0 +1,2 @@
+-- What a machine knows after a step of its own, phase by phase.
+pub mod Searches
