@@ -1,2 +1,4 @@
 -- What a machine knows after a step of its own, phase by phase.
 pub mod Searches
+pub mod OwnPlaces
+pub mod Fills
