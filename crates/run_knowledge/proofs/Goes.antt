@@ -2,3 +2,5 @@
 pub mod Searches
 pub mod OwnPlaces
 pub mod Fills
+pub mod Wraps
+pub mod Runs
