@@ -4,3 +4,7 @@ pub mod OwnPlaces
 pub mod Fills
 pub mod Wraps
 pub mod Runs
+pub mod Tests
+pub mod Ready
+pub mod Helping
+pub mod EachPhase
