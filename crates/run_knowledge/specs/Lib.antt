@@ -1,4 +1,5 @@
 pub mod Known
 pub mod Tells
 pub mod Moves
+pub mod Others
 pub mod Kept
