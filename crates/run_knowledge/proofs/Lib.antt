@@ -1,3 +1,4 @@
 pub mod OfKinds
 pub mod Goes
 pub mod Stays
+pub mod InRuns

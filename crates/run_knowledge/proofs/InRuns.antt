@@ -1,0 +1,3 @@
+-- Each move of a run is a step of its phase.
+pub mod Asked
+pub mod OwnMade
