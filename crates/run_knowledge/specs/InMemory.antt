@@ -21,6 +21,8 @@ use Rattle.fast_slow_engine.specs.declared.help.Work.TheVariants as work
 use Rattle.fast_slow_engine.specs.Mechs.{Mech}
 use Rattle.fast_slow_engine.specs.PhaseTable.{mech_request}
 use Rattle.fast_slow_engine.specs.Runs.{Move, begun, run_of}
+use Rattle.run_world.specs.Ghosts.{Held}
+use Rattle.run_world.specs.Lists.{HoldsIn}
 use Rattle.run_world.specs.RunGhosts.{ghost_of, world_of}
 use Rattle.run_knowledge.specs.Moves.{StepsIn}
 
@@ -52,15 +54,16 @@ module _ {S W : Type 0} (form : NormalForm S W) where
   abbrev pub PhaseInside : Phase S W → List ℕ → Type 0
   PhaseInside (phase.Generate s Search) words = AsksInside (form.request_of s) words
   PhaseInside (phase.Apply run stores (Fill made)) words = StoresInside (slice_get stores.items made) words
-  PhaseInside (phase.Apply run stores Execute) words = (entry : Entry) → slice_get run.entries run.next ≡ Some entry → entry.target < length words
+  PhaseInside (phase.Apply run stores Execute) words = (entry : Entry) × (slice_get run.entries run.next ≡ Some entry) × (entry.target < length words)
   PhaseInside (phase.Wrap wrap) words = AsksInside (form.wrap_request_of wrap) words
   PhaseInside (phase.Help drives help) words = (help.head < 8) × HelpInside help.at words
   PhaseInside _ words = Unit {0}
 
-  -- of a machine: the memory has the first words, and the blocks are those of an arena
-  pub record IsInside (at : Phase S W) (mech : Mech S W) (words : List ℕ) : Type 0 where
+  -- of a machine with its list: the memory has the first words, and the blocks are those of an arena
+  pub record IsInside (at : Phase S W) (mech : Mech S W) (held : Option (Held S)) (words : List ℕ) : Type 0 where
     pub first : 32 ≤ length words
     pub few : mech.seat < 8
+    pub lists : HoldsIn form at mech held
     pub asks : PhaseInside at words
     pub cap : mech.setup.cap < 2 ^ 17
     pub small : (block : ℕ) → mech.hand ≡ Some block → block < 2 ^ 17
@@ -69,7 +72,7 @@ module _ {S W : Type 0} (form : NormalForm S W) where
   abbrev pub MovesStep : Type 0
   MovesStep =
       (setup : Setup) (older : List Move) (move : Move) (mech : Mech S W) → slice_get (run_of form setup older).mechs move.seat ≡ Some mech
-      → IsInside (begun move.begins mech).phase (begun move.begins mech) (run_of form setup older).words
+      → IsInside (begun move.begins mech).phase (begun move.begins mech) ((ghost_of form setup older).seats move.seat).held (run_of form setup older).words
       → StepsIn form (world_of form setup older) (world_of form setup (move ∷ older)) (ghost_of form setup older).offers (ghost_of form setup (move ∷ older)).offers
       (begun move.begins mech).phase (begun move.begins mech) ((ghost_of form setup older).seats move.seat) ((ghost_of form setup (move ∷ older)).seats move.seat) (length older)
       (seen_of (mech_request form (begun move.begins mech)) (run_of form setup older).words)

@@ -95,7 +95,7 @@ module _ {S W : Type 0} (form : NormalForm S W) (world after : World) (offers of
   HelpSteps (Known word does) head mech own own' identity seen = WorkSteps does head word mech own own' identity seen
   HelpSteps (Remove removal) head mech own own' identity seen = ((after ≡ world) ⊎ Puts QUEUE) × (offers' ≡ offers)
 
-  -- a step of a machine's own call
+  -- a step of a machine's own call; of a helper nothing is said here
   abbrev pub OwnSteps : Phase S W → Mech S W → Option (Held S) → Seen → Type 0
   OwnSteps phase.Begin mech held seen = Puts TICKS
   OwnSteps (phase.Generate s Search) mech held seen = Requested form (form.request_of s) world after seen
@@ -107,6 +107,7 @@ module _ {S W : Type 0} (form : NormalForm S W) (world after : World) (offers of
   OwnSteps (phase.Announce at) mech held seen = Announces at mech
   OwnSteps (phase.Enter owner) mech held seen = (after ≡ world) ⊎ Puts QUEUE
   OwnSteps (phase.End reply) mech held seen = Puts TICKS
+  OwnSteps (phase.Help drives help) mech held seen = Unit {0}
   OwnSteps _ mech held seen = after ≡ world
 
   -- a step in a phase, where this is known of the seat before and after it; a list that it names has this identity

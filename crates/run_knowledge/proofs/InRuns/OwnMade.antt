@@ -29,6 +29,8 @@ use Rattle.fast_slow_engine.specs.Mechs.{Mech}
 use Rattle.fast_slow_engine.specs.OfferStores.{stored_by}
 use Rattle.fast_slow_engine.specs.PhaseTable.{announce_request, request_in}
 use Rattle.offered_blocks.specs.Blocks.{Offer}
+use Rattle.helper_knowledge.specs.Carried.{OfSome}
+use Rattle.run_world.specs.Lists.{IsOffering}
 use Rattle.run_world.specs.Ghosts.{Held, uses_block}
 use Rattle.run_world.specs.Worlds.{asked_listed, won_entry, world_stepped}
 use Rattle.run_world.proofs.Words.Moved.{with_list}
@@ -117,3 +119,40 @@ module _ {S W : Type 0} (form : NormalForm S W) (words : List ℕ) (world : Worl
             misses lost.0 (λ e next found. lost.1 (let alike : other ≡ e = same_some other e (sym at ∙ next) in ap (λ (x : Entry). word_in words x.target) alike ∙ found ∙ ap (λ (x : Entry). x.from) (sym alike)))
             (ap (λ (w : World). with_list (words_after request words) w) (lost_listed (Some held) run (seen_of request words) lost.0) ∙ lost.2)
       ]
+
+  executing : (run : FastWalk) (held : Option (Held S)) (P : Held S → Type 0) → OfSome P held → (entry : Entry) → slice_get run.entries run.next ≡ Some entry → entry.target < length words
+      → Enters form before (After run held (slice_get run.entries run.next)) offers offers' run held (seen_of (exchange_of (slice_get run.entries run.next)) words)
+  executing run None P has entry is inside = absurd has
+  executing run (Some held) P has entry is inside = entry_steps run held (slice_get run.entries run.next) refl entry is inside
+
+  -- ---- all phases of the own call
+
+  module _ (mech : Mech S W) (held : Option (Held S)) where
+    abbrev pub after_own : Phase S W → World
+    after_own at = with_list (words_after (request_in form at mech) words) (world_stepped form at held offers (seen_of (request_in form at mech) words) before)
+
+    abbrev pub Steps : Phase S W → Type 0
+    Steps at = OwnSteps form before (after_own at) offers offers' at mech held (seen_of (request_in form at mech) words)
+
+    announce_steps : (at : Announcing) → mech.seat < 8 → 32 ≤ length words → Announces form before (made words world (announce_request at mech)) offers offers' at mech
+    announce_steps announcing.Value few first = store_made words world _ _ (omega (arith, few, first))
+    announce_steps announcing.Op few first = store_made words world _ _ (omega (arith, few, first))
+    announce_steps announcing.Record few first = store_made words world _ _ (omega (arith, few, first))
+
+    pub own_steps : (at : Phase S W) → IsInside form at mech held words → Steps at
+    own_steps phase.Idle is = load_made words world 0
+    own_steps phase.Begin is = (_, add_made words world TICKS 1 (let first = is.first in omega (arith, first)))
+    own_steps phase.Look is = load_made words world QUEUE
+    own_steps (phase.Generate s Search) is = requested form (form.request_of s) words world is.asks
+    own_steps (phase.Generate s LookForBlock) is = load_made words world CLAIMS
+    own_steps (phase.Generate s Claim) is = (_, add_made words world CLAIMS 1 (let first = is.first in omega (arith, first)))
+    own_steps (phase.Apply run stores (Fill n)) is = λ store at. (ap (λ o. made words world (stored_by o)) at ∙ store_made words world store.0 store.1 (is.asks store at))
+    own_steps (phase.Apply run stores Execute) is = executing run held (IsOffering form run stores mech) is.lists is.asks.0 is.asks.1 is.asks.2
+    own_steps (phase.Wrap w) is = requested form (form.wrap_request_of w) words world is.asks
+    own_steps (phase.Announce at) is = announce_steps at is.few is.first
+    own_steps (phase.Enter owner) is = queue_made (enter_request_in owner.stage) (enter_at owner.stage) is.first
+    own_steps phase.Drive is = load_made words world QUEUE
+    own_steps (phase.Help drives help) is = tt
+    own_steps phase.Collect is = load_made words world _
+    own_steps (phase.Value reference) is = load_made words world _
+    own_steps (phase.End reply) is = (_, add_made words world TICKS 1 (let first = is.first in omega (arith, first)))
