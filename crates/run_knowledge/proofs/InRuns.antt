@@ -1,0 +1,5 @@
+-- Each move of a run is a step of its phase.
+pub mod Asked
+pub mod OwnMade
+pub mod HelpMade
+pub mod MoveSteps

@@ -1,0 +1,4 @@
+pub mod OfKinds
+pub mod Goes
+pub mod Stays
+pub mod InRuns

@@ -1,0 +1,2 @@
+-- What is known stays where another seat moves.
+pub mod OtherSeats

@@ -1,0 +1,6 @@
+pub mod Known
+pub mod Tells
+pub mod Moves
+pub mod InMemory
+pub mod Others
+pub mod Kept

@@ -1,0 +1,4 @@
+pub mod PlainSteps
+pub mod HeldLists
+pub mod CarriedWork
+pub mod CarriedLists

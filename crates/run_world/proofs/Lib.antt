@@ -1,0 +1,4 @@
+pub mod Words
+pub mod Holding
+pub mod Names
+pub mod Blocks

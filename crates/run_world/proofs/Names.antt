@@ -1,0 +1,4 @@
+pub mod Comes
+pub mod Kept
+pub mod Journal
+pub mod Fresh

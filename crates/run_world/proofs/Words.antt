@@ -1,0 +1,6 @@
+pub mod WordLemmas
+pub mod Opens
+pub mod Grow
+pub mod Moved
+pub mod Seats
+pub mod Wins

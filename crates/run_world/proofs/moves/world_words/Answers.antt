@@ -1,0 +1,5 @@
+use Rattle.run_world.proofs.Words.WordLemmas.{world_words}
+use Rattle.run_world.proofs.moves.world_words.Goals as goal
+
+pub returns : goal.returns
+returns g c = world_words g.C.Normalized.form

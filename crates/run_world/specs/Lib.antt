@@ -1,0 +1,8 @@
+pub mod Ghosts
+pub mod Worlds
+pub mod SeatSteps
+pub mod RunGhosts
+pub mod Moves
+pub mod Lists
+pub mod Identities
+pub mod Hands
