@@ -81,7 +81,7 @@ module _ {S W : Type 0} (form : NormalForm S W) (words : List ℕ) (world : Worl
     λ block has ready. (
       small block has,
       ready_filled op (form.feed_of s (seen_by (work.Generate op s Search) word)) word block (form.found_of s (seen_by (work.Generate op s Search) word))
-      (λ b. list_named form identity (form.feed_of s (seen_by (work.Generate op s Search) word)) own.since (call_in head word op) b) has ready,
+          (λ b. list_named form identity (form.feed_of s (seen_by (work.Generate op s Search) word)) own.since (call_in head word op) b) has ready,
     ),
   )
 
@@ -93,8 +93,7 @@ module _ {S W : Type 0} (form : NormalForm S W) (words : List ℕ) (world : Worl
 
   claim_steps : (op : Op) (s : S) (word : ℕ) → 32 ≤ length words → Stepped (work.Generate op s Claim) word
   claim_steps op s word first =
-      let counter = (seen_by (work.Generate op s Claim) word).before in
-      (
+      let counter = (seen_by (work.Generate op s Claim) word).before in (
         (_, add_made words world CLAIMS 1 (omega (arith, first))),
         refl,
         λ below. (
@@ -113,8 +112,7 @@ module _ {S W : Type 0} (form : NormalForm S W) (words : List ℕ) (world : Worl
   execute_steps : (run : SlowWalk) (word : ℕ) → place_of (slow_request run) < length words → Stepped (work.Execute run) word
   execute_steps run word inside =
       let request = slow_request run in
-      let seen = seen_of request words in
-      (
+      let seen = seen_of request words in (
         record {
           here = word_at_place request words inside;
           beside = λ at apart. word_elsewhere request words at apart;

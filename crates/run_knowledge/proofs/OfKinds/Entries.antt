@@ -125,9 +125,9 @@ module _ {S W : Type 0} (form : NormalForm S W) (laws : Laws form) (world : Worl
             (first_of_block list held.offering held.since entry entry.to knows.offered fresh spare.some spare.unused (knows.filled zero_th spare.some) first_listed found exchanged_well);
         more = λ block was. used_more (block == list.block) (world.used block) was;
         few = λ block on. elim (used_one list.block block world.used on) [
-              | inl was ↦ inl was
-              | inr same ↦ inr (hand ∙ ap (λ b. Some b) (sym same), subst (IsUnnamed offers) (sym same) spare.unnamed)
-            ];
+          | inl was ↦ inl was
+          | inr same ↦ inr (hand ∙ ap (λ b. Some b) (sym same), subst (IsUnnamed offers) (sym same) spare.unnamed)
+        ];
       }
 
     -- ---- the second entry
