@@ -3,3 +3,4 @@ pub mod Asked
 pub mod OwnMade
 pub mod HelpMade
 pub mod MoveSteps
+pub mod Unannounced
