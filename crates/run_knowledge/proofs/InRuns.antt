@@ -4,3 +4,4 @@ pub mod OwnMade
 pub mod HelpMade
 pub mod MoveSteps
 pub mod Unannounced
+pub mod Mover
