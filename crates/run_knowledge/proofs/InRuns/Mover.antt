@@ -2,7 +2,8 @@
 use Rattle.std.proofs.Common.{◌≡◌, ◌≢◌, ◌∙◌, refl, sym, subst, ap, ℕ, ◌+◌, ◌^◌, ◌<◌, ◌≤◌, true, false, List, ◌∷◌, slice_get, Option, Some, None, arith}
 use Rattle.std.proofs.lemmas.Option.{slice_get_within}
 use Rattle.lin_report.specs.declared.calls.Op.{Op}
-use Rattle.normal_traits.specs.World.{Listed, World}
+use Rattle.lin_report.specs.Commands.{IsCommandOf}
+use Rattle.normal_traits.specs.World.{World}
 use Rattle.normal_traits.specs.NormalForm.{NormalForm}
 use Rattle.fast_slow_engine.specs.declared.phases.Phase.{Phase}
 use Rattle.fast_slow_engine.specs.declared.phases.Phase.TheVariants as phase
@@ -60,6 +61,10 @@ rest_unspent form phase.Collect op rest = absurd cc
 rest_unspent form (phase.Value reference) op rest = absurd cc
 rest_unspent form (phase.End reply) op rest = absurd cc
 
+makes_command : {S W : Type 0} (form : NormalForm S W) (at : Phase S W) (mech : Mech S W) → IsCommandOf form.client mech.op → MakesCommand form at mech
+makes_command form phase.Idle mech is = tt
+makes_command form _ mech is = is
+
 apart_keepers : {A : Type 0} (seat block : ℕ) → holder seat ≡ named block → A
 apart_keepers seat block e = absurd cc
 
@@ -104,7 +109,7 @@ module _ {S W : Type 0} (form : NormalForm S W) (setup : Setup) (older : List Mo
           setup_is = q.setup';
           few = subst (λ s. s < 8) (sym q.seat) few_seats;
           number = omega (arith, most);
-          command = known.command;
+          command = makes_command form mech.phase mech (known.command (q.runs can).0);
           knows = known.knows;
           lists = lists_held form setup older are seat mech at;
           block = blocks_held form setup older are seat mech at;
