@@ -5,3 +5,4 @@ pub mod HelpMade
 pub mod MoveSteps
 pub mod Unannounced
 pub mod Mover
+pub mod Helped
