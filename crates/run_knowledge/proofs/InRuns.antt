@@ -6,3 +6,4 @@ pub mod MoveSteps
 pub mod Unannounced
 pub mod Mover
 pub mod Helped
+pub mod Rests
