@@ -3,3 +3,7 @@ pub mod Asked
 pub mod OwnMade
 pub mod HelpMade
 pub mod MoveSteps
+pub mod Unannounced
+pub mod Mover
+pub mod Helped
+pub mod Rests

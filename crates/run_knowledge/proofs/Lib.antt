@@ -2,3 +2,4 @@ pub mod OfKinds
 pub mod Goes
 pub mod Stays
 pub mod InRuns
+pub mod Bounds

@@ -1,6 +1,7 @@
 -- What holds of every run of the whole phase table, for any client with its laws: of the client's world and the blocks that
 -- records have named, and of what each machine knows and tells. And the laws of one move and of all.
 use Rattle.std.specs.Prelude.{◌≡◌, ℕ, ◌≤◌, ◌<◌, true, ◌⊎◌, List, ◌∷◌, length, slice_get, Option, Some, None}
+use Rattle.lin_report.specs.Commands.{IsCommandOf}
 use Rattle.word_fields.specs.Versioned.{versioned_version}
 use Rattle.node_arena.specs.declared.places.TheConstants.{TICKS, CLAIMS, HEAD, TAIL, FIRST_WORDS}
 use Rattle.normal_traits.specs.World.{World}
@@ -19,7 +20,7 @@ use Rattle.run_laws.specs.Seats.{EachMech}
 use Rattle.run_queue.specs.Premises.{ClientLeavesQueue}
 use Rattle.run_world.specs.Ghosts.{Ghost, Held, SeatGhost}
 use Rattle.run_world.specs.RunGhosts.{ghost_of, world_of}
-use Rattle.run_knowledge.specs.Known.{KnowsIn, MakesCommand}
+use Rattle.run_knowledge.specs.Known.{KnowsIn}
 use Rattle.run_knowledge.specs.Tells.{AllFollowed, ChangesBelow, CountsIn, IsAnnounced, TellsIn}
 
 -- the place is one of those at which a client may have words: head, tail, or behind the first words
@@ -50,7 +51,8 @@ module _ {S W : Type 0} (form : NormalForm S W) where
 
   -- what holds of a seat
   pub record KnowsWell (mech : Mech S W) (own : SeatGhost S) (world : World) (offers : ℕ → Option (Offer S)) (callers : ℕ → Caller) : Type 0 where
-    pub command : MakesCommand form mech.phase mech
+    -- the operation of its call is a command, also once that is over
+    pub command : 1 ≤ mech.number → IsCommandOf form.client mech.op
     pub knows : KnowsIn form mech.phase mech own world offers callers
     pub tells : TellsIn form mech.phase mech own world
     pub counts : CountsIn mech.phase own

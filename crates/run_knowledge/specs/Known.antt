@@ -64,9 +64,10 @@ module _ {S W : Type 0} (form : NormalForm S W) where
   -- ---- helpers
 
   -- of a helper with this block in hand, that helps this seat with the call that the seat makes. While it loads the record,
-  -- and while it removes whom it found completed, it knows nothing but what the queue has of it
+  -- and while it removes whom it found completed, it knows nothing but what the queue has of it. Whose record it found open has
+  -- begun a call
   abbrev pub KnowsHelp : World → (ℕ → Option (Offer S)) → Caller → ℕ → Option ℕ → Carried S → Helping S W → Type 0
-  KnowsHelp world offers caller head hand own (Known word does) = CanWork form does × KnowsWork form world offers caller head word hand own does
+  KnowsHelp world offers caller head hand own (Known word does) = CanWork form does × KnowsWork form world offers caller head word hand own does × (1 ≤ caller.number)
   KnowsHelp world offers caller head hand own _ = Unit {0}
 
   -- ---- all phases

@@ -1,6 +1,6 @@
 -- What a step of a machine does to the client's world and to the blocks that records have named, by its phase; and what it
 -- rests on. No run is in it: the laws of one step speak of these, and a run supplies them.
-use Rattle.std.specs.Prelude.{◌≡◌, ◌≢◌, ℕ, ◌+◌, ◌^◌, ◌<◌, ◌⊎◌, Bool, true, false, not, length, slice_get, Option, Some, None}
+use Rattle.std.specs.Prelude.{◌≡◌, ◌≢◌, ℕ, ◌+◌, ◌^◌, ◌<◌, ◌≤◌, ◌⊎◌, Bool, true, false, not, length, slice_get, Option, Some, None}
 use Rattle.arrayvec.specs.ArrayVec.{ArrayVec}
 use Rattle.step_memory.specs.declared.steps.Seen.{Seen}
 use Rattle.word_fields.specs.declared.records.Phase.TheVariants as marks
@@ -133,7 +133,7 @@ module _ {S W : Type 0} (form : NormalForm S W) (world : World) (offers : ℕ �
   -- of a helper, what holds of the call of its head; where it loads the record, what that names if it is open
   abbrev pub RestsHelp : Helping S W → ℕ → Option ℕ → Option (Offer S) → Type 0
   RestsHelp (Record known) head hand filled =
-      is_open (record_phase (world.words (record_place head))) ≡ true → NamedBy form world offers (record_phase (world.words (record_place head))) head (world.words (record_place head))
+      is_open (record_phase (world.words (record_place head))) ≡ true → NamedBy form world offers (record_phase (world.words (record_place head))) head (world.words (record_place head)) × (1 ≤ (callers head).number)
   RestsHelp (Known word does) head hand filled = RestsOn form world offers head (callers head) × MeetsWork does head word hand filled
   RestsHelp _ head hand filled = Unit {0}
 

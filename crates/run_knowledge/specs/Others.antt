@@ -1,5 +1,5 @@
 -- What a machine knows stays true where another seat moves, whatever that does.
-use Rattle.std.specs.Prelude.{◌≡◌, ◌≢◌, ℕ, Option, Some}
+use Rattle.std.specs.Prelude.{◌≡◌, ◌≢◌, ℕ, ◌≤◌, Option, Some}
 use Rattle.word_fields.specs.Records.{record_number}
 use Rattle.normal_traits.specs.World.{World}
 use Rattle.normal_traits.specs.NormalForm.{NormalForm}
@@ -18,9 +18,9 @@ use Rattle.run_world.specs.Hands.{BlockIn, IsUnspent}
 use Rattle.run_world.specs.Lists.{HoldsIn}
 use Rattle.run_knowledge.specs.Known.{KnowsIn, MakesCommand, NoneFrom}
 
--- the seat of the call that a helper works on makes it after the move only if it did before
+-- the seat of the call that a helper works on makes it after the move only if it did before, and no call is before that
 abbrev pub FollowsHelp : {S W : Type 0} → Helping S W → ℕ → (ℕ → Caller) → (ℕ → Caller) → Type 0
-FollowsHelp (Known word does) head callers callers' = Follows (callers head) (callers' head) (record_number word)
+FollowsHelp (Known word does) head callers callers' = Follows (callers head) (callers' head) (record_number word) × ((callers head).number ≤ (callers' head).number)
 FollowsHelp _ head callers callers' = Unit {0}
 
 abbrev pub FollowsIn : {S W : Type 0} → Phase S W → (ℕ → Caller) → (ℕ → Caller) → Type 0

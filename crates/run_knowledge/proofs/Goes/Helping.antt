@@ -1,5 +1,5 @@
 -- What a helper knows after its step: of its work, where it loads the record, and where helping ends.
-use Rattle.std.proofs.Common.{◌≡◌, ◌∙◌, refl, sym, subst, ap, ℕ, if◌then◌else◌, Bool, true, false, length, Option, Some, None}
+use Rattle.std.proofs.Common.{◌≡◌, ◌∙◌, refl, sym, subst, ap, ℕ, ◌≤◌, if◌then◌else◌, Bool, true, false, length, Option, Some, None}
 use Rattle.lin_report.specs.Commands.{IsCommandOf}
 use Rattle.step_memory.specs.declared.steps.Seen.{Seen}
 use Rattle.word_fields.specs.Records.{record_number, record_phase}
@@ -66,24 +66,25 @@ module _ {S W : Type 0} (form : NormalForm S W) where
     KnowsAfter hand at = KnowsHelp form after offers' (callers head) head hand own' at
 
     -- the record was loaded
-    met_knows : (b : Bool) (word : ℕ) (hand : Option ℕ) (removal : Removal) → (b ≡ true → NamedBy form after offers' (record_phase word) head word) → KnowsAfter hand (if b then Known word work.Head else Remove removal)
-    met_knows true word hand removal named = (tt, named refl)
+    met_knows : (b : Bool) (word : ℕ) (hand : Option ℕ) (removal : Removal) → (b ≡ true → NamedBy form after offers' (record_phase word) head word × (1 ≤ (callers head).number)) → KnowsAfter hand (if b then Known word work.Head else Remove removal)
+    met_knows true word hand removal named = (let is = named refl in (tt, is.0, is.1))
     met_knows false word hand removal named = tt
 
-    record_knows : (hand : Option ℕ) (removal : Removal) → (is_open (record_phase (world.words (record_place head))) ≡ true → NamedBy form world offers (record_phase (world.words (record_place head))) head (world.words (record_place head)))
+    record_knows : (hand : Option ℕ) (removal : Removal) → (is_open (record_phase (world.words (record_place head))) ≡ true → NamedBy form world offers (record_phase (world.words (record_place head))) head (world.words (record_place head)) × (1 ≤ (callers head).number))
         → after ≡ world → offers' ≡ offers → seen.before ≡ world.words (record_place head) → KnowsAfter hand (if is_open (record_phase seen.before) then Known seen.before work.Head else Remove removal)
     record_knows hand removal named same kept saw =
         met_knows (is_open (record_phase seen.before)) seen.before hand removal
         (λ opened.
-        subst (λ (w : World). NamedBy form w offers' (record_phase seen.before) head seen.before) (sym same)
+        let is = subst (λ r. is_open (record_phase r) ≡ true → NamedBy form world offers (record_phase r) head r × (1 ≤ (callers head).number)) (sym saw) named opened in
+        (subst (λ (w : World). NamedBy form w offers' (record_phase seen.before) head seen.before) (sym same)
         (subst (λ (o : ℕ → Option (Offer S)). NamedBy form world o (record_phase seen.before) head seen.before) (sym kept)
-        (subst (λ r. is_open (record_phase r) ≡ true → NamedBy form world offers (record_phase r) head r) (sym saw) named opened)))
+        is.0), is.1))
 
     -- a step of its work
-    plain_knows : (word : ℕ) (does : Work S W) → RestsOn form world offers head (callers head) → CanWork form does → KnowsWork form world offers (callers head) head word mech.hand own does
+    plain_knows : (word : ℕ) (does : Work S W) → RestsOn form world offers head (callers head) → CanWork form does → KnowsWork form world offers (callers head) head word mech.hand own does → 1 ≤ (callers head).number
         → (offers' ≡ offers) × Steps form world after offers head word mech.hand own own' identity mech.setup.cap seen does → is_over form (work_turn form does head word seen) ≡ false
         → KnowsAfter (work_hand does mech.hand mech.setup.cap seen) (worked form (work_turn form does head word seen) word (work_fed form does head word mech.hand mech.setup.cap seen))
-    plain_knows word does rests can knows is on = by_turn (work_turn form does head word seen) refl on
+    plain_knows word does rests can knows some is on = by_turn (work_turn form does head word seen) refl on
       where
         by_turn : (turn : WorkTurn) → work_turn form does head word seen ≡ turn → is_over form turn ≡ false
             → KnowsAfter (work_hand does mech.hand mech.setup.cap seen) (worked form turn word (work_fed form does head word mech.hand mech.setup.cap seen))
@@ -93,22 +94,22 @@ module _ {S W : Type 0} (form : NormalForm S W) where
             let known : KnowsWork form after offers' (callers head) head word hand' own' next =
             subst (λ (o : ℕ → Option (Offer S)). KnowsWork form after o (callers head) head word hand' own' next) (sym is.0)
             (work_goes_on form laws world after offers (callers head) head word mech.hand own own' identity mech.setup.cap seen does rests spare small can is.1 going knows) in
-            (can_work form after offers' holds' (callers head) head word hand' own' next (still_can form head word mech.hand mech.setup.cap seen world offers holds (callers head) own does can going knows) known, known)
+            (can_work form after offers' holds' (callers head) head word hand' own' next (still_can form head word mech.hand mech.setup.cap seen world offers holds (callers head) own does can going knows) known, known, some)
         by_turn Again going on' = tt
         by_turn Over going on' = absurd cc
 
-    work_knows : (word : ℕ) (does : Work S W) → RestsOn form world offers head (callers head) → CanWork form does × KnowsWork form world offers (callers head) head word mech.hand own does
+    work_knows : (word : ℕ) (does : Work S W) → RestsOn form world offers head (callers head) → CanWork form does × KnowsWork form world offers (callers head) head word mech.hand own does × (1 ≤ (callers head).number)
         → WorkSteps form world after offers offers' does head word mech own own' identity seen → is_over form (work_turn form does head word seen) ≡ false
         → KnowsAfter (work_hand does mech.hand mech.setup.cap seen) (worked form (work_turn form does head word seen) word (work_fed form does head word mech.hand mech.setup.cap seen))
-    work_knows word work.Head rests knows is on = plain_knows word work.Head rests knows.0 knows.1 is on
-    work_knows word work.Op rests knows is on = plain_knows word work.Op rests knows.0 knows.1 is on
-    work_knows word (work.Value op) rests knows is on = plain_knows word (work.Value op) rests knows.0 knows.1 is on
-    work_knows word (work.Generate op s at) rests knows is on = plain_knows word (work.Generate op s at) rests knows.0 knows.1 is on
-    work_knows word (work.Fill stores made) rests knows is on = plain_knows word (work.Fill stores made) rests knows.0 knows.1 is on
+    work_knows word work.Head rests knows is on = plain_knows word work.Head rests knows.0 knows.1 knows.2 is on
+    work_knows word work.Op rests knows is on = plain_knows word work.Op rests knows.0 knows.1 knows.2 is on
+    work_knows word (work.Value op) rests knows is on = plain_knows word (work.Value op) rests knows.0 knows.1 knows.2 is on
+    work_knows word (work.Generate op s at) rests knows is on = plain_knows word (work.Generate op s at) rests knows.0 knows.1 knows.2 is on
+    work_knows word (work.Fill stores made) rests knows is on = plain_knows word (work.Fill stores made) rests knows.0 knows.1 knows.2 is on
     work_knows word (work.Advance to) rests knows is on = tt
-    work_knows word (work.Read read) rests knows is on = plain_knows word (work.Read read) rests knows.0 knows.1 is on
-    work_knows word (work.Execute run) rests knows is on = plain_knows word (work.Execute run) rests knows.0 knows.1 is on
-    work_knows word (work.Wrap wrap) rests knows is on = plain_knows word (work.Wrap wrap) rests knows.0 knows.1 is on
+    work_knows word (work.Read read) rests knows is on = plain_knows word (work.Read read) rests knows.0 knows.1 knows.2 is on
+    work_knows word (work.Execute run) rests knows is on = plain_knows word (work.Execute run) rests knows.0 knows.1 knows.2 is on
+    work_knows word (work.Wrap wrap) rests knows is on = plain_knows word (work.Wrap wrap) rests knows.0 knows.1 knows.2 is on
 
     fed_knows : (at : Helping S W) (seats : ℕ) → RestsHelp form world offers callers at head mech.hand own.filled → KnowsHelp form world offers (callers head) head mech.hand own at
         → HelpSteps form world after offers offers' at head mech own own' identity seen → helping_ends form at head seen ≡ false

@@ -1,5 +1,5 @@
 -- A step of a helper is one of the kinds: of its work, of its exchange of the head's record, or at the queue word.
-use Rattle.std.proofs.Common.{◌≡◌, ◌≢◌, ◌∙◌, refl, sym, subst, ap, ℕ, inl, inr, Option, Some, ◌⊎◌}
+use Rattle.std.proofs.Common.{◌≡◌, ◌≢◌, ◌∙◌, refl, sym, subst, ap, ℕ, ◌≤◌, inl, inr, Option, Some, ◌⊎◌}
 use Rattle.step_memory.specs.declared.steps.Seen.{Seen}
 use Rattle.word_fields.specs.Records.{packed_record, record_of}
 use Rattle.node_arena.specs.declared.places.TheConstants.{QUEUE}
@@ -57,7 +57,7 @@ module _ {S W : Type 0} (form : NormalForm S W) (laws : Laws form) (world after 
         (work_is_kind form laws world after offers (callers head) head word mech.seat mech.hand own own' identity mech.setup.cap seen does rests spare can is.1 knows)
 
     work_kind : (does : Work S W) → RestsOn form world offers head (callers head) × MeetsWork form world offers callers does head word mech.hand own.filled
-        → CanWork form does × KnowsWork form world offers (callers head) head word mech.hand own does → WorkSteps form world after offers offers' does head word mech own own' identity seen → IsKind
+        → CanWork form does × KnowsWork form world offers (callers head) head word mech.hand own does × (1 ≤ (callers head).number) → WorkSteps form world after offers offers' does head word mech own own' identity seen → IsKind
     work_kind work.Head rests knows is = plain_kind work.Head rests.0 knows.0 knows.1 is
     work_kind work.Op rests knows is = plain_kind work.Op rests.0 knows.0 knows.1 is
     work_kind (work.Value op) rests knows is = plain_kind (work.Value op) rests.0 knows.0 knows.1 is

@@ -164,7 +164,11 @@ module _ {S W : Type 0} (form : NormalForm S W) (laws : Laws form) (world after 
         → KnowsHelp form world offers (callers head) head mech.hand own.carried at → KnowsHelp form after offers' (callers' head) head mech.hand own.carried at
     help_stays (Record known) head spare follows knows = tt
     help_stays (Known word does) head spare follows knows =
-        (knows.0, knowledge_kept form laws world after offers offers' mover hand mech.hand holds kind spare (callers head) (callers' head) head word own.carried does follows knows.0 knows.1)
+        (
+          knows.0,
+          knowledge_kept form laws world after offers offers' mover hand mech.hand holds kind spare (callers head) (callers' head) head word own.carried does follows.0 knows.0 knows.1,
+          (let more = follows.1 in let some = knows.2 in omega (arith, more, some)),
+        )
     help_stays (Remove removal) head spare follows knows = tt
 
     pub phase_stays : (at : Phase S W) → Beside at → Keeps at
