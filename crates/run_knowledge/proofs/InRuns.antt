@@ -7,3 +7,5 @@ pub mod Unannounced
 pub mod Mover
 pub mod Helped
 pub mod Rests
+pub mod Inside
+pub mod MoverInside
