@@ -9,3 +9,4 @@ pub mod Helped
 pub mod Rests
 pub mod Inside
 pub mod MoverInside
+pub mod MovesKinds
