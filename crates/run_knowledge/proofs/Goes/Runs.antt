@@ -1,5 +1,5 @@
 -- What a machine knows after an exchange of its own list, and where the list stops.
-use Rattle.std.proofs.Common.{◌≡◌, ◌≢◌, ◌∙◌, refl, sym, subst, ap, ℕ, ◌+◌, ◌<◌, ◌≤◌, ◌==◌, if◌then◌else◌, Bool, true, false, ◌⊎◌, List, ◌∷◌, ◌++◌, [], length, slice_get, Option, Some, None, inl, inr, arith, rules}
+use Rattle.std.proofs.Common.{◌≡◌, ◌≢◌, ◌∙◌, refl, sym, subst, ap, ℕ, ◌+◌, ◌<◌, ◌==◌, if◌then◌else◌, Bool, true, false, ◌⊎◌, List, ◌∷◌, ◌++◌, [], length, slice_get, Option, Some, inl, inr, arith, rules}
 use Rattle.std.proofs.lemmas.Bool.{cases_eq}
 use Rattle.std.proofs.lemmas.Bool.Decides.{nat_tests}
 use Rattle.std.proofs.lemmas.Option.{slice_get_cases}
@@ -7,7 +7,7 @@ use Rattle.arrayvec.specs.ArrayVec.{ArrayVec}
 use Rattle.lin_report.specs.Commands.{IsCommandOf}
 use Rattle.step_memory.specs.declared.steps.Seen.{Seen}
 use Rattle.normal_traits.specs.declared.lists.Entry.{Entry}
-use Rattle.normal_traits.specs.World.{Among, IsPassed, Listed, Maker, Stopped, Took, Won, World}
+use Rattle.normal_traits.specs.World.{Among, IsPassed, Listed, Stopped, Took, Won, World}
 use Rattle.normal_traits.specs.World.Maker.{By}
 use Rattle.normal_traits.specs.NormalForm.{NormalForm}
 use Rattle.normal_traits.specs.Steps.{exchanged, listed_if}
@@ -121,8 +121,7 @@ module _ {S W : Type 0} (form : NormalForm S W) where
         won = λ on. (
             let one : list ≡ held = same_some list held (sym holds) in
             let listed : slice_get held.list.entries run.next ≡ Some entry = ap (λ (l : List Entry). slice_get l run.next) same ∙ next in
-            let made : after ≡ won_entry form held.list run.next (Some entry) world = is ∙ ap (λ (h : Held S). won_entry form h.list run.next (Some entry) world) one in
-            (
+            let made : after ≡ won_entry form held.list run.next (Some entry) world = is ∙ ap (λ (h : Held S). won_entry form h.list run.next (Some entry) world) one in (
               subst (λ (w : World). Took w held.list run.next) (sym made) (entry_took held.list run.next entry world listed),
               subst (λ (w : World). NoneFrom w held.list.identity (run.next + 1)) (sym made) (none_more held.list run.next entry world held.list.identity known.none),
             ));
@@ -138,8 +137,7 @@ module _ {S W : Type 0} (form : NormalForm S W) where
       elim (stops seen.won (run.next + 1 == length run.entries) run.next (length run.entries) stop is) [
         | inl ends ↦
             let last : run.next + 1 ≡ length run.entries = grind (arith, nat_tests, ends.1) in
-            let at : run.next + 1 ≡ stop = last ∙ ends.2 in
-            (
+            let at : run.next + 1 ≡ stop = last ∙ ends.2 in (
               record {
                 within = omega (arith, same, ends.2);
                 took = λ j less. elim (cases_eq j run.next) [
@@ -153,8 +151,7 @@ module _ {S W : Type 0} (form : NormalForm S W) where
         | inr fails ↦
             let lost = has.lost fails.0 in
             let none : NoneFrom world held.list.identity stop = subst (NoneFrom world held.list.identity) fails.1 known.none in
-            subst (λ (w : World). Stopped w held.list stop × NoneFrom w held.list.identity stop) (sym lost.0)
-            (
+            subst (λ (w : World). Stopped w held.list stop × NoneFrom w held.list.identity stop) (sym lost.0) (
               subst (Stopped world held.list) fails.1 (record {
                 within = omega (arith, same, running.0);
                 took = λ j less. known.took j less (omega (arith, less, same, running.0));

@@ -1,13 +1,11 @@
 -- The request of the machine that moves is inside the memory, in a run of which the invariant holds.
-use Rattle.std.proofs.Common.{◌≡◌, ◌∙◌, refl, sym, subst, ap, ℕ, ◌+◌, ◌^◌, ◌<◌, ◌≤◌, true, inl, inr, List, ◌∷◌, length, slice_get, Option, Some, None, arith}
-use Rattle.std.proofs.lemmas.Option.{slice_get_cases, slice_get_within}
+use Rattle.std.proofs.Common.{◌≡◌, ◌∙◌, refl, sym, subst, ap, ℕ, ◌+◌, ◌^◌, ◌<◌, ◌≤◌, true, inl, inr, List, length, slice_get, Option, Some, None, arith}
+use Rattle.std.proofs.lemmas.Option.{slice_get_cases}
 use Rattle.arrayvec.specs.ArrayVec.{ArrayVec}
-use Rattle.lin_report.specs.Commands.{IsCommandOf}
 use Rattle.step_memory.specs.declared.steps.Request.{Request}
 use Rattle.step_memory.specs.declared.steps.Request.TheVariants.{Load, Store, Exchange, Add}
 use Rattle.step_memory.specs.Step.{place_of}
 use Rattle.word_fields.specs.Versioned.{versioned_version}
-use Rattle.word_fields.specs.Records.{record_number}
 use Rattle.word_fields.proofs.VersionedLemmas.{version-changed_below}
 use Rattle.node_arena.specs.MemoryMap.{block_place}
 use Rattle.node_arena.proofs.PlaceLemmas.{block_place_inside}
@@ -22,16 +20,14 @@ use Rattle.cas_executor.specs.FastRuns.{FastWalk}
 use Rattle.cas_executor.specs.SlowRuns.{SlowWalk, request_at, slow_request, step_request}
 use Rattle.fast_slow_engine.specs.declared.setup.Setup.{Setup}
 use Rattle.fast_slow_engine.specs.Mechs.{Mech}
-use Rattle.fast_slow_engine.specs.OfferStores.{own_stores}
 use Rattle.fast_slow_engine.specs.Runs.{AreMoves, Move, run_of}
-use Rattle.offered_blocks.specs.Blocks.{Offer}
 use Rattle.helper_knowledge.specs.Carried.{OfSome}
 use Rattle.run_world.specs.Ghosts.{Held}
 use Rattle.run_world.specs.Lists.{IsOffering}
-use Rattle.run_world.specs.RunGhosts.{ghost_of, world_of}
+use Rattle.run_world.specs.RunGhosts.{world_of}
 use Rattle.run_knowledge.specs.InMemory.{AsksInside, StoresInside}
 use Rattle.run_knowledge.specs.Kept.{IsKept}
-use Rattle.run_knowledge.specs.Known.{IsStillOffered, KnowsFill, KnowsRun, KnowsWrap}
+use Rattle.run_knowledge.specs.Known.{KnowsFill, KnowsRun, KnowsWrap}
 use Rattle.run_knowledge.proofs.Bounds.InKept as bounds
 use Rattle.run_knowledge.proofs.Bounds.Words.{words_count}
 use Rattle.run_knowledge.proofs.OfKinds.OwnStores.{IsOwnStore, filling, held_offer, own_stored}

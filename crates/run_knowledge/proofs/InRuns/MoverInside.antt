@@ -1,29 +1,18 @@
 -- The request of each machine that moves is inside the memory, by cases on its phase; so each move is one of the kinds.
-use Rattle.std.proofs.Common.{◌≡◌, ◌∙◌, refl, sym, subst, ap, ℕ, ◌+◌, ◌^◌, ◌<◌, ◌≤◌, Bool, true, List, ◌∷◌, length, slice_get, Option, Some, None, All, arith}
-use Rattle.arrayvec.specs.ArrayVec.{ArrayVec}
-use Rattle.lin_report.specs.declared.calls.Op.{Op}
+use Rattle.std.proofs.Common.{◌≡◌, ◌∙◌, sym, subst, ap, ℕ, ◌<◌, ◌≤◌, List, length, slice_get, Option, Some, None, All, arith}
 use Rattle.word_fields.specs.Records.{record_number}
 use Rattle.normal_traits.specs.declared.lists.Entry.{Entry}
 use Rattle.normal_traits.specs.World.{World}
 use Rattle.normal_traits.specs.NormalForm.{NormalForm}
 use Rattle.normal_traits.specs.Laws.{IsGoodStore, Laws}
-use Rattle.cas_executor.specs.SlowRuns.{SlowWalk}
-use Rattle.fast_slow_engine.specs.declared.phases.Phase.{Phase}
-use Rattle.fast_slow_engine.specs.declared.phases.Phase.TheVariants as phase
 use Rattle.fast_slow_engine.specs.declared.phases.Generating.TheVariants.{Search, LookForBlock, Claim}
-use Rattle.fast_slow_engine.specs.declared.phases.Applying.TheVariants.{Fill, Execute}
 use Rattle.fast_slow_engine.specs.declared.setup.Setup.{Setup}
-use Rattle.fast_slow_engine.specs.declared.help.Help as helper
-use Rattle.fast_slow_engine.specs.declared.help.Helping.{Helping}
-use Rattle.fast_slow_engine.specs.declared.help.Helping.TheVariants.{Record, Known, Remove}
 use Rattle.fast_slow_engine.specs.declared.help.Work.{Work}
 use Rattle.fast_slow_engine.specs.declared.help.Work.TheVariants as work
 use Rattle.fast_slow_engine.specs.HelpWords.{named_block}
-use Rattle.fast_slow_engine.specs.Mechs.{Mech}
-use Rattle.fast_slow_engine.specs.OfferStores.{offer_stores}
-use Rattle.fast_slow_engine.specs.Runs.{AreMoves, CanMove, Move, begun, run_of}
+use Rattle.fast_slow_engine.specs.Runs.{AreMoves, Move, run_of}
 use Rattle.offered_blocks.specs.Blocks.{Offer}
-use Rattle.move_kinds.proofs.Stores.Into.{Each, IsInto, offer_into}
+use Rattle.move_kinds.proofs.Stores.Into.{IsInto, offer_into}
 use Rattle.helper_knowledge.specs.Callers.{Caller}
 use Rattle.helper_knowledge.specs.Carried.{Carried, OfSome}
 use Rattle.helper_knowledge.specs.Knowing.{KnowsOffer}

@@ -1,5 +1,5 @@
 -- Each move of a run of which the invariant holds is one of the kinds.
-use Rattle.std.proofs.Common.{◌≡◌, ◌∙◌, refl, sym, subst, ap, ℕ, ◌^◌, ◌<◌, ◌≤◌, true, List, ◌∷◌, length, slice_get, Option, Some, None, arith}
+use Rattle.std.proofs.Common.{◌≡◌, refl, sym, subst, ℕ, ◌^◌, ◌<◌, ◌≤◌, List, ◌∷◌, slice_get, Option, Some, None, arith}
 use Rattle.lin_report.specs.declared.calls.Op.{Op}
 use Rattle.normal_traits.specs.NormalForm.{NormalForm}
 use Rattle.normal_traits.specs.Laws.{Laws}
@@ -11,15 +11,14 @@ use Rattle.fast_slow_engine.specs.declared.setup.Setup.{Setup}
 use Rattle.fast_slow_engine.specs.declared.help.Helping.{Helping}
 use Rattle.fast_slow_engine.specs.declared.help.Helping.TheVariants.{Record, Known, Remove}
 use Rattle.fast_slow_engine.specs.Mechs.{Mech}
-use Rattle.fast_slow_engine.specs.Runs.{AreMoves, CanMove, Move, begun, run_of}
-use Rattle.offered_blocks.specs.Blocks.{Offer}
+use Rattle.fast_slow_engine.specs.Runs.{AreMoves, Move, begun, run_of}
 use Rattle.move_kinds.specs.Kinds.{Kind}
 use Rattle.helper_knowledge.specs.Callers.{Caller}
 use Rattle.run_queue.specs.Fits.{HelpingFits, PhaseFits}
 use Rattle.run_queue.proofs.Runs.RunMoves.{runs_queued}
 use Rattle.run_world.specs.Ghosts.{SeatGhost}
 use Rattle.run_world.specs.Hands.{BlockIn}
-use Rattle.run_world.specs.Lists.{HoldsIn, IsOffering}
+use Rattle.run_world.specs.Lists.{HoldsIn}
 use Rattle.run_world.specs.RunGhosts.{ghost_of, world_of}
 use Rattle.run_world.proofs.Blocks.Spare.{hands_spare}
 use Rattle.run_knowledge.specs.InMemory.{HelpInside, IsInside, PhaseInside}
@@ -30,7 +29,7 @@ use Rattle.run_knowledge.proofs.InRuns.Helped.{head_few}
 use Rattle.run_knowledge.proofs.InRuns.Inside.{asks_inside, fill_inside, run_inside, wrap_inside}
 use Rattle.run_knowledge.proofs.InRuns.Mover.{KnowsMover}
 use Rattle.run_knowledge.proofs.InRuns.MoverInside.{work_inside}
-use Rattle.run_knowledge.proofs.InRuns.Rests.{known, can, move_kind}
+use Rattle.run_knowledge.proofs.InRuns.Rests.{known, move_kind}
 
 module _ {S W : Type 0} (form : NormalForm S W) (laws : Laws form) (setup : Setup) (older : List Move) (move : Move) (mech : Mech S W) (are : AreMoves form setup (move ∷ older))
     (at : slice_get (run_of form setup older).mechs move.seat ≡ Some mech) (kept : IsKept form setup older) where
