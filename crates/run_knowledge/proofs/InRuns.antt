@@ -10,3 +10,4 @@ pub mod Rests
 pub mod Inside
 pub mod MoverInside
 pub mod MovesKinds
+pub mod Leaves
