@@ -7,3 +7,7 @@ pub mod Unannounced
 pub mod Mover
 pub mod Helped
 pub mod Rests
+pub mod Inside
+pub mod MoverInside
+pub mod MovesKinds
+pub mod Leaves

@@ -1,6 +1,6 @@
 -- What holds of every run of the whole phase table, for any client with its laws: of the client's world and the blocks that
 -- records have named, and of what each machine knows and tells. And the laws of one move and of all.
-use Rattle.std.specs.Prelude.{◌≡◌, ℕ, ◌≤◌, ◌<◌, true, ◌⊎◌, List, ◌∷◌, length, slice_get, Option, Some, None}
+use Rattle.std.specs.Prelude.{◌≡◌, ℕ, ◌≤◌, true, ◌⊎◌, List, ◌∷◌, length, slice_get, Option, Some, None}
 use Rattle.lin_report.specs.Commands.{IsCommandOf}
 use Rattle.word_fields.specs.Versioned.{versioned_version}
 use Rattle.node_arena.specs.declared.places.TheConstants.{TICKS, CLAIMS, HEAD, TAIL, FIRST_WORDS}

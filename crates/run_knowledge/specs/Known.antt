@@ -1,6 +1,6 @@
 -- What each machine knows of the client's world, by its phase: of its own call on the fast path, and as a helper of the
 -- call of a head.
-use Rattle.std.specs.Prelude.{◌≡◌, ℕ, ◌<◌, ◌≤◌, List, length, slice_get, Option, Some}
+use Rattle.std.specs.Prelude.{◌≡◌, ℕ, ◌<◌, ◌≤◌, length, slice_get, Option, Some}
 use Rattle.arrayvec.specs.ArrayVec.{ArrayVec}
 use Rattle.lin_report.specs.Commands.{IsCommandOf}
 use Rattle.normal_traits.specs.World.{Stopped, Took, World}

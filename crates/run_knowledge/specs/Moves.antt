@@ -1,7 +1,6 @@
 -- What a step of a machine does to the client's world and to the blocks that records have named, by its phase; and what it
 -- rests on. No run is in it: the laws of one step speak of these, and a run supplies them.
 use Rattle.std.specs.Prelude.{◌≡◌, ◌≢◌, ℕ, ◌+◌, ◌^◌, ◌<◌, ◌≤◌, ◌⊎◌, Bool, true, false, not, length, slice_get, Option, Some, None}
-use Rattle.arrayvec.specs.ArrayVec.{ArrayVec}
 use Rattle.step_memory.specs.declared.steps.Seen.{Seen}
 use Rattle.word_fields.specs.declared.records.Phase.TheVariants as marks
 use Rattle.word_fields.specs.Announced.{op_word, value_word}

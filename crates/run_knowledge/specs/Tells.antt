@@ -1,6 +1,6 @@
 -- What each machine tells of its own call, by its phase: by whom its change is made, and of a call that is to return, that its
 -- outcome is right. And whose the lists are that took effect on fast paths.
-use Rattle.std.specs.Prelude.{◌≡◌, ℕ, ◌≤◌, true, false, length, Option, Some}
+use Rattle.std.specs.Prelude.{◌≡◌, ℕ, ◌≤◌, true, Option, Some}
 use Rattle.lin_report.specs.declared.calls.Outcome.TheVariants.{Plain, ValueOf}
 use Rattle.word_fields.specs.Announced.{op_number, value_number}
 use Rattle.node_arena.specs.MemoryMap.{op_place, value_place}

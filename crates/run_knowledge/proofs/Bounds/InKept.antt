@@ -1,5 +1,5 @@
 -- What the invariant of runs bounds: the used blocks, the places of the client's words, and their versions.
-use Rattle.std.proofs.Common.{◌≡◌, ◌∙◌, sym, subst, ap, ℕ, ◌+◌, ◌^◌, ◌<◌, ◌≤◌, true, List, length, arith}
+use Rattle.std.proofs.Common.{◌≡◌, ℕ, ◌^◌, ◌<◌, ◌≤◌, true, List, length, arith}
 use Rattle.normal_traits.specs.World.{World, is_word}
 use Rattle.normal_traits.specs.NormalForm.{NormalForm}
 use Rattle.normal_traits.specs.Laws.{Laws}

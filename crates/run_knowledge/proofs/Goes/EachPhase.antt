@@ -1,5 +1,5 @@
 -- What a machine knows after a step of its own, by cases on the phase.
-use Rattle.std.proofs.Common.{◌≡◌, ◌∙◌, refl, sym, subst, ap, ℕ, ◌+◌, ◌^◌, ◌<◌, ◌≤◌, ◌==◌, nat_lt, if◌then◌else◌, Bool, true, false, inl, inr, length, get_or, Option, Some, None, arith}
+use Rattle.std.proofs.Common.{◌≡◌, refl, sym, subst, ap, ℕ, ◌+◌, ◌^◌, ◌<◌, ◌==◌, nat_lt, if◌then◌else◌, Bool, true, false, inl, inr, length, get_or, Option, Some, None, arith}
 use Rattle.std.proofs.lemmas.Bool.Decides.{nat_tests}
 use Rattle.std.proofs.lemmas.Option.{slice_get-get_or}
 use Rattle.arrayvec.specs.ArrayVec.{ArrayVec}
@@ -7,7 +7,7 @@ use Rattle.lin_report.specs.Commands.{IsCommandOf}
 use Rattle.step_memory.specs.declared.steps.Request.{Request}
 use Rattle.step_memory.specs.declared.steps.Request.TheVariants.{Load, Store, Exchange, Add}
 use Rattle.step_memory.specs.declared.steps.Seen.{Seen}
-use Rattle.normal_traits.specs.World.{Among, Listed, Maker, Stopped, Took, Won, World}
+use Rattle.normal_traits.specs.World.{Listed, Stopped, Won, World}
 use Rattle.normal_traits.specs.World.Maker.{By, Beside}
 use Rattle.normal_traits.specs.NormalForm.{NormalForm}
 use Rattle.normal_traits.specs.Steps.{IsStep, Requested}
@@ -26,15 +26,14 @@ use Rattle.fast_slow_engine.specs.declared.phases.Announcing.{Announcing}
 use Rattle.fast_slow_engine.specs.declared.phases.Announcing.TheVariants as announcing
 use Rattle.fast_slow_engine.specs.declared.phases.Generating.TheVariants.{Search, LookForBlock, Claim}
 use Rattle.fast_slow_engine.specs.declared.phases.Applying.TheVariants.{Fill, Execute}
-use Rattle.fast_slow_engine.specs.declared.help.Help as helper
 use Rattle.fast_slow_engine.specs.declared.help.Helping.TheVariants.{Record}
 use Rattle.fast_slow_engine.specs.Mechs.{Mech}
-use Rattle.fast_slow_engine.specs.PhaseTable.{announced, entered, executed, head_helped, head_seen, helped, in_phase, mech_fed, stepped, wrapped_up}
+use Rattle.fast_slow_engine.specs.PhaseTable.{announced, entered, executed, head_helped, head_seen, helped, in_phase, stepped, wrapped_up}
 use Rattle.offered_blocks.specs.Blocks.{Offer}
 use Rattle.helper_knowledge.specs.Callers.{Caller}
 use Rattle.helper_knowledge.specs.Carried.{OfSome}
 use Rattle.run_world.specs.Ghosts.{Held, SeatGhost, stopped_in}
-use Rattle.run_world.specs.Lists.{IsHeld, IsOffering}
+use Rattle.run_world.specs.Lists.{IsOffering}
 use Rattle.run_world.specs.SeatSteps.{begun_after, filled_after, held_in, list_after, newly_held, searches_on}
 use Rattle.run_knowledge.specs.Known.{IsStillOffered, KnowsFill, KnowsIn, KnowsRun, KnowsWrap, NoneFrom}
 use Rattle.run_knowledge.specs.Moves.{Enters, MoveLeaves, OwnSteps, RestsMove, StepsIn, StepsKnow}

@@ -1,5 +1,5 @@
 -- The stores that fill the block of an own list all stand, each at another place, and then the block is filled for the list.
-use Rattle.std.proofs.Common.{◌≡◌, ◌≢◌, ◌∙◌, refl, sym, subst, ap, ℕ, suc, ◌+◌, ◌<◌, ◌==◌, if◌then◌else◌, Bool, true, false, List, [], ◌∷◌, length, slice_get, Option, Some, All, AllPairs, inl, inr, arith}
+use Rattle.std.proofs.Common.{◌≡◌, ◌≢◌, ◌∙◌, refl, sym, subst, ap, ℕ, suc, ◌+◌, ◌<◌, ◌==◌, if◌then◌else◌, Bool, true, false, List, [], ◌∷◌, length, slice_get, Option, Some, All, inl, inr, arith}
 use Rattle.std.proofs.lemmas.Bool.{cases_eq}
 use Rattle.std.proofs.lemmas.Bool.Decides.{nat_tests}
 use Rattle.std.proofs.lemmas.List.Elements.{All-nil, All-cons}
@@ -7,9 +7,9 @@ use Rattle.std.proofs.lemmas.Option.{slice_get_within}
 use Rattle.arrayvec.specs.ArrayVec.{ArrayVec}
 use Rattle.normal_traits.specs.World.{Called, Listed, World}
 use Rattle.normal_traits.specs.NormalForm.{NormalForm}
-use Rattle.normal_traits.specs.Steps.{IsFilled, IsOffered, put_word}
-use Rattle.normal_traits.specs.Laws.{IsGoodStore, Laws}
-use Rattle.normal_traits.proofs.Stays.{all_at, word_beside, word_put}
+use Rattle.normal_traits.specs.Steps.{IsFilled, put_word}
+use Rattle.normal_traits.specs.Laws.{Laws}
+use Rattle.normal_traits.proofs.Stays.{word_beside, word_put}
 use Rattle.cas_executor.specs.FastRuns.{FastWalk}
 use Rattle.fast_slow_engine.specs.declared.phases.Phase.TheVariants.{Apply}
 use Rattle.fast_slow_engine.specs.declared.phases.Applying.TheVariants.{Fill, Execute}
@@ -21,7 +21,7 @@ use Rattle.cas_executor_laws.proofs.Sets.{some_same}
 use Rattle.helper_knowledge.specs.Callers.{Caller}
 use Rattle.run_world.specs.Ghosts.{Held}
 use Rattle.run_world.specs.Lists.{IsOffering}
-use Rattle.run_knowledge.specs.Known.{IsStillOffered, KnowsFill, KnowsIn, KnowsRun, NoneFrom, Stands}
+use Rattle.run_knowledge.specs.Known.{IsStillOffered, KnowsFill, KnowsRun, NoneFrom, Stands}
 use Rattle.run_knowledge.proofs.Goes.Searches.{Knows}
 use Rattle.run_knowledge.proofs.OfKinds.OwnStores.{filling, held_offer}
 use Rattle.run_knowledge.proofs.Goes.OwnPlaces.{own_places}

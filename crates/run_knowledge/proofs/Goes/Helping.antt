@@ -1,8 +1,8 @@
 -- What a helper knows after its step: of its work, where it loads the record, and where helping ends.
-use Rattle.std.proofs.Common.{◌≡◌, ◌∙◌, refl, sym, subst, ap, ℕ, ◌≤◌, if◌then◌else◌, Bool, true, false, length, Option, Some, None}
+use Rattle.std.proofs.Common.{◌≡◌, ◌∙◌, refl, sym, subst, ap, ℕ, ◌≤◌, if◌then◌else◌, Bool, true, false, length, Option}
 use Rattle.lin_report.specs.Commands.{IsCommandOf}
 use Rattle.step_memory.specs.declared.steps.Seen.{Seen}
-use Rattle.word_fields.specs.Records.{record_number, record_phase}
+use Rattle.word_fields.specs.Records.{record_phase}
 use Rattle.node_arena.specs.MemoryMap.{record_place}
 use Rattle.help_queue.specs.Gathers.{is_open}
 use Rattle.help_queue.specs.Removes.{Removal}
@@ -33,7 +33,7 @@ use Rattle.helper_knowledge.proofs.LawLemmas.{work_goes_on}
 use Rattle.run_world.specs.Ghosts.{Held}
 use Rattle.run_world.specs.SeatSteps.{held_in, helps_on}
 use Rattle.run_knowledge.specs.Known.{KnowsHelp, KnowsIn}
-use Rattle.run_knowledge.specs.Moves.{HelpSteps, MeetsWork, RestsHelp, WorkSteps}
+use Rattle.run_knowledge.specs.Moves.{HelpSteps, RestsHelp, WorkSteps}
 use Rattle.run_knowledge.proofs.Goes.Ready.{can_work, still_can}
 use Rattle.run_knowledge.proofs.Goes.Searches.{seat_with, tried_knows}
 
@@ -75,10 +75,12 @@ module _ {S W : Type 0} (form : NormalForm S W) where
     record_knows hand removal named same kept saw =
         met_knows (is_open (record_phase seen.before)) seen.before hand removal
         (λ opened.
-        let is = subst (λ r. is_open (record_phase r) ≡ true → NamedBy form world offers (record_phase r) head r × (1 ≤ (callers head).number)) (sym saw) named opened in
-        (subst (λ (w : World). NamedBy form w offers' (record_phase seen.before) head seen.before) (sym same)
-        (subst (λ (o : ℕ → Option (Offer S)). NamedBy form world o (record_phase seen.before) head seen.before) (sym kept)
-        is.0), is.1))
+        let is = subst (λ r. is_open (record_phase r) ≡ true → NamedBy form world offers (record_phase r) head r × (1 ≤ (callers head).number)) (sym saw) named opened in (
+          subst (λ (w : World). NamedBy form w offers' (record_phase seen.before) head seen.before) (sym same)
+              (subst (λ (o : ℕ → Option (Offer S)). NamedBy form world o (record_phase seen.before) head seen.before) (sym kept)
+              is.0),
+          is.1,
+        ))
 
     -- a step of its work
     plain_knows : (word : ℕ) (does : Work S W) → RestsOn form world offers head (callers head) → CanWork form does → KnowsWork form world offers (callers head) head word mech.hand own does → 1 ≤ (callers head).number

@@ -1,5 +1,5 @@
 -- A helper's next work can be done: what its machine needs beside what it knows is kept by each step.
-use Rattle.std.proofs.Common.{◌≡◌, ◌∙◌, refl, sym, subst, ap, ℕ, suc, ◌+◌, ◌^◌, ◌<◌, ◌≤◌, ◌==◌, ◌&&◌, not, nat_lt, if◌then◌else◌, Bool, true, false, IsTrue, List, [], ◌∷◌, ◌++◌, length, Option, Some, None, arith}
+use Rattle.std.proofs.Common.{◌≡◌, refl, sym, subst, ap, ℕ, ◌+◌, ◌^◌, ◌<◌, ◌≤◌, ◌==◌, nat_lt, if◌then◌else◌, Bool, true, false, IsTrue, [], ◌∷◌, ◌++◌, length, Option, Some, None, arith}
 use Rattle.std.proofs.Common.{length-append}
 use Rattle.std.proofs.lemmas.Bool.{and_parts}
 use Rattle.std.proofs.lemmas.Bool.Decides.{nat_tests}
@@ -23,15 +23,14 @@ use Rattle.cas_executor.specs.declared.block_read.ReadStep.TheVariants as readin
 use Rattle.cas_executor.specs.declared.fast_run.Execution.{Execution}
 use Rattle.cas_executor.specs.declared.fast_run.Execution.TheVariants as execution
 use Rattle.cas_executor.specs.BlockReads.{IsInOrder, IsReading, ReadWalk, given_at, read_at, read_fed, read_result}
-use Rattle.cas_executor.specs.SlowRuns.{IsWalking, SlowWalk, slow_execution, slow_fed}
+use Rattle.cas_executor.specs.SlowRuns.{SlowWalk, slow_execution, slow_fed}
 use Rattle.fast_slow_engine.specs.declared.phases.Generating.TheVariants.{Search, LookForBlock, Claim}
 use Rattle.fast_slow_engine.specs.declared.help.Work.{Work}
 use Rattle.fast_slow_engine.specs.declared.help.Work.TheVariants as work
 use Rattle.fast_slow_engine.specs.declared.help.WorkTurn.TheVariants.{Going}
-use Rattle.fast_slow_engine.specs.Hands.{block_of, holds_none}
-use Rattle.fast_slow_engine.specs.HelpTable.{CanWork, executed_work, filling, first_work, found_work, given_work, read_work, work_fed, work_turn, wrapped_work}
+use Rattle.fast_slow_engine.specs.Hands.{holds_none}
+use Rattle.fast_slow_engine.specs.HelpTable.{CanWork, executed_work, filling, first_work, found_work, read_work, work_fed, work_turn, wrapped_work}
 use Rattle.fast_slow_engine.specs.HelpWords.{announced_op, is_executing, named_block}
-use Rattle.fast_slow_engine.specs.OfferStores.{offer_stores}
 use Rattle.offered_blocks.specs.Blocks.{Offer}
 use Rattle.offered_blocks.specs.Holds.{HasOffers}
 use Rattle.helper_knowledge.specs.Callers.{Caller}

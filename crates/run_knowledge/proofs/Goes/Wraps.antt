@@ -1,5 +1,5 @@
 -- What a machine knows after a step of a wrap-up, and where a wrap-up begins.
-use Rattle.std.proofs.Common.{◌≡◌, ◌∙◌, refl, sym, subst, ap, ℕ, ◌+◌, ◌<◌, ◌&&◌, min, nat_lt, if◌then◌else◌, Bool, true, false, List, length, Option, Some, None}
+use Rattle.std.proofs.Common.{◌≡◌, refl, sym, subst, ℕ, ◌+◌, ◌&&◌, min, nat_lt, if◌then◌else◌, Bool, true, false, List, length, Option, Some, None}
 use Rattle.lin_report.specs.declared.calls.Op.{Op}
 use Rattle.lin_report.specs.Commands.{IsCommandOf}
 use Rattle.normal_traits.specs.declared.form.Wrapped.{Wrapped}

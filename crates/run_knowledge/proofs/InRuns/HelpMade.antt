@@ -1,10 +1,7 @@
 -- The step of a helper, in the world of its memory.
-use Rattle.std.proofs.Common.{◌≡◌, ◌≢◌, ◌∙◌, refl, sym, subst, ap, ℕ, ◌+◌, ◌^◌, ◌<◌, ◌≤◌, ◌&&◌, nat_lt, if◌then◌else◌, Bool, true, false, List, length, slice_get, Option, Some, None, inl, inr, arith}
+use Rattle.std.proofs.Common.{◌≡◌, ◌∙◌, refl, sym, ap, ℕ, ◌+◌, ◌^◌, ◌<◌, ◌≤◌, ◌&&◌, nat_lt, if◌then◌else◌, Bool, true, false, List, length, slice_get, Option, Some, None, inl, inr, arith}
 use Rattle.std.proofs.lemmas.Bool.{lt-ltb}
-use Rattle.arrayvec.specs.ArrayVec.{ArrayVec}
 use Rattle.lin_report.specs.declared.calls.Op.{Op}
-use Rattle.step_memory.specs.declared.steps.Request.{Request}
-use Rattle.step_memory.specs.declared.steps.Request.TheVariants.{Load, Exchange}
 use Rattle.step_memory.specs.declared.steps.Seen.{Seen}
 use Rattle.step_memory.specs.Step.{place_of, seen_of, words_after}
 use Rattle.step_memory.proofs.Words.{load_tells, word_at_place, word_elsewhere}
@@ -17,7 +14,6 @@ use Rattle.normal_traits.specs.declared.lists.Entry.{Entry}
 use Rattle.normal_traits.specs.World.{World}
 use Rattle.normal_traits.specs.NormalForm.{NormalForm}
 use Rattle.cas_executor.specs.SlowRuns.{SlowWalk, installs, slow_request}
-use Rattle.cas_executor_laws.specs.Parts.{IsMade}
 use Rattle.help_queue.specs.Removes.{remove_request_in}
 use Rattle.fast_slow_engine.specs.declared.phases.Generating.TheVariants.{Search, LookForBlock, Claim}
 use Rattle.fast_slow_engine.specs.declared.help.Helping.{Helping}
@@ -26,13 +22,13 @@ use Rattle.fast_slow_engine.specs.declared.help.Work.{Work}
 use Rattle.fast_slow_engine.specs.declared.help.Work.TheVariants as work
 use Rattle.fast_slow_engine.specs.Hands.{block_of, holds_none}
 use Rattle.fast_slow_engine.specs.HelpTable.{filling, found_work, helping_request, work_request}
-use Rattle.fast_slow_engine.specs.HelpWords.{named_block, told_word}
+use Rattle.fast_slow_engine.specs.HelpWords.{named_block}
 use Rattle.fast_slow_engine.specs.Mechs.{Mech}
 use Rattle.fast_slow_engine.specs.OfferStores.{stored_by}
 use Rattle.offered_blocks.specs.Blocks.{Offer}
-use Rattle.offered_blocks.specs.RunWorlds.{ran_by, ran_world}
+use Rattle.offered_blocks.specs.RunWorlds.{ran_by}
 use Rattle.helper_knowledge.specs.Carried.{Carried, list_named}
-use Rattle.helper_knowledge.specs.HelperStep.{NamesList, Steps, call_in}
+use Rattle.helper_knowledge.specs.HelperStep.{Steps, call_in}
 use Rattle.helper_knowledge.specs.Meetings.{won_offers}
 use Rattle.run_world.specs.SeatSteps.{filled_helped, filled_worked, helps_on, named_if, offers_helped, offers_worked, works_on}
 use Rattle.run_world.specs.Worlds.{asked_named, world_helped, world_worked}

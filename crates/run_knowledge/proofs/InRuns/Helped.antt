@@ -1,11 +1,11 @@
 -- What holds of the call of a head, for the helper that moves: of its seat's machine, of its record, and where a won exchange
 -- of the record meets all of that.
-use Rattle.std.proofs.Common.{◌≡◌, ◌≢◌, ◌∙◌, refl, sym, subst, ap, ℕ, ◌+◌, ◌^◌, ◌<◌, ◌≤◌, Bool, true, false, inl, inr, List, length, slice_get, Option, Some, None, arith}
+use Rattle.std.proofs.Common.{◌≡◌, ◌∙◌, refl, sym, subst, ap, ℕ, ◌<◌, ◌≤◌, Bool, true, false, inl, inr, List, slice_get, Option, Some, arith}
 use Rattle.std.proofs.lemmas.Option.{slice_get_cases}
 use Rattle.lin_report.specs.declared.calls.Outcome.{Outcome}
 use Rattle.word_fields.specs.declared.records.Phase as marks
 use Rattle.word_fields.specs.declared.records.Phase.TheVariants as record_phases
-use Rattle.word_fields.specs.Records.{packed_record, record_number, record_of, record_payload, record_phase}
+use Rattle.word_fields.specs.Records.{record_number, record_of, record_payload, record_phase}
 use Rattle.node_arena.specs.MemoryMap.{record_place}
 use Rattle.help_queue.specs.Gathers.{is_open}
 use Rattle.help_queue_laws.proofs.Known.Knowledge.{PhaseFacts}
@@ -29,7 +29,7 @@ use Rattle.op_record.specs.Outcomes.{outcome_of}
 use Rattle.offered_blocks.specs.Records.{RecordIsRight, RecordTells}
 use Rattle.helper_knowledge.specs.Callers.{Caller, HasAnnounced, called, caller_of}
 use Rattle.helper_knowledge.specs.HelperStep.{RestsOn}
-use Rattle.helper_knowledge.specs.Meetings.{IsNew, Meets}
+use Rattle.helper_knowledge.specs.Meetings.{IsNew}
 use Rattle.helper_knowledge.specs.WorkKnown.{NamedBy}
 use Rattle.helper_knowledge.proofs.LawLemmas.{wins_meet}
 use Rattle.run_queue.specs.QueueGhosts.{queue_ghosts}
@@ -37,9 +37,8 @@ use Rattle.run_queue.specs.QueueLaws.{Advances, HelpingAdvances, Publishes}
 use Rattle.run_queue.specs.QueueViews.{next_number, phase_view}
 use Rattle.run_queue.proofs.QueueLaws.{advances_hold, owners_hold}
 use Rattle.run_queue.proofs.Runs.RunMoves.{runs_queued}
-use Rattle.run_world.specs.Ghosts.{SeatGhost}
 use Rattle.run_world.specs.Hands.{IsUnspent}
-use Rattle.run_world.specs.Identities.{Keeper, list_offered}
+use Rattle.run_world.specs.Identities.{list_offered}
 use Rattle.run_world.specs.Identities.Keeper.{carrier, named}
 use Rattle.run_world.specs.RunGhosts.{ghost_of, world_of}
 use Rattle.run_world.proofs.Blocks.Spare.{hands_spare}
@@ -47,7 +46,7 @@ use Rattle.run_world.proofs.Names.Fresh.{carried_fresh}
 use Rattle.run_world.proofs.Names.Kept.{identities_differ}
 use Rattle.run_knowledge.specs.Kept.{IsKept, caller_at, callers_in}
 use Rattle.run_knowledge.specs.Known.{KnowsHelp, KnowsIn}
-use Rattle.run_knowledge.specs.Moves.{MeetsHead, MeetsWork, RestsHelp}
+use Rattle.run_knowledge.specs.Moves.{MeetsWork, RestsHelp}
 use Rattle.run_knowledge.proofs.Bounds.InKept.{has_room, keeps_claims, keeps_queue}
 
 -- a machine that publishes doesn't rest
@@ -100,12 +99,11 @@ module _ {S W : Type 0} (form : NormalForm S W) (laws : Laws form) (setup : Setu
     names_by record_phases.Generate word told number tells = tt
     names_by record_phases.Executing word told number tells =
         (tells.offer, record { stands = tells.stands; seat_is = ap (λ (c : Called). c.seat) tells.call_is ∙ seat_is; number_is = ap (λ (c : Called). c.number) tells.call_is ∙ sym number })
-    names_by record_phases.Wrapping word told number tells =
-        (
-          tells.0.offer,
-          record { stands = tells.0.stands; seat_is = ap (λ (c : Called). c.seat) tells.0.call_is ∙ seat_is; number_is = ap (λ (c : Called). c.number) tells.0.call_is ∙ sym number },
-          tells.1,
-        )
+    names_by record_phases.Wrapping word told number tells = (
+      tells.0.offer,
+      record { stands = tells.0.stands; seat_is = ap (λ (c : Called). c.seat) tells.0.call_is ∙ seat_is; number_is = ap (λ (c : Called). c.number) tells.0.call_is ∙ sym number },
+      tells.1,
+    )
     names_by record_phases.Completed word told number tells = tt
 
     record_named : is_open (record_phase (world.words (record_place head))) ≡ true
@@ -117,8 +115,7 @@ module _ {S W : Type 0} (form : NormalForm S W) (laws : Laws form) (setup : Setu
         let known = kept.seats head mate at in
         let here = ap record_place seat_is in
         let word = world.words (record_place head) in
-        let right = known.record_tells (ap (λ p. record_number (world.words p)) here ∙ owns.0) in
-        (
+        let right = known.record_tells (ap (λ p. record_number (world.words p)) here ∙ owns.0) in (
           names_by (record_phase word) word (outcome_of (record_of word)) owns.0 (subst (λ p. RecordIsRight form world offers (called mate) (begun_at head) (record_of (world.words p))) here right),
           subst (λ (c : Caller). 1 ≤ c.number) (sym caller_is) runs.0,
         )

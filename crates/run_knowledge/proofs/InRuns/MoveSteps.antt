@@ -1,21 +1,20 @@
 -- Each move of a run is the step of its phase.
-use Rattle.std.proofs.Common.{◌≡◌, ◌∙◌, refl, sym, subst, ap, ℕ, List, ◌∷◌, length, slice_get, Option, Some, None, if◌then◌else◌}
+use Rattle.std.proofs.Common.{refl, sym, subst, ℕ, List, ◌∷◌, length, Option, if◌then◌else◌}
 use Rattle.step_memory.specs.declared.steps.Seen.{Seen}
 use Rattle.step_memory.specs.Step.{seen_of, words_after}
 use Rattle.normal_traits.specs.World.{World}
 use Rattle.normal_traits.specs.NormalForm.{NormalForm}
 use Rattle.fast_slow_engine.specs.declared.phases.Phase.{Phase}
 use Rattle.fast_slow_engine.specs.declared.phases.Phase.TheVariants as phase
-use Rattle.fast_slow_engine.specs.declared.setup.Setup.{Setup}
 use Rattle.fast_slow_engine.specs.Mechs.{Mech}
-use Rattle.fast_slow_engine.specs.PhaseTable.{mech_fed, mech_request, request_in, stepped}
-use Rattle.fast_slow_engine.specs.Runs.{Move, begun, run_of}
+use Rattle.fast_slow_engine.specs.PhaseTable.{request_in, stepped}
+use Rattle.fast_slow_engine.specs.Runs.{begun, run_of}
 use Rattle.offered_blocks.specs.Blocks.{Offer}
-use Rattle.run_world.specs.Ghosts.{Held, SeatGhost, world_with}
+use Rattle.run_world.specs.Ghosts.{SeatGhost}
 use Rattle.run_world.specs.RunGhosts.{ghost_of, world_of}
 use Rattle.run_world.specs.SeatSteps.{begun_after, filled_after, held_in, list_after, offers_after, searches_on}
 use Rattle.run_world.specs.Worlds.{world_stepped}
-use Rattle.run_world.proofs.Words.Moved.{made_moved, made_offers, made_seat, seat_after, seen_by, with_list, world_made}
+use Rattle.run_world.proofs.Words.Moved.{made_moved, made_offers, made_seat, seat_after, seen_by, with_list}
 use Rattle.run_knowledge.specs.InMemory.{IsInside, MovesStep}
 use Rattle.run_knowledge.specs.Moves.{StepsIn}
 use Rattle.run_knowledge.proofs.InRuns.Asked.{here}

@@ -1,5 +1,5 @@
 -- What is known of the machine that moves, with the call that it begins.
-use Rattle.std.proofs.Common.{◌≡◌, ◌≢◌, ◌∙◌, refl, sym, subst, ap, ℕ, ◌+◌, ◌^◌, ◌<◌, ◌≤◌, true, false, List, ◌∷◌, slice_get, Option, Some, None, arith}
+use Rattle.std.proofs.Common.{◌≡◌, ◌≢◌, sym, subst, ap, ℕ, ◌^◌, ◌<◌, ◌≤◌, true, List, slice_get, Option, Some, None, arith}
 use Rattle.std.proofs.lemmas.Option.{slice_get_within}
 use Rattle.lin_report.specs.declared.calls.Op.{Op}
 use Rattle.lin_report.specs.Commands.{IsCommandOf}
@@ -13,12 +13,10 @@ use Rattle.fast_slow_engine.specs.PhaseTable.{rests}
 use Rattle.fast_slow_engine.specs.Runs.{AreMoves, CanMove, Move, begun, run_of}
 use Rattle.offered_blocks.specs.Blocks.{Offer}
 use Rattle.offered_blocks.specs.OtherSteps.{IsSpare}
-use Rattle.run_laws.proofs.Steps.{some_same}
-use Rattle.run_queue.specs.QueueGhosts.{queue_ghosts}
 use Rattle.run_queue.proofs.Runs.RunMoves.{runs_queued}
-use Rattle.run_world.specs.Ghosts.{Held, SeatGhost}
+use Rattle.run_world.specs.Ghosts.{Held}
 use Rattle.run_world.specs.Hands.{BlockIn, IsUnspent}
-use Rattle.run_world.specs.Identities.{Keeper, list_held, list_offered}
+use Rattle.run_world.specs.Identities.{list_held, list_offered}
 use Rattle.run_world.specs.Identities.Keeper.{holder, named}
 use Rattle.run_world.specs.Lists.{HoldsIn}
 use Rattle.run_world.specs.RunGhosts.{ghost_of, world_of}

@@ -1,8 +1,7 @@
 -- The step of a machine's own call, in the world of its memory.
-use Rattle.std.proofs.Common.{◌≡◌, ◌≢◌, ◌∙◌, refl, sym, subst, ap, ℕ, ◌<◌, ◌≤◌, if◌then◌else◌, Bool, true, false, List, length, slice_get, Option, Some, None, inl, inr, ◌⊎◌, arith}
-use Rattle.arrayvec.specs.ArrayVec.{ArrayVec}
+use Rattle.std.proofs.Common.{◌≡◌, ◌∙◌, refl, sym, subst, ap, ℕ, ◌<◌, ◌≤◌, if◌then◌else◌, Bool, true, false, List, length, slice_get, Option, Some, None, inl, inr, ◌⊎◌, arith}
 use Rattle.step_memory.specs.declared.steps.Request.{Request}
-use Rattle.step_memory.specs.declared.steps.Request.TheVariants.{Load, Store, Exchange, Add}
+use Rattle.step_memory.specs.declared.steps.Request.TheVariants.{Load, Exchange}
 use Rattle.step_memory.specs.declared.steps.Seen.{Seen}
 use Rattle.step_memory.specs.Step.{seen_of, words_after}
 use Rattle.node_arena.specs.declared.places.TheConstants.{TICKS, QUEUE, CLAIMS}
@@ -10,14 +9,14 @@ use Rattle.normal_traits.specs.declared.lists.Entry.{Entry}
 use Rattle.normal_traits.specs.World.{Listed, World}
 use Rattle.normal_traits.specs.World.Maker.{By}
 use Rattle.normal_traits.specs.NormalForm.{NormalForm}
-use Rattle.normal_traits.specs.Steps.{exchanged, listed_if, put_word, with_word}
+use Rattle.normal_traits.specs.Steps.{exchanged, listed_if, with_word}
 use Rattle.cas_executor.specs.FastRuns.{FastWalk, exchange_of}
-use Rattle.help_queue.specs.Gathers.{Gathering, gather_over, gather_request}
+use Rattle.help_queue.specs.Gathers.{gather_over}
 use Rattle.help_queue.specs.declared.enter.EnterStage.{EnterStage}
 use Rattle.help_queue.specs.declared.enter.EnterStage.TheVariants as stage
 use Rattle.help_queue.specs.declared.remove.RemoveStage.{RemoveStage}
 use Rattle.help_queue.specs.declared.remove.RemoveStage.TheVariants as removing
-use Rattle.help_queue.specs.Enters.{Owner, enter_request_in}
+use Rattle.help_queue.specs.Enters.{enter_request_in}
 use Rattle.help_queue.specs.Removes.{remove_request_in}
 use Rattle.fast_slow_engine.specs.declared.phases.Phase.{Phase}
 use Rattle.fast_slow_engine.specs.declared.phases.Phase.TheVariants as phase
@@ -34,8 +33,8 @@ use Rattle.run_world.specs.Lists.{IsOffering}
 use Rattle.run_world.specs.Ghosts.{Held, uses_block}
 use Rattle.run_world.specs.Worlds.{asked_listed, won_entry, world_stepped}
 use Rattle.run_world.proofs.Words.Moved.{with_list}
-use Rattle.run_world.proofs.Words.WordLemmas.{word_in, words_move}
-use Rattle.run_knowledge.specs.InMemory.{IsInside, PhaseInside}
+use Rattle.run_world.proofs.Words.WordLemmas.{word_in}
+use Rattle.run_knowledge.specs.InMemory.{IsInside}
 use Rattle.run_knowledge.specs.Moves.{Announces, Enters, OwnSteps, Puts}
 use Rattle.run_knowledge.specs.Moves.Enters.{misses, wins}
 use Rattle.run_knowledge.proofs.InRuns.Asked.{add_made, exchange_made, here, load_made, made, of_words, requested, store_made}

@@ -1,5 +1,5 @@
 -- What the step of the machine that moves rests on, in a run of which the invariant holds; so its move is one of the kinds.
-use Rattle.std.proofs.Common.{◌≡◌, ◌∙◌, refl, sym, subst, ap, ℕ, ◌<◌, true, false, List, ◌∷◌, length, slice_get, Option, Some, None, arith}
+use Rattle.std.proofs.Common.{◌≡◌, ◌∙◌, refl, sym, subst, ap, ◌<◌, false, List, ◌∷◌, length, slice_get, Option, Some, None}
 use Rattle.lin_report.specs.declared.calls.Op.{Op}
 use Rattle.step_memory.specs.Step.{seen_of}
 use Rattle.word_fields.specs.Records.{record_number, record_phase}
@@ -21,7 +21,6 @@ use Rattle.run_world.specs.RunGhosts.{ghost_of, world_of}
 use Rattle.run_knowledge.specs.InMemory.{IsInside}
 use Rattle.run_knowledge.specs.Kept.{IsKept, callers_in}
 use Rattle.run_knowledge.specs.Moves.{RestsIn, RestsMove}
-use Rattle.run_knowledge.specs.Unannounced.{IsBefore}
 use Rattle.run_knowledge.proofs.Bounds.InKept.{has_room, keeps_queue}
 use Rattle.run_knowledge.proofs.InRuns.Helped.{help_rests}
 use Rattle.run_knowledge.proofs.InRuns.MoveSteps.{moves_step}

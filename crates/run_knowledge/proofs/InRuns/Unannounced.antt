@@ -1,12 +1,11 @@
 -- Until a call is announced, the record of its seat is closed, and of an earlier call.
-use Rattle.std.proofs.Common.{◌≡◌, ◌∙◌, refl, sym, ap, subst, ℕ, ◌+◌, ◌<◌, ◌≤◌, Bool, true, false, inl, inr, List, ◌∷◌, slice_get, Option, Some, None, arith}
-use Rattle.std.proofs.lemmas.Bool.{cases_Bool}
+use Rattle.std.proofs.Common.{◌≡◌, ◌∙◌, refl, sym, subst, ℕ, ◌<◌, Bool, true, false, List, slice_get, Option, Some, None, arith}
 use Rattle.std.proofs.lemmas.Option.{slice_get_within}
 use Rattle.lin_report.specs.declared.calls.Op.{Op}
 use Rattle.word_fields.specs.Records.{record_number, record_phase}
 use Rattle.help_queue.specs.Gathers.{is_open}
 use Rattle.help_queue_laws.specs.Runs.{record_in}
-use Rattle.help_queue_laws.proofs.Known.Knowledge.{BackFacts, PhaseFacts}
+use Rattle.help_queue_laws.proofs.Known.Knowledge.{PhaseFacts}
 use Rattle.help_queue_laws.proofs.Known.Scenes.{Scene, scene_of}
 use Rattle.help_queue_laws.proofs.Known.SceneLaws.{record_is}
 use Rattle.normal_traits.specs.NormalForm.{NormalForm}

@@ -1,5 +1,5 @@
 -- Each step of each machine is one of the kinds of moves, by cases on the phase.
-use Rattle.std.proofs.Common.{◌≡◌, ◌∙◌, refl, sym, subst, ap, ℕ, true, inl, inr, Option, Some, None, get_or}
+use Rattle.std.proofs.Common.{◌≡◌, refl, sym, subst, ℕ, true, inl, inr, Option, Some, None, get_or}
 use Rattle.std.proofs.lemmas.Option.{slice_get-get_or}
 use Rattle.arrayvec.specs.ArrayVec.{ArrayVec}
 use Rattle.step_memory.specs.declared.steps.Seen.{Seen}
@@ -27,8 +27,8 @@ use Rattle.helper_knowledge.specs.Callers.{Caller}
 use Rattle.helper_knowledge.specs.Carried.{OfSome}
 use Rattle.helper_knowledge.proofs.Own.OwnKinds.{search_kind, wrap_kind}
 use Rattle.run_world.specs.Ghosts.{Held, SeatGhost}
-use Rattle.run_world.specs.Hands.{BlockIn, ExecutesWith}
-use Rattle.run_world.specs.Lists.{HoldsIn, IsOffering}
+use Rattle.run_world.specs.Hands.{ExecutesWith}
+use Rattle.run_world.specs.Lists.{IsOffering}
 use Rattle.run_knowledge.specs.Known.{KnowsFill, KnowsRun, KnowsWrap}
 use Rattle.run_knowledge.specs.Moves.{Announces, Enters, OwnSteps, RestsMove, StepsAreKinds, StepsIn}
 use Rattle.run_knowledge.specs.Moves.Enters.{misses, wins}

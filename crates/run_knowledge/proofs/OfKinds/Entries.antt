@@ -1,6 +1,6 @@
 -- A won entry of a list that its own seat executes is one of the kinds: an allowed step beside all named blocks, and the block
 -- that it may use is that in hand.
-use Rattle.std.proofs.Common.{◌≡◌, ◌≢◌, ◌∙◌, refl, sym, ap, subst, ℕ, ◌+◌, ◌^◌, ◌<◌, ◌==◌, ◌||◌, ◌&&◌, nat_lt, if◌then◌else◌, Bool, true, false, inl, inr, ◌⊎◌, List, length, slice_get, Option, Some, None, arith}
+use Rattle.std.proofs.Common.{◌≡◌, ◌≢◌, ◌∙◌, refl, sym, ap, subst, ℕ, ◌+◌, ◌^◌, ◌<◌, ◌==◌, ◌||◌, nat_lt, if◌then◌else◌, Bool, true, false, inl, inr, ◌⊎◌, List, slice_get, Option, Some, arith}
 use Rattle.std.proofs.lemmas.Bool.{cases_Bool, cases_eq, lt-ltb}
 use Rattle.std.proofs.lemmas.Bool.Decides.{nat_tests}
 use Rattle.std.proofs.lemmas.Option.{slice_get_within}
@@ -10,7 +10,7 @@ use Rattle.word_fields.specs.Versioned.{cleared_word, versioned_version}
 use Rattle.word_fields.proofs.VersionedLemmas.{cleared-changed, version-changed_below}
 use Rattle.node_arena.specs.MemoryMap.{record_place}
 use Rattle.normal_traits.specs.declared.lists.Entry.{Entry}
-use Rattle.normal_traits.specs.World.{Called, Listed, Took, World}
+use Rattle.normal_traits.specs.World.{Called, Listed, World}
 use Rattle.normal_traits.specs.World.Maker.{By}
 use Rattle.normal_traits.specs.NormalForm.{NormalForm}
 use Rattle.normal_traits.specs.Steps.{IsExchanged, IsFresh, IsStep, exchanged, listed_if, using_block}
@@ -26,7 +26,6 @@ use Rattle.offered_blocks.specs.OtherSteps.{IsSpare}
 use Rattle.offered_blocks.proofs.LawLemmas.{entries_beside}
 use Rattle.move_kinds.specs.Kinds.{Kind}
 use Rattle.move_kinds.specs.Kinds.Kind.{enters}
-use Rattle.helper_knowledge.specs.Callers.{called}
 use Rattle.run_world.specs.Ghosts.{Held, uses_block}
 use Rattle.run_world.specs.Hands.{ExecutesWith}
 use Rattle.run_world.specs.Lists.{IsOffering}

@@ -1,13 +1,10 @@
 -- A step of a helper is one of the kinds: of its work, of its exchange of the head's record, or at the queue word.
-use Rattle.std.proofs.Common.{◌≡◌, ◌≢◌, ◌∙◌, refl, sym, subst, ap, ℕ, ◌≤◌, inl, inr, Option, Some, ◌⊎◌}
+use Rattle.std.proofs.Common.{◌≡◌, sym, subst, ℕ, ◌≤◌, inl, inr, Option, ◌⊎◌}
 use Rattle.step_memory.specs.declared.steps.Seen.{Seen}
-use Rattle.word_fields.specs.Records.{packed_record, record_of}
 use Rattle.node_arena.specs.declared.places.TheConstants.{QUEUE}
-use Rattle.node_arena.specs.MemoryMap.{record_place}
 use Rattle.normal_traits.specs.World.{World}
 use Rattle.normal_traits.specs.NormalForm.{NormalForm}
 use Rattle.normal_traits.specs.Laws.{Laws}
-use Rattle.fast_slow_engine.specs.declared.phases.Generating.TheVariants.{Search, LookForBlock, Claim}
 use Rattle.fast_slow_engine.specs.declared.help.Helping.{Helping}
 use Rattle.fast_slow_engine.specs.declared.help.Helping.TheVariants.{Record, Known, Remove}
 use Rattle.fast_slow_engine.specs.declared.help.Work.{Work}
@@ -21,7 +18,7 @@ use Rattle.move_kinds.specs.Kinds.Kind.{quiet, queues}
 use Rattle.helper_knowledge.specs.Callers.{Caller}
 use Rattle.helper_knowledge.specs.Carried.{Carried}
 use Rattle.helper_knowledge.specs.HelperStep.{HandIsSpare, RestsOn, Steps}
-use Rattle.helper_knowledge.specs.Meetings.{won_offers, won_world}
+use Rattle.helper_knowledge.specs.Meetings.{won_world}
 use Rattle.helper_knowledge.specs.WorkKnown.{KnowsWork}
 use Rattle.helper_knowledge.proofs.LawLemmas.{advances_are_right, work_is_kind}
 use Rattle.run_knowledge.specs.Known.{KnowsHelp}

@@ -1,6 +1,6 @@
 -- A store into the block of the own list is one of the kinds: it is into the block in hand, no state of an entry, and a
 -- versioned word has its bit clear.
-use Rattle.std.proofs.Common.{◌≡◌, ◌∙◌, refl, sym, ap, subst, ℕ, ◌+◌, ◌^◌, ◌<◌, Bool, true, false, inl, inr, List, ◌∷◌, slice_get, Option, Some, arith}
+use Rattle.std.proofs.Common.{◌≡◌, ◌∙◌, refl, sym, ap, ℕ, ◌^◌, ◌<◌, Bool, true, false, inl, inr, List, ◌∷◌, slice_get, Option, Some, arith}
 use Rattle.arrayvec.specs.ArrayVec.{ArrayVec}
 use Rattle.lin_report.specs.declared.calls.Op.{Op}
 use Rattle.word_fields.specs.Announced.{op_word, value_word}
@@ -23,11 +23,10 @@ use Rattle.offered_blocks.specs.Blocks.{Offer}
 use Rattle.offered_blocks.specs.OtherSteps.{IsSpare, IsStored}
 use Rattle.move_kinds.specs.Kinds.{Kind}
 use Rattle.move_kinds.specs.Kinds.Kind.{fills}
-use Rattle.move_kinds.proofs.Stores.Into.{Each, each_both, each_more, each_none}
+use Rattle.move_kinds.proofs.Stores.Into.{Each, each_more}
 use Rattle.run_world.specs.Ghosts.{Held}
-use Rattle.run_world.specs.Hands.{HasBlock}
 use Rattle.run_world.specs.Lists.{IsOffering}
-use Rattle.run_knowledge.specs.Known.{IsStillOffered, KnowsFill}
+use Rattle.run_knowledge.specs.Known.{IsStillOffered}
 
 -- where a store of an own list goes: into a stored field of the block, with the bit clear where the word is versioned
 pub record IsOwnStore {S W : Type 0} (form : NormalForm S W) (block : ℕ) (store : ℕ × ℕ) : Type 0 where

@@ -1,10 +1,10 @@
 -- What a machine knows stays where another seat moves, by cases on its phase.
-use Rattle.std.proofs.Common.{◌≡◌, ◌≢◌, ◌∙◌, refl, sym, subst, ap, ℕ, ◌+◌, ◌<◌, Bool, true, false, inl, inr, ◌⊎◌, ◌≤◌, List, length, slice_get, Option, Some, None, All, arith}
+use Rattle.std.proofs.Common.{◌≡◌, ◌≢◌, ◌∙◌, refl, sym, subst, ap, ℕ, ◌<◌, true, false, inl, inr, ◌⊎◌, List, slice_get, Option, Some, None, arith}
 use Rattle.std.proofs.lemmas.Bool.{cases_Bool}
 use Rattle.arrayvec.specs.ArrayVec.{ArrayVec}
 use Rattle.lin_report.specs.Commands.{IsCommandOf}
 use Rattle.node_arena.specs.declared.places.TheConstants.{OWNER_FIELD, OP_FIELD, VALUE_FIELD}
-use Rattle.normal_traits.specs.World.{Stopped, World}
+use Rattle.normal_traits.specs.World.{World}
 use Rattle.normal_traits.specs.NormalForm.{NormalForm}
 use Rattle.normal_traits.specs.Steps.{IsFilled, IsStep}
 use Rattle.normal_traits.specs.Laws.{IsGoodEntry, IsGoodStore, Laws}
@@ -17,7 +17,6 @@ use Rattle.fast_slow_engine.specs.declared.phases.Applying.TheVariants.{Fill, Ex
 use Rattle.fast_slow_engine.specs.declared.help.Helping.{Helping}
 use Rattle.fast_slow_engine.specs.declared.help.Helping.TheVariants.{Record, Known, Remove}
 use Rattle.fast_slow_engine.specs.Mechs.{Mech}
-use Rattle.fast_slow_engine.specs.OfferStores.{own_stores}
 use Rattle.offered_blocks.specs.Blocks.{Offer}
 use Rattle.offered_blocks.specs.Holds.{HasOffers}
 use Rattle.offered_blocks.specs.OtherSteps.{IsSpare}
@@ -25,12 +24,12 @@ use Rattle.move_kinds.specs.Kinds.{Kind}
 use Rattle.move_kinds.specs.Moves.{BlockStays, Leaves}
 use Rattle.move_kinds.proofs.KindsLeave.{kind_leaves}
 use Rattle.helper_knowledge.specs.Callers.{Caller}
-use Rattle.helper_knowledge.specs.Carried.{Carried, OfSome}
+use Rattle.helper_knowledge.specs.Carried.{OfSome}
 use Rattle.helper_knowledge.proofs.LawLemmas.{knowledge_kept}
 use Rattle.run_world.specs.Ghosts.{Held, SeatGhost}
-use Rattle.run_world.specs.Hands.{ExecutesWith, IsUnspent}
+use Rattle.run_world.specs.Hands.{ExecutesWith}
 use Rattle.run_world.specs.Lists.{IsOffering}
-use Rattle.run_knowledge.specs.Known.{IsStillOffered, KnowsFill, KnowsHelp, KnowsIn, KnowsRun, KnowsWrap, NoneFrom, Stands}
+use Rattle.run_knowledge.specs.Known.{IsStillOffered, KnowsFill, KnowsHelp, KnowsIn, KnowsRun, KnowsWrap, NoneFrom}
 use Rattle.run_knowledge.specs.Others.{FollowsHelp, OthersKnow, StaysBeside}
 use Rattle.run_knowledge.proofs.OfKinds.OwnStores.{IsOwnStore, filling, held_offer, own_stored}
 use Rattle.run_knowledge.proofs.Goes.Runs.{took_grows}
@@ -163,12 +162,11 @@ module _ {S W : Type 0} (form : NormalForm S W) (laws : Laws form) (world after 
     help_stays : (at : Helping S W) (head : ℕ) → ((block : ℕ) → mech.hand ≡ Some block → IsSpare world offers block × (hand ≢ Some block)) → FollowsHelp at head callers callers'
         → KnowsHelp form world offers (callers head) head mech.hand own.carried at → KnowsHelp form after offers' (callers' head) head mech.hand own.carried at
     help_stays (Record known) head spare follows knows = tt
-    help_stays (Known word does) head spare follows knows =
-        (
-          knows.0,
-          knowledge_kept form laws world after offers offers' mover hand mech.hand holds kind spare (callers head) (callers' head) head word own.carried does follows.0 knows.0 knows.1,
-          (let more = follows.1 in let some = knows.2 in omega (arith, more, some)),
-        )
+    help_stays (Known word does) head spare follows knows = (
+      knows.0,
+      knowledge_kept form laws world after offers offers' mover hand mech.hand holds kind spare (callers head) (callers' head) head word own.carried does follows.0 knows.0 knows.1,
+      (let more = follows.1 in let some = knows.2 in omega (arith, more, some)),
+    )
     help_stays (Remove removal) head spare follows knows = tt
 
     pub phase_stays : (at : Phase S W) → Beside at → Keeps at
