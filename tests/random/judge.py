@@ -106,7 +106,7 @@ def judge_summary(calls, summary, seats):
     for name, count in counts.items():
         if summary[name] != count:
             raise Wrong(f"the summary has {name} {summary[name]}, and the lines {count}")
-    if summary["overtaken"] > (seats * (seats - 1) if counts["slow"] else 0):
+    if summary["overtaken"] > ((seats - 1) * (seats + 2) // 2 if counts["slow"] else 0):
         raise Wrong(f"overtaken {summary['overtaken']} with {seats} seats and {counts['slow']} slow calls")
 
 

@@ -1,6 +1,5 @@
 -- A step of a seat in a core is its next move in the run.
 use Rattle.std.proofs.Common.{rules, ◌≡◌, ◌∙◌, ◌<◌, ◌++◌, refl, sym, subst, ap, ℕ, Bool, true, false, List, length, slice_get, slice_set, map, Option, Some, None, option_map, is_none, not, slice_index_or, if◌then◌else◌}
-use Rattle.std.specs.Option.{option_to_list}
 use Rattle.lin_report.specs.declared.calls.Op.{Op}
 use Rattle.lin_report.specs.declared.calls.Receipt.{Receipt}
 use Rattle.lin_report.specs.declared.events.Event.{Event}
@@ -8,8 +7,9 @@ use Rattle.step_memory.specs.Step.{seen_of, words_after}
 use Rattle.normal_traits.specs.NormalForm.{NormalForm}
 use Rattle.fast_slow_engine.specs.declared.setup.Setup.{Setup}
 use Rattle.fast_slow_engine.specs.declared.setup.Turn.{Turn}
+use Rattle.fast_slow_engine.specs.Events.{step_events}
 use Rattle.fast_slow_engine.specs.Mechs.{Mech}
-use Rattle.fast_slow_engine.specs.PhaseTable.{mech_event, mech_fed, mech_request, mech_turn, rests}
+use Rattle.fast_slow_engine.specs.PhaseTable.{mech_fed, mech_request, mech_turn, rests}
 use Rattle.fast_slow_engine.specs.Runs.{Move, begun, move_of_seat, move_over, next_move, returned, moved_by, stepped_by}
 use Rattle.event_core.specs.declared.cores.CoreTurn.TheVariants.{Idle}
 use Rattle.event_core.specs.Seats.{Seat, command_of, is_over}
@@ -57,10 +57,10 @@ module _ {S W : Type 0} where
   none_by i file mech false h = absurd (search rules)
 
   -- the seat at a place of a list
-  seat_at : (seats : List (Seat S W)) (i : ℕ) (s : Seat S W) → i < length seats → s ≡ slice_index_or seats i s → slice_get seats i ≡ Some s
+  pub seat_at : (seats : List (Seat S W)) (i : ℕ) (s : Seat S W) → i < length seats → s ≡ slice_index_or seats i s → slice_get seats i ≡ Some s
   seat_at seats i s inside at = slice_get-get_or seats i s inside ∙ ap Some (sym at)
 
-  mech_at : (seats : List (Seat S W)) (i : ℕ) (s : Seat S W) → slice_get seats i ≡ Some s → slice_get (map (λ (seat : Seat S W). seat.mech) seats) i ≡ Some s.mech
+  pub mech_at : (seats : List (Seat S W)) (i : ℕ) (s : Seat S W) → slice_get seats i ≡ Some s → slice_get (map (λ (seat : Seat S W). seat.mech) seats) i ≡ Some s.mech
   mech_at seats i s at = slice_get-map (λ (seat : Seat S W). seat.mech) seats i ∙ ap (option_map (λ (seat : Seat S W). seat.mech)) at
 
   file_at : (seats : List (Seat S W)) (i : ℕ) (s : Seat S W) → slice_get seats i ≡ Some s → slice_get (map (λ (seat : Seat S W). seat.file) seats) i ≡ Some s.file
@@ -85,16 +85,16 @@ module _ {S W : Type 0} where
   made setup files words mechs receipts events = record { setup = setup; files = files; state = record { words = words; mechs = mechs; receipts = receipts; events = events } }
 
   -- a seat that begins nothing is left as it was
-  over_stays : (s s1 : Seat S W) → s1.mech ≡ begun (command_of s) s.mech → s1.file ≡ s.file → is_over s ≡ true → s1 ≡ s
+  pub over_stays : (s s1 : Seat S W) → s1.mech ≡ begun (command_of s) s.mech → s1.file ≡ s.file → is_over s ≡ true → s1 ≡ s
   over_stays s s1 m f over =
       let none : command_of s ≡ None = no_command (rests s.mech.phase) (slice_get s.file s.mech.number) over in
       let same : s1.mech ≡ s.mech = m ∙ ap (λ o. begun o s.mech) none in
       ap (λ (k : Mech S W). record { mech = k; file = s1.file }) same ∙ ap (λ (l : List Op). record { mech = s.mech; file = l }) f
 
-  put_same : (seats : List (Seat S W)) (i : ℕ) (s s1 : Seat S W) → s ≡ slice_index_or seats i s → s1 ≡ s → slice_set seats i s1 ≡ seats
+  pub put_same : (seats : List (Seat S W)) (i : ℕ) (s s1 : Seat S W) → s ≡ slice_index_or seats i s → s1 ≡ s → slice_set seats i s1 ≡ seats
   put_same seats i s s1 at same = ap (slice_set seats i) (same ∙ at) ∙ set-get_or seats i s
 
-  same_files : (seats : List (Seat S W)) (i : ℕ) (s s2 : Seat S W) → s ≡ slice_index_or seats i s → s2.file ≡ s.file
+  pub same_files : (seats : List (Seat S W)) (i : ℕ) (s s2 : Seat S W) → s ≡ slice_index_or seats i s → s2.file ≡ s.file
       → map (λ (seat : Seat S W). seat.file) (slice_set seats i s2) ≡ map (λ (seat : Seat S W). seat.file) seats
   same_files seats i s s2 at file = map-set_same (λ (seat : Seat S W). seat.file) seats i s2 s (file ∙ ap (λ (seat : Seat S W). seat.file) at)
 
@@ -139,14 +139,14 @@ module _ {S W : Type 0} where
         sym (ap (λ m. turn_after form m (core_of setup words seats receipts events).state) (moves_not setup words seats receipts events i s (seat_at seats i s inside at) over))
 
     -- where it isn't, its machine makes the step
-    pub next_core : (setup : Setup) (words words' : List ℕ) (seats : List (Seat S W)) (receipts receipts' : List Receipt) (events events' : List Event) (i : ℕ) (s s1 s2 : Seat S W) (t : Turn) (e : Option Event)
+    pub next_core : (setup : Setup) (words words' : List ℕ) (seats : List (Seat S W)) (receipts receipts' : List Receipt) (events events' : List Event) (i : ℕ) (s s1 s2 : Seat S W) (t : Turn)
         → i < length seats → s ≡ slice_index_or seats i s → s1.mech ≡ begun (command_of s) s.mech → s1.file ≡ s.file → is_over s ≡ false
         → words' ≡ words_after (mech_request form s1.mech) words
         → s2.mech ≡ mech_fed form s1.mech (seen_of (mech_request form s1.mech) words) → s2.file ≡ s1.file
-        → t ≡ mech_turn s1.mech (seen_of (mech_request form s1.mech) words) → e ≡ mech_event s1.mech
-        → receipts' ≡ receipts ++ returned t → events' ≡ events ++ option_to_list e
+        → t ≡ mech_turn s1.mech (seen_of (mech_request form s1.mech) words)
+        → receipts' ≡ receipts ++ returned t → events' ≡ events ++ step_events s1.mech words words'
         → core_of setup words' (slice_set seats i s2) receipts' events' ≡ core_stepped form i (core_of setup words seats receipts events)
-    next_core setup words words' seats receipts receipts' events events' i s s1 s2 t e inside at m f over w m2 f2 ht he rs es =
+    next_core setup words words' seats receipts receipts' events events' i s s1 s2 t inside at m f over w m2 f2 ht rs es =
         let by = begun (command_of s) s.mech in
         let seen = seen_of (mech_request form by) words in
         let mech : s2.mech ≡ mech_fed form by seen = m2 ∙ ap (λ k. mech_fed form k (seen_of (mech_request form k) words)) m in
@@ -155,7 +155,7 @@ module _ {S W : Type 0} where
         (w ∙ ap (λ k. words_after (mech_request form k) words) m)
         (map-set (λ (seat : Seat S W). seat.mech) seats i s2 ∙ ap (slice_set (map (λ (seat : Seat S W). seat.mech) seats) i) mech)
         (rs ∙ ap (λ r. receipts ++ returned r) (ht ∙ ap (λ k. mech_turn k (seen_of (mech_request form k) words)) m))
-        (es ∙ ap (λ v. events ++ option_to_list v) (he ∙ ap mech_event m))
+        (es ∙ ap (λ ws. events ++ step_events s1.mech words ws) w ∙ ap (λ k. events ++ step_events k words (words_after (mech_request form k) words)) m)
         ∙ sym (stepped_core setup words seats receipts events i s (seat_at seats i s inside at) over)
 
     pub next_turn : (setup : Setup) (words : List ℕ) (seats : List (Seat S W)) (receipts : List Receipt) (events : List Event) (i : ℕ) (s s1 : Seat S W) (t : Turn)

@@ -3,3 +3,5 @@ pub mod Seating
 pub mod CoreLemmas
 pub mod PendingLemmas
 pub mod Rooms
+pub mod Publications
+pub mod StepEvents

@@ -5,7 +5,7 @@ use Rattle.lin_report.specs.declared.calls.Op.{Op}
 use Rattle.lin_report.specs.CommandFiles.{IsCommandFile}
 use Rattle.normal_traits.specs.NormalForm.{NormalForm}
 use Rattle.fast_slow_engine.specs.declared.setup.Setup.{Setup}
-use Rattle.event_core.specs.Seats.{Seat, lines_owed, events_owed}
+use Rattle.event_core.specs.Seats.{Seat, lines_owed}
 use Rattle.fast_slow_engine.specs.PhaseTable.{mech_new}
 use Rattle.std.proofs.lemmas.List.Sums.{sum_by-cons}
 use Rattle.std.proofs.lemmas.List.{length-append, append_assoc, append-nil}
@@ -13,7 +13,7 @@ use Rattle.std.specs.List.{range_with_len}
 use Rattle.node_arena.specs.Opening.{opening_words}
 use Rattle.lin_report.specs.declared.calls.Receipt.{Receipt}
 use Rattle.lin_report.specs.declared.events.Event.{Event}
-use Rattle.event_core.specs.Cores.{IsSeated, core_new, core_of, new_seats}
+use Rattle.event_core.specs.Cores.{HaveBegun, IsCore, IsRun, core_new, core_of, new_seats}
 use Rattle.event_core.proofs.CoreLemmas.{rebuilt}
 
 -- so many seats stand, and the others come from the files that are left
@@ -81,20 +81,13 @@ module _ {S W F : Type 0} (commands : F → List Op) (form : NormalForm S W) (se
   all_seated seats room [] files s none = sym (append-nil seats) ∙ s.made
   all_seated seats room (f ∷ rest) files s none = absurd (omega (arith, none))
 
-  -- seats that made no call owe a line and two events for each command
+  -- seats that made no call owe a line for each command
   pub fresh_lines : (seat : ℕ) (files : List F) → sum_by lines_owed (new_seats {S = S} {W = W} setup seat (map commands files)) ≡ sum_by (λ file. length (commands file)) files
   fresh_lines seat [] = refl
   fresh_lines seat (file ∷ files) =
       let left = sum_by-cons lines_owed (record { mech = mech_new seat setup; file = commands file }) (new_seats {S = S} {W = W} setup (seat + 1) (map commands files)) in
       let right = sum_by-cons (λ f. length (commands f)) file files in
       omega (arith, fresh_lines (seat + 1) files, left, right)
-
-  pub fresh_events : (seat : ℕ) (files : List F) → sum_by events_owed (new_seats {S = S} {W = W} setup seat (map commands files)) ≡ 2 * sum_by (λ file. length (commands file)) files
-  fresh_events seat [] = refl
-  fresh_events seat (file ∷ files) =
-      let left = sum_by-cons events_owed (record { mech = mech_new seat setup; file = commands file }) (new_seats {S = S} {W = W} setup (seat + 1) (map commands files)) in
-      let right = sum_by-cons (λ f. length (commands f)) file files in
-      omega (arith, fresh_events (seat + 1) files, left, right)
 
   -- they are as many as the files
   fresh_count : (seat : ℕ) (files : List F) → length (new_seats {S = S} {W = W} setup seat (map commands files)) ≡ length files
@@ -117,12 +110,39 @@ module _ {S W F : Type 0} (commands : F → List Op) (form : NormalForm S W) (se
       rebuilt setup (ap (map (λ (x : Seat S W). x.file)) s ∙ fresh_files 0 files) (w ∙ w')
       (ap (map (λ (x : Seat S W). x.mech)) s ∙ fresh_mechs 0 files ∙ ap (λ n. map (λ at. mech_new at setup) (range_with_len 0 n)) count) r e
 
-  pub fresh_room : (seats : List (Seat S W)) (files : List F) (commanded lines line_room events event_room : ℕ) → seats ≡ new_seats setup 0 (map commands files)
-      → commanded ≡ sum_by (λ file. length (commands file)) files → lines ≡ 0 → events ≡ 0 → commanded ≤ line_room → 4 * commanded ≤ event_room → length files ≡ setup.seats
-      → IsSeated setup seats lines line_room events event_room
-  fresh_room seats files commanded lines line_room events event_room s c l e lr er count =
-      subst (λ x. IsSeated setup x lines line_room events event_room) (sym s)
+  fresh_begun : (seat : ℕ) (files : List F) → HaveBegun (new_seats {S = S} {W = W} setup seat (map commands files))
+  fresh_begun seat [] = tt
+  fresh_begun seat (file ∷ files) = (omega arith, fresh_begun (seat + 1) files)
+
+  fresh_commands : (seat : ℕ) (files : List F) → sum_by (λ (s : Seat S W). length s.file) (new_seats {S = S} {W = W} setup seat (map commands files)) ≡ sum_by (λ file. length (commands file)) files
+  fresh_commands seat [] = refl
+  fresh_commands seat (file ∷ files) =
+      let left = sum_by-cons (λ (s : Seat S W). length s.file) (record { mech = mech_new seat setup; file = commands file }) (new_seats {S = S} {W = W} setup (seat + 1) (map commands files)) in
+      let right = sum_by-cons (λ f. length (commands f)) file files in
+      let rest = fresh_commands (seat + 1) files in
+      omega (arith, rest, left, right)
+
+  -- no move was made yet
+  fresh_run : (words : List ℕ) (files : List F) → words ≡ opening_words form.client setup.cap → length files ≡ setup.seats → IsRun form setup words (map (λ seat. seat.mech) (new_seats setup 0 (map commands files))) []
+  fresh_run words files w count = record {
+    moves = [];
+    are = tt;
+    words_are = sym w;
+    mechs_are = sym (fresh_mechs 0 files ∙ ap (λ n. map (λ at. mech_new at setup) (range_with_len 0 n)) count);
+    events_are = refl;
+  }
+
+  pub fresh_room : (words words' : List ℕ) (seats : List (Seat S W)) (files : List F) (commanded lines line_room : ℕ) (events : List Event) (event_room : ℕ) → words ≡ words' → words' ≡ opening_words form.client setup.cap → seats ≡ new_seats setup 0 (map commands files)
+      → commanded ≡ sum_by (λ file. length (commands file)) files → lines ≡ 0 → events ≡ [] → commanded ≤ line_room → 4 * commanded ≤ event_room → length files ≡ setup.seats
+      → IsCore form setup words seats lines line_room events event_room
+  fresh_room words words' seats files commanded lines line_room events event_room w w' s c l e lr er count =
+      let owed = fresh_lines 0 files in
+      let all = fresh_commands 0 files in
+      subst (λ x. IsCore form setup words x lines line_room events event_room) (sym s)
       (record {
         count = fresh_count 0 files ∙ count;
-        room = record { for_lines = omega (arith, fresh_lines 0 files, c, l, lr); for_events = omega (arith, fresh_events 0 files, c, e, er) };
+        begun = fresh_begun 0 files;
+        run = subst (IsRun form setup words (map (λ seat. seat.mech) (new_seats setup 0 (map commands files)))) (sym e) (fresh_run words files (w ∙ w') count);
+        for_lines = omega (arith, owed, c, l, lr);
+        for_events = omega (arith, all, c, er);
       })

@@ -1,5 +1,5 @@
 -- A run over command files, as a core holds it, and what a step of a seat makes of it.
-use Rattle.std.specs.Prelude.{◌≡◌, ℕ, ◌+◌, ◌≤◌, List, [], ◌∷◌, map, length, sum_by, slice_get, Bool, false, Option, Some, None}
+use Rattle.std.specs.Prelude.{◌≡◌, ℕ, ◌+◌, ◌*◌, ◌≤◌, List, [], ◌∷◌, map, length, sum_by, slice_get, Bool, false, Option, Some, None}
 use Rattle.lin_report.specs.declared.calls.Op.{Op}
 use Rattle.lin_report.specs.declared.calls.Receipt.{Receipt}
 use Rattle.lin_report.specs.declared.events.Event.{Event}
@@ -10,10 +10,10 @@ use Rattle.fast_slow_engine.specs.declared.setup.Turn.{Turn}
 use Rattle.fast_slow_engine.specs.declared.setup.Turn.TheVariants as turn
 use Rattle.fast_slow_engine.specs.Mechs.{Mech}
 use Rattle.fast_slow_engine.specs.PhaseTable.{lists, mech_new, mech_request, mech_turn}
-use Rattle.fast_slow_engine.specs.Runs.{Move, RunState, begun, next_move, opening_run, run_step}
+use Rattle.fast_slow_engine.specs.Runs.{Move, RunState, AreMoves, begun, next_move, opening_run, run_of, run_step}
 use Rattle.event_core.specs.declared.cores.CoreTurn.{CoreTurn}
 use Rattle.event_core.specs.declared.cores.CoreTurn.TheVariants.{Idle, Going, Returned}
-use Rattle.event_core.specs.Seats.{Seat, lines_owed, events_owed}
+use Rattle.event_core.specs.Seats.{Seat, lines_owed}
 
 -- a run with its command files, one for each seat
 pub record CoreView (S W : Type 0) : Type 0 where
@@ -26,15 +26,27 @@ abbrev pub core_of : {S W : Type 0} → Setup → List ℕ → List (Seat S W) �
 core_of setup words seats receipts events =
     record { setup = setup; files = map (λ seat. seat.file) seats; state = record { words = words; mechs = map (λ seat. seat.mech) seats; receipts = receipts; events = events } }
 
--- there is room for all lines and events that the seats still owe, beside so many
-pub record HasRoom {S W : Type 0} (seats : List (Seat S W)) (lines line_room events event_room : ℕ) : Type 0 where
-  pub for_lines : lines + sum_by lines_owed seats ≤ line_room
-  pub for_events : events + sum_by events_owed seats ≤ event_room
+-- some moves lead to these words and machines, and these are their events
+pub record IsRun {S W : Type 0} (form : NormalForm S W) (setup : Setup) (words : List ℕ) (mechs : List (Mech S W)) (events : List Event) : Type 0 where
+  pub moves : List Move
+  pub are : AreMoves form setup moves
+  pub words_are : (run_of form setup moves).words ≡ words
+  pub mechs_are : (run_of form setup moves).mechs ≡ mechs
+  pub events_are : (run_of form setup moves).events ≡ events
 
--- there is a seat for each of the setup, and that room
-pub record IsSeated {S W : Type 0} (setup : Setup) (seats : List (Seat S W)) (lines line_room events event_room : ℕ) : Type 0 where
+-- no seat has begun more calls than its file has commands
+abbrev pub HaveBegun : {S W : Type 0} → List (Seat S W) → Type 0
+HaveBegun [] = Unit {0}
+HaveBegun (seat ∷ seats) = (seat.mech.number ≤ length seat.file) × HaveBegun seats
+
+-- what a core keeps: a seat for each of the setup, the run that it holds, and room for all lines that the seats still owe,
+-- beside so many, and for four events of each command
+pub record IsCore {S W : Type 0} (form : NormalForm S W) (setup : Setup) (words : List ℕ) (seats : List (Seat S W)) (lines line_room : ℕ) (events : List Event) (event_room : ℕ) : Type 0 where
   pub count : length seats ≡ setup.seats
-  pub room : HasRoom seats lines line_room events event_room
+  pub begun : HaveBegun seats
+  pub run : IsRun form setup words (map (λ seat. seat.mech) seats) events
+  pub for_lines : lines + sum_by lines_owed seats ≤ line_room
+  pub for_events : 4 * sum_by (λ seat. length seat.file) seats ≤ event_room
 
 -- after the move of a seat, where it has one
 abbrev pub after_move : {S W : Type 0} → NormalForm S W → Option Move → RunState S W → RunState S W

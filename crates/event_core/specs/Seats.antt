@@ -1,10 +1,10 @@
 -- A seat with the file of its commands.
-use Rattle.std.specs.Prelude.{ℕ, ◌+◌, ◌-◌, ◌*◌, ◌≤◌, Bool, false, if◌then◌else◌, List, length, slice_get, Option, None, is_none}
+use Rattle.std.specs.Prelude.{ℕ, ◌+◌, ◌-◌, ◌≤◌, Bool, false, if◌then◌else◌, List, length, slice_get, Option, None, is_none}
 use Rattle.lin_report.specs.declared.calls.Client.{Client}
 use Rattle.lin_report.specs.declared.calls.Op.{Op}
 use Rattle.lin_report.specs.CommandFiles.{IsCommandFile}
 use Rattle.fast_slow_engine.specs.Mechs.{Mech}
-use Rattle.fast_slow_engine.specs.PhaseTable.{lines_left, rests, ticks_left}
+use Rattle.fast_slow_engine.specs.PhaseTable.{lines_left, rests}
 
 -- the machine of a seat, and its commands
 pub record Seat (S W : Type 0) : Type 0 where
@@ -19,10 +19,6 @@ pub record IsSeatOf {S W : Type 0} (client : Client) (seat : Seat S W) : Type 0 
 -- how many lines the seat has still to write: one for each command that hasn't returned
 abbrev pub lines_owed : {S W : Type 0} → Seat S W → ℕ
 lines_owed seat = length seat.file - seat.mech.number + lines_left seat.mech.phase
-
--- how many events: two for each command that hasn't begun, and those of the call that runs
-abbrev pub events_owed : {S W : Type 0} → Seat S W → ℕ
-events_owed seat = 2 * (length seat.file - seat.mech.number) + ticks_left seat.mech.phase
 
 -- the command that the seat begins: the next one of its file, where no call runs
 abbrev pub command_of : {S W : Type 0} → Seat S W → Option Op

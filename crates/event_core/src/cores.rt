@@ -6,15 +6,17 @@ ghost use Rattle.std.specs.Option.{option_to_list};
 ghost use Rattle.fast_slow_engine.specs.Runs.{returned};
 ghost use Rattle.event_core.specs.Cores.{core_new, core_turn_of, new_seats};
 
+use crate::noting::{note_step, word_at};
 use crate::seats::Seat;
 use arrayvec::ArrayVec;
 use fast_slow_engine::{Setup, Turn};
 use lin_report::{Event, NoMemory, Op, PendingCall, Receipt};
 use node_arena::opening_words;
 use normal_traits::Normalized;
+use overtaking_law::greatest_overtaken;
 use std::alloc::Global;
 use std::marker::Model;
-use step_memory::Cells;
+use step_memory::{Cells, Port};
 
 /// What a step of a seat has come to.
 #[derive(Clone, Copy, Debug, PartialEq, Eq)]
@@ -39,13 +41,13 @@ pub struct Core<C: Normalized> {
 
 impl<C: Normalized> Model for Core<C> {
     ghost use Rattle.std.specs.Prelude.{vec_len, vec_capacity};
-    ghost use Rattle.event_core.specs.Cores.{CoreView, IsSeated, core_of};
+    ghost use Rattle.event_core.specs.Cores.{CoreView, IsCore, core_of};
 
     ghost Value = { CoreView C.Search C.Wrap };
 
     ghost view = { λ c. core_of c.setup c.cells c.seats.items c.receipts.items c.events.items };
 
-    ghost invariant = { λ c. IsSeated c.setup c.seats.items (vec_len c.receipts) (vec_capacity c.receipts) (vec_len c.events) (vec_capacity c.events) };
+    ghost invariant = { λ c. IsCore C.form c.setup c.cells c.seats.items (vec_len c.receipts) (vec_capacity c.receipts) c.events.items (vec_capacity c.events) };
 }
 
 impl<C: Normalized> Core<C> {
@@ -54,6 +56,8 @@ impl<C: Normalized> Core<C> {
     ghost use Rattle.lin_report.specs.declared.calls.PendingCall.{PendingCall};
     ghost use Rattle.lin_report.specs.declared.calls.Receipt.{Receipt};
     ghost use Rattle.fast_slow_engine.specs.Runs.{pending_of};
+    ghost use Rattle.overtaking_law.specs.Overtaking.{greatest_overtaken};
+    ghost use Rattle.run_overtaking.specs.Accounts.{most_overtaken};
     ghost use Rattle.event_core.specs.Cores.{core_stepped, core_turn, next_listed, with_receipts};
 
     /// The run of these files that made no step, one seat for each. All room is made here: after
@@ -87,9 +91,13 @@ impl<C: Normalized> Core<C> {
         if !at.begin_next() {
             return CoreTurn::Idle;
         }
-        let event = at.next_event();
-        let turn = at.step(&mut self.cells);
-        note(&mut self.events, event);
+        let tick = at.next_event();
+        let request = at.request();
+        let place = request.place();
+        let before = word_at(self.cells.words(), place);
+        let seen = self.cells.apply(request);
+        let turn = at.feed(seen);
+        note_step(&mut self.events, tick, place, before, self.cells.words());
         keep(&mut self.receipts, turn)
     }
 
@@ -136,6 +144,15 @@ impl<C: Normalized> Core<C> {
         ensures { result.now ≡ self.now.state.events }
     {
         self.events.as_slice()
+    }
+
+    /// The greatest overtaking count of all calls: how often a published call was overtaken at most, by returns of other
+    /// seats before it was completed. It is at most (P - 1) (P + 2) / 2, where P is the number of seats.
+    pub fn greatest_overtaken(&self) -> u64
+        ensures count { result ≡ greatest_overtaken self.now.state.events }
+        ensures most { result ≤ most_overtaken self.now.setup.seats }
+    {
+        greatest_overtaken(self.events.as_slice())
     }
 
     /// The words of the memory.
@@ -189,18 +206,6 @@ fn seats_of<C: Normalized>(
         seats.push_reserved(Seat::new(seats.len() as u32, setup, file));
     }
     Ok(seats)
-}
-
-/// Puts the event of a step last, where it has one.
-fn note(events: &mut Vec<Event>, event: Option<Event>)
-    requires { vec_len events.old + length (option_to_list event) ≤ vec_capacity events.old }
-    ensures items { events.new.items ≡ events.old.items ++ option_to_list event }
-    ensures len { vec_len events.new ≡ vec_len events.old + length (option_to_list event) }
-    ensures capacity { vec_capacity events.new ≡ vec_capacity events.old }
-{
-    if let Some(event) = event {
-        events.push_reserved(event);
-    }
 }
 
 /// Puts a call that runs last, where there is one.

@@ -4,4 +4,5 @@
 pub use cores::{Core, CoreTurn};
 
 pub mod cores;
+mod noting;
 mod seats;

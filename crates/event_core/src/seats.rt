@@ -1,15 +1,15 @@
 //! A seat with the file of its commands.
-ghost use Rattle.std.specs.Prelude.{◌≡◌, ◌+◌, ◌<◌, true, false, not, length};
+ghost use Rattle.std.specs.Prelude.{◌≡◌, ◌+◌, ◌<◌, ◌≤◌, true, false, not, length};
 ghost use Rattle.std.specs.Option.{option_to_list};
 ghost use Rattle.step_memory.specs.Step.{seen_of, words_after};
-ghost use Rattle.fast_slow_engine.specs.Runs.{begun, returned};
+ghost use Rattle.fast_slow_engine.specs.Runs.{CanMove, begun, returned};
 ghost use Rattle.fast_slow_engine.specs.PhaseTable.{lists, mech_event, mech_fed, mech_new, mech_pending, mech_request, mech_turn, rests};
 
 use fast_slow_engine::{Machine, Setup, Turn};
 use lin_report::{Event, Op, PendingCall};
 use normal_traits::Normalized;
 use std::marker::Model;
-use step_memory::{Cells, Port};
+use step_memory::{Request, Seen};
 
 /// The machine of a seat, and its commands.
 #[derive(Drop)]
@@ -31,7 +31,7 @@ impl<C: Normalized> Model for Seat<C> {
 impl<C: Normalized> Seat<C> {
     ghost use Rattle.std.specs.Prelude.{Some, None};
     ghost use Rattle.lin_report.specs.CommandFiles.{IsCommandFile};
-    ghost use Rattle.event_core.specs.Seats.{command_of, events_owed, is_over, lines_owed};
+    ghost use Rattle.event_core.specs.Seats.{command_of, is_over, lines_owed};
 
     /// Begins the seat's next command where no call runs. Whether a call runs then.
     pub fn begin_next(&mut self) -> bool
@@ -39,8 +39,9 @@ impl<C: Normalized> Seat<C> {
         ensures file { self.new.file ≡ self.old.file }
         ensures over { result ≡ not (is_over self.old) }
         ensures runs { result ≡ true → rests self.new.mech.phase ≡ false }
+        ensures can { result ≡ true → CanMove C.form (command_of self.old) self.old.mech }
+        ensures number { self.new.mech.number ≤ length self.new.file }
         ensures lines { lines_owed self.new ≡ lines_owed self.old }
-        ensures events { events_owed self.new ≡ events_owed self.old }
     {
         if !self.machine.is_idle() {
             return true;
@@ -73,17 +74,23 @@ impl<C: Normalized> Seat<C> {
         self.machine.next_event()
     }
 
-    /// Makes the next step of the call that runs.
-    pub fn step(&mut self, cells: &mut Cells) -> Turn
-        requires runs { rests self.old.mech.phase ≡ false }
-        ensures words { cells.new ≡ words_after (mech_request C.form self.old.mech) cells.old }
-        ensures mech { self.new.mech ≡ mech_fed C.form self.old.mech (seen_of (mech_request C.form self.old.mech) cells.old) }
-        ensures file { self.new.file ≡ self.old.file }
-        ensures turn { result ≡ mech_turn self.old.mech (seen_of (mech_request C.form self.old.mech) cells.old) }
-        ensures lines { lines_owed self.new + length (returned result) ≡ lines_owed self.old }
-        ensures events { events_owed self.new + length (option_to_list (mech_event self.old.mech)) ≡ events_owed self.old }
+    /// The next step of the call that runs.
+    pub fn request(&self) -> Request
+        requires runs { rests self.now.mech.phase ≡ false }
+        ensures { result ≡ mech_request C.form self.now.mech }
     {
-        let seen = cells.apply(self.machine.request());
+        self.machine.request()
+    }
+
+    /// Takes what that step saw.
+    pub fn feed(&mut self, seen: Seen) -> Turn
+        requires runs { rests self.old.mech.phase ≡ false }
+        ensures mech { self.new.mech ≡ mech_fed C.form self.old.mech seen }
+        ensures number { self.new.mech.number ≤ length self.new.file }
+        ensures file { self.new.file ≡ self.old.file }
+        ensures turn { result ≡ mech_turn self.old.mech seen }
+        ensures lines { lines_owed self.new + length (returned result) ≡ lines_owed self.old }
+    {
         self.machine.feed(seen)
     }
 

@@ -20,15 +20,12 @@ use Rattle.fast_slow_engine.specs.declared.phases.Applying.{Applying}
 use Rattle.fast_slow_engine.specs.declared.phases.Applying.TheVariants.{Fill, Execute}
 use Rattle.help_queue.specs.declared.enter.Entering.{Entering}
 use Rattle.help_queue.specs.declared.enter.Entering.TheVariants as entering_to
-use Rattle.help_queue.specs.Gathers.{holds}
-use Rattle.help_queue.specs.Enters.{Owner, enter_fed, entering, outcome_or_done}
+use Rattle.help_queue.specs.Enters.{Owner}
 use Rattle.fast_slow_engine.specs.declared.phases.Announcing.{Announcing}
 use Rattle.fast_slow_engine.specs.declared.phases.Announcing.TheVariants as announcing
 use Rattle.fast_slow_engine.specs.declared.help.Help as helper
-use Rattle.fast_slow_engine.specs.declared.help.Helping.TheVariants as helping
-use Rattle.fast_slow_engine.specs.HelpTable.{help_fed, helping_hand, helping_ends}
-use Rattle.help_queue.specs.Heads.{head_of}
-use Rattle.fast_slow_engine.specs.PhaseTable.{tried, helped, head_helped, announced, entered, help_stepped, driven, with_hand}
+use Rattle.fast_slow_engine.specs.HelpTable.{helping_hand}
+use Rattle.fast_slow_engine.specs.PhaseTable.{tried, helped, head_helped, announced, entered, help_stepped, with_hand}
 use Rattle.fast_slow_engine.specs.Mechs.{Mech, SameCall}
 use Rattle.fast_slow_engine.specs.PhaseTable.{in_phase, told, failed, offered, searched, spent, wrapped_up, executed, generated, applied, stepped, mech_fed}
 

@@ -30,7 +30,7 @@ use Rattle.fast_slow_engine.specs.declared.help.Help as helper
 use Rattle.fast_slow_engine.specs.declared.help.Helping.TheVariants as helping
 use Rattle.fast_slow_engine.specs.HelpTable.{help_fed, helping_hand, helping_ends}
 use Rattle.help_queue.specs.Heads.{head_of}
-use Rattle.fast_slow_engine.specs.PhaseTable.{may_search, head_seen, tried, helped, head_helped, announced, entered, help_stepped, driven, with_hand}
+use Rattle.fast_slow_engine.specs.PhaseTable.{may_search, tried, helped, head_helped, announced, entered, help_stepped, driven, with_hand}
 use Rattle.fast_slow_engine.specs.Hands.{holds_none}
 use Rattle.fast_slow_engine.specs.PhaseTable.{in_phase, told, offered, searched, spent, wrapped_up, executed, generated, applied, stepped, event_in, turn_in, rests, ends, ticks_left, lines_left}
 use Rattle.std.specs.Prelude.{nat_lt, min, Option, None}
@@ -123,7 +123,7 @@ module _ {S W : Type 0} where
     pub draws : (phase : Phase S W) (seen : Seen) (mech : Mech S W) → rests phase ≡ false → Draws phase seen mech
     draws Idle seen mech runs = absurd (search rules)
     draws Begin seen mech runs = record { ticks = refl; lines = refl }
-    draws Look seen mech runs = let h = goes_on _ (open_head (head_seen mech.setup seen.before) false mech) in record { ticks = h.0; lines = h.1 }
+    draws Look seen mech runs = let h = goes_on _ (open_head (head_of seen.before) false mech) in record { ticks = h.0; lines = h.1 }
     draws (Generate s at) seen mech runs = let h = goes_on _ (open_generated s at seen mech) in record { ticks = h.0; lines = h.1 }
     draws (Apply run stores at) seen mech runs = let h = goes_on _ (open_applied run stores at seen mech) in record { ticks = h.0; lines = h.1 }
     draws (Wrap w) seen mech runs = let h = goes_on _ (open_wrapped_up (form.wrap_found_of w seen) (form.feed_wrap_of w seen) mech) in record { ticks = h.0; lines = h.1 }
@@ -154,7 +154,7 @@ module _ {S W : Type 0} where
     pub runs_on : (phase : Phase S W) (seen : Seen) (mech : Mech S W) → rests phase ≡ false → ends phase ≡ false → rests (stepped form phase seen mech).phase ≡ false
     runs_on Idle seen mech runs on = absurd (search rules)
     runs_on Begin seen mech runs on = refl
-    runs_on Look seen mech runs on = running _ (open_head (head_seen mech.setup seen.before) false mech)
+    runs_on Look seen mech runs on = running _ (open_head (head_of seen.before) false mech)
     runs_on (Generate s at) seen mech runs on = running _ (open_generated s at seen mech)
     runs_on (Apply run stores at) seen mech runs on = running _ (open_applied run stores at seen mech)
     runs_on (Wrap w) seen mech runs on = running _ (open_wrapped_up (form.wrap_found_of w seen) (form.feed_wrap_of w seen) mech)

@@ -5,6 +5,7 @@ pub mod HelpTable
 pub mod Doings
 pub mod Mechs
 pub mod PhaseTable
+pub mod Events
 pub mod Runs
 pub mod Lines
 pub mod Reports

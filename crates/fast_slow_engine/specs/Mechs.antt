@@ -1,5 +1,5 @@
 -- A machine as plain data, and which states a machine can be in.
-use Rattle.std.specs.Prelude.{◌≡◌, ℕ, ◌+◌, ◌^◌, ◌<◌, ◌≤◌, IsTrue, length, Option, Some, None}
+use Rattle.std.specs.Prelude.{◌≡◌, ℕ, ◌^◌, ◌<◌, ◌≤◌, IsTrue, length, Option}
 use Rattle.lin_report.specs.declared.calls.Op.{Op}
 use Rattle.lin_report.specs.declared.calls.Client.{Client}
 use Rattle.lin_report.specs.declared.calls.Path.{Path}
@@ -89,6 +89,15 @@ Helps _ = ⊥
 abbrev pub Enters : {S W : Type 0} → Phase S W → Type 0
 Enters (phase.Enter owner) = Unit {0}
 Enters _ = ⊥
+
+-- the phase is one of the slow path: the call is announced, entered, driven or collected, or the seat helps
+abbrev pub IsSlow : {S W : Type 0} → Phase S W → Type 0
+IsSlow (phase.Announce at) = Unit {0}
+IsSlow (phase.Enter owner) = Unit {0}
+IsSlow phase.Drive = Unit {0}
+IsSlow (phase.Help drives help) = Unit {0}
+IsSlow phase.Collect = Unit {0}
+IsSlow _ = ⊥
 
 -- the phase fills a block
 abbrev pub Fills : {S W : Type 0} → Phase S W → Type 0

@@ -85,13 +85,9 @@ announce_request announcing.Value mech = Store (value_place mech.seat) (value_wo
 announce_request announcing.Op mech = Store (op_place mech.seat) (op_word mech.op.code mech.number mech.op.key)
 announce_request announcing.Record mech = Store (record_place mech.seat) (record_word record_phase.Generate mech.number 0 0)
 
--- whether the call tries once more on its own: below its limit of failures, and always where no call is published
+-- whether the call tries once more on its own: below its limit of failures
 abbrev pub may_search : {S W : Type 0} → Mech S W → Bool
-may_search mech = not mech.setup.publishes || nat_lt mech.failures mech.setup.limit
-
--- the head that a seat helps before its own search; none where no call is published
-abbrev pub head_seen : Setup → ℕ → Option ℕ
-head_seen setup word = if setup.publishes then head_of word else None
+may_search mech = nat_lt mech.failures mech.setup.limit
 
 -- the stores of a list that the seat executes itself; an operation that needs no block makes none
 abbrev pub stores_for : {S W : Type 0} → Bool → List (ℕ × ℕ) → Mech S W → List (ℕ × ℕ)
@@ -193,7 +189,7 @@ module _ {S W : Type 0} (form : NormalForm S W) where
   abbrev pub stepped : Phase S W → Seen → Mech S W → Mech S W
   stepped Idle seen mech = mech
   stepped Begin seen mech = in_phase Look (record mech { begin = seen.before })
-  stepped Look seen mech = head_helped (head_seen mech.setup seen.before) false mech
+  stepped Look seen mech = head_helped (head_of seen.before) false mech
   stepped (Generate search at) seen mech = generated search at seen mech
   stepped (Apply run stores at) seen mech = applied run stores at seen mech
   stepped (Wrap wrap) seen mech = wrapped_up (form.wrap_found_of wrap seen) (form.feed_wrap_of wrap seen) mech

@@ -34,7 +34,7 @@ pub fn try_again<C: Normalized>(call: &Call, room: &mut Room<C::Search, C::Wrap>
     ensures machine { mech_of call.now (phase_of room.new) ≡ tried C.form (mech_of call.now (phase_of room.old)) }
     ensures ready { IsReadyIn C.form (phase_of room.new) }
 {
-    room.doing = if !call.setup.publishes || call.contention.may_try() {
+    room.doing = if call.contention.may_try() {
         Doing::Generate {
             search: C::begin(call.op),
             at: Generating::Search,
@@ -45,6 +45,7 @@ pub fn try_again<C: Normalized>(call: &Call, room: &mut Room<C::Search, C::Wrap>
 }
 
 /// Counts a failure and begins a new search.
+#[inline(never)]
 fn fail<C: Normalized>(call: &mut Call, room: &mut Room<C::Search, C::Wrap>)
     requires { IsCallOf C.form.client call.old }
     ensures machine { mech_of call.new (phase_of room.new) ≡ failed C.form (mech_of call.old (phase_of room.old)) }
@@ -95,6 +96,7 @@ fn offer<C: Normalized>(call: &Call, room: &mut Room<C::Search, C::Wrap>)
 
 /// Goes on with a generator that can name its list: to the claim of a block where one is needed and none
 /// is in hand.
+#[inline(never)]
 fn ready<C: Normalized>(call: &Call, room: &mut Room<C::Search, C::Wrap>)
     requires call { IsCallOf C.form.client call.now }
     requires ready { CanOffer C.form (phase_of room.old) }
@@ -112,6 +114,7 @@ fn ready<C: Normalized>(call: &Call, room: &mut Room<C::Search, C::Wrap>)
 }
 
 /// A step of the generator.
+#[inline(always)]
 fn search<C: Normalized>(call: &mut Call, room: &mut Room<C::Search, C::Wrap>, seen: Seen)
     requires call { IsCallOf C.form.client call.old }
     requires searches { IsAt Generating.Search (phase_of room.old) }
@@ -139,6 +142,7 @@ fn none_is_left(call: &Call, claimed: u64) -> bool
 }
 
 /// Looks whether a block is left to claim.
+#[inline(never)]
 fn look_for_block<C: Normalized>(call: &Call, room: &mut Room<C::Search, C::Wrap>, seen: Seen)
     requires looks { IsAt Generating.LookForBlock (phase_of room.old) }
     requires ready { IsReadyIn C.form (phase_of room.old) }
@@ -156,6 +160,7 @@ fn look_for_block<C: Normalized>(call: &Call, room: &mut Room<C::Search, C::Wrap
 }
 
 /// Takes the block that was claimed, where there was one.
+#[inline(never)]
 fn claim<C: Normalized>(call: &mut Call, room: &mut Room<C::Search, C::Wrap>, seen: Seen)
     requires call { IsCallOf C.form.client call.old }
     requires claims { IsAt Generating.Claim (phase_of room.old) }
@@ -173,6 +178,7 @@ fn claim<C: Normalized>(call: &mut Call, room: &mut Room<C::Search, C::Wrap>, se
 }
 
 /// A store into the block in hand was made.
+#[inline(always)]
 fn fill<S: Drop, W: Drop>(room: &mut Room<S, W>)
     requires { Fills (phase_of room.old) }
     ensures machine { phase_of room.new ≡ filled (phase_of room.old) }
@@ -223,6 +229,7 @@ fn spend<C: Normalized>(call: &mut Call, stop: u32)
 }
 
 /// The exchange of an entry was made.
+#[inline(never)]
 fn execute<C: Normalized>(call: &mut Call, room: &mut Room<C::Search, C::Wrap>, seen: Seen)
     requires call { IsCallOf C.form.client call.old }
     requires executes { Executes (phase_of room.old) }
@@ -243,6 +250,7 @@ fn execute<C: Normalized>(call: &mut Call, room: &mut Room<C::Search, C::Wrap>, 
 }
 
 /// A step of the wrap-up.
+#[inline(never)]
 pub fn wrap_up<C: Normalized>(call: &mut Call, room: &mut Room<C::Search, C::Wrap>, seen: Seen)
     requires call { IsCallOf C.form.client call.old }
     requires wraps { WrapsUp (phase_of room.old) }
@@ -262,6 +270,7 @@ pub fn wrap_up<C: Normalized>(call: &mut Call, room: &mut Room<C::Search, C::Wra
 }
 
 /// A step of a search with its claim.
+#[inline(always)]
 pub fn generate<C: Normalized>(call: &mut Call, room: &mut Room<C::Search, C::Wrap>, seen: Seen)
     requires call { IsCallOf C.form.client call.old }
     requires generates { Generates (phase_of room.old) }
@@ -281,6 +290,7 @@ pub fn generate<C: Normalized>(call: &mut Call, room: &mut Room<C::Search, C::Wr
 }
 
 /// A step of an offer.
+#[inline(always)]
 pub fn apply<C: Normalized>(call: &mut Call, room: &mut Room<C::Search, C::Wrap>, seen: Seen)
     requires call { IsCallOf C.form.client call.old }
     requires applies { Applies (phase_of room.old) }

@@ -9,7 +9,7 @@ use crate::phases::Applying;
 use crate::requests::request_of;
 use crate::setup::{Setup, Turn};
 use crate::steps::go_on;
-use lin_report::{Event, EventKind, Op, Path, PendingCall};
+use lin_report::{Event, EventKind, Op, Path, PendingCall, Receipt};
 use normal_traits::{Contention, Normalized, Stores};
 use std::marker::Model;
 use step_memory::{Request, Seen};
@@ -34,7 +34,7 @@ impl<C: Normalized> Model for Machine<C> {
 
 impl<C: Normalized> Machine<C> {
     ghost use Rattle.lin_report.specs.Commands.{is_command};
-    ghost use Rattle.fast_slow_engine.specs.PhaseTable.{mech_event, mech_new, mech_started, mech_pending, mech_request, mech_fed, mech_turn, rests, lists};
+    ghost use Rattle.fast_slow_engine.specs.PhaseTable.{ends, mech_event, mech_new, mech_started, mech_pending, mech_request, mech_fed, mech_turn, rests, lists};
 
     /// A seat that has made no call and holds no block.
     pub fn new(seat: u32, setup: Setup) -> Machine<C>
@@ -113,12 +113,49 @@ impl<C: Normalized> Machine<C> {
         ensures turn { result ≡ mech_turn self.old seen }
         ensures returns { IsTrue (rests self.new.phase) ↔ ((receipt : Receipt) × (result ≡ Turn.Returned receipt)) }
     {
-        if let Doing::End(reply) = self.room.doing {
-            self.room.doing = Doing::Idle;
-            return Turn::Returned(self.call.receipt(reply, seen.before));
+        if self.ends_next() {
+            return Turn::Returned(self.finish(seen));
         }
-        go_on::<C>(&mut self.call, &mut self.room, seen);
+        self.go_on(seen);
         Turn::Going
+    }
+
+    /// Whether the next step draws the end tick.
+    #[inline(always)]
+    pub fn ends_next(&self) -> bool
+        ensures { result ≡ ends self.now.phase }
+    {
+        match &self.room.doing {
+            Doing::End(_) => true,
+            _ => false,
+        }
+    }
+
+    /// Takes what a step saw that draws no end tick: the call goes on.
+    #[inline(always)]
+    pub fn go_on(&mut self, seen: Seen)
+        requires runs { rests self.old.phase ≡ false }
+        requires goes_on { ends self.old.phase ≡ false }
+        ensures machine { self.new ≡ mech_fed C.form self.old seen }
+        ensures turn { mech_turn self.old seen ≡ Turn.Going }
+        ensures runs { rests self.new.phase ≡ false }
+    {
+        go_on::<C>(&mut self.call, &mut self.room, seen);
+    }
+
+    /// Takes the end tick: the call returns, with its line.
+    #[inline(always)]
+    pub fn finish(&mut self, seen: Seen) -> Receipt
+        requires ends { ends self.old.phase ≡ true }
+        ensures machine { self.new ≡ mech_fed C.form self.old seen }
+        ensures turn { mech_turn self.old seen ≡ Turn.Returned result }
+        ensures rests { rests self.new.phase ≡ true }
+    {
+        let Doing::End(reply) = self.room.doing else {
+            unreachable!()
+        };
+        self.room.doing = Doing::Idle;
+        self.call.receipt(reply, seen.before)
     }
 
     /// The call that runs, once its begin tick is drawn.

@@ -1,7 +1,8 @@
 //! The next request of each phase.
-ghost use Rattle.std.specs.Prelude.{◌≡◌, ◌+◌, ◌<◌, ◌≤◌, false};
+ghost use Rattle.std.specs.Prelude.{◌≡◌, ◌+◌, ◌<◌, ◌≤◌, false, length, slice_get};
 ghost use Rattle.fast_slow_engine.specs.Doings.{help_of, phase_of, work_of};
-ghost use Rattle.fast_slow_engine.specs.Mechs.{IsCallOf, IsInRange, IsReadyIn, mech_of};
+ghost use Rattle.fast_slow_engine.specs.Mechs.{IsCallOf, IsInRange, IsReadyIn, IsSlow, mech_of};
+ghost use Rattle.fast_slow_engine.specs.OfferStores.{stored_by};
 ghost use Rattle.fast_slow_engine.specs.PhaseTable.{announce_request, request_in, rests};
 ghost use Rattle.fast_slow_engine.specs.declared.phases.Phase.{Phase};
 ghost use Rattle.fast_slow_engine.specs.HelpTable.{CanHelp, CanWork, help_request, work_request};
@@ -32,6 +33,16 @@ fn announce<S, W>(call: &Call, at: Announcing, room: &Room<S, W>) -> Request
     }
 }
 
+/// The store of an offer with this number.
+#[inline(always)]
+fn store_of(stores: &Stores, made: u32) -> Request
+    requires { made < length stores.now.items }
+    ensures { result ≡ stored_by (slice_get stores.now.items made) }
+{
+    let (at, value) = stores[made as usize];
+    Request::Store { at, value }
+}
+
 /// The next request of the work.
 fn work_request<C: Normalized>(
     task: &Task<C::Search, C::Wrap>,
@@ -54,10 +65,7 @@ fn work_request<C: Normalized>(
             Generating::LookForBlock => Request::Load { at: CLAIMS },
             Generating::Claim => Request::Add { at: CLAIMS, by: 1 },
         },
-        Task::Fill(made) => {
-            let (at, value) = stores[*made as usize];
-            Request::Store { at, value }
-        }
+        Task::Fill(made) => store_of(stores, *made),
         Task::Advance(to) => Request::Exchange {
             at: record_place(head),
             from: RecordWord::unpack(word).pack(),
@@ -83,9 +91,30 @@ fn help_request<C: Normalized>(aid: &Aid<C::Search, C::Wrap>, stores: &Stores) -
     }
 }
 
+/// The next request of a phase of the slow path. It stands for itself, so that the requests of the fast path are made
+/// where they are used.
+#[inline(never)]
+#[tactic(auto, using(crate::proofs::Commands::code_fits, crate::proofs::Commands::key_fits))]
+fn slow_request<C: Normalized>(call: &Call, room: &Room<C::Search, C::Wrap>) -> Request
+    requires call { IsCallOf C.form.client call.now }
+    requires slow { IsSlow (phase_of room.now) }
+    requires ready { IsReadyIn C.form (phase_of room.now) }
+    ensures { result ≡ request_in C.form (phase_of room.now) (mech_of call.now (phase_of room.now)) }
+{
+    match &room.doing {
+        Doing::Announce(at) => announce(call, *at, room),
+        Doing::Enter(enter) => enter.request(),
+        Doing::Drive => Request::Load { at: QUEUE },
+        Doing::Help { aid, .. } => help_request::<C>(aid, &room.stores),
+        Doing::Collect => Request::Load {
+            at: record_place(call.seat),
+        },
+        _ => unreachable!(),
+    }
+}
+
 /// The next request of a phase in which a call runs.
 #[inline(always)]
-#[tactic(auto, using(crate::proofs::Commands::code_fits, crate::proofs::Commands::key_fits))]
 pub fn request_of<C: Normalized>(call: &Call, room: &Room<C::Search, C::Wrap>) -> Request
     requires call { IsCallOf C.form.client call.now }
     requires runs { rests (phase_of room.now) ≡ false }
@@ -96,28 +125,31 @@ pub fn request_of<C: Normalized>(call: &Call, room: &Room<C::Search, C::Wrap>) -
         Doing::Idle => unreachable!(),
         Doing::Begin | Doing::End(_) => Request::Add { at: TICKS, by: 1 },
         Doing::Look => Request::Load { at: QUEUE },
-        Doing::Generate { search, at } => match at {
-            Generating::Search => C::request(search),
-            Generating::LookForBlock => Request::Load { at: CLAIMS },
-            Generating::Claim => Request::Add { at: CLAIMS, by: 1 },
-        },
-        Doing::Apply { run, at } => match at {
-            Applying::Fill(made) => {
-                let (at, value) = room.stores[*made as usize];
-                Request::Store { at, value }
-            }
-            Applying::Execute => run.request(),
-        },
+        Doing::Generate {
+            search,
+            at: Generating::Search,
+        } => C::request(search),
+        Doing::Generate {
+            at: Generating::LookForBlock,
+            ..
+        } => Request::Load { at: CLAIMS },
+        Doing::Generate {
+            at: Generating::Claim,
+            ..
+        } => Request::Add { at: CLAIMS, by: 1 },
+        Doing::Apply {
+            at: Applying::Fill(made),
+            ..
+        } => store_of(&room.stores, *made),
+        Doing::Apply {
+            run,
+            at: Applying::Execute,
+        } => run.request(),
         Doing::Wrap(wrap) => C::wrap_request(wrap),
-        Doing::Announce(at) => announce(call, *at, room),
-        Doing::Enter(enter) => enter.request(),
-        Doing::Drive => Request::Load { at: QUEUE },
-        Doing::Help { aid, .. } => help_request::<C>(aid, &room.stores),
-        Doing::Collect => Request::Load {
-            at: record_place(call.seat),
-        },
         Doing::Value(reference) => Request::Load {
             at: node_place(*reference, NODE_VALUE),
         },
+        Doing::Announce(_) | Doing::Enter(_) | Doing::Drive | Doing::Help { .. } | Doing::Collect =>
+            slow_request::<C>(call, room),
     }
 }

@@ -5,7 +5,7 @@ ghost use Rattle.fast_slow_engine.specs.Mechs.{Enters, IsCallOf, IsInRange, IsRe
 ghost use Rattle.fast_slow_engine.specs.Doings.{phase_of};
 ghost use Rattle.help_queue.specs.Heads.{head_of};
 ghost use Rattle.help_queue.specs.Enters as entering;
-ghost use Rattle.fast_slow_engine.specs.PhaseTable.{announced, driven, entered, head_helped, head_seen, helped, stepped, told};
+ghost use Rattle.fast_slow_engine.specs.PhaseTable.{announced, driven, entered, head_helped, helped, stepped, told};
 
 use crate::call::Call;
 use crate::doing::{Aid, Aiding, Doing, Room};
@@ -112,16 +112,12 @@ pub fn collect<S: Drop, W: Drop>(call: &Call, room: &mut Room<S, W>, seen: Seen)
     tell(outcome_or_done(seen.before), call, room);
 }
 
-/// The queue word was loaded, before the own search: its head is helped, where calls are published.
+/// The queue word was loaded, before the own search: its head is helped.
+#[inline(never)]
 pub fn look<C: Normalized>(call: &Call, room: &mut Room<C::Search, C::Wrap>, seen: Seen)
     requires { IsCallOf C.form.client call.now }
-    ensures machine { mech_of call.now (phase_of room.new) ≡ head_helped C.form (head_seen call.now.setup seen.before) false (mech_of call.now (phase_of room.old)) }
+    ensures machine { mech_of call.now (phase_of room.new) ≡ head_helped C.form (head_of seen.before) false (mech_of call.now (phase_of room.old)) }
     ensures ready { IsReadyIn C.form (phase_of room.new) }
 {
-    let head = if call.setup.publishes {
-        head_of(seen.before)
-    } else {
-        None
-    };
-    help_head::<C>(head, false, call, room);
+    help_head::<C>(head_of(seen.before), false, call, room);
 }

@@ -1,7 +1,7 @@
 //! The steps of a call, by its phase.
 ghost use Rattle.std.specs.Prelude.{◌≡◌, false};
 ghost use Rattle.fast_slow_engine.specs.Doings.{phase_of};
-ghost use Rattle.fast_slow_engine.specs.Mechs.{Helps, IsCallOf, IsReadyIn, mech_of};
+ghost use Rattle.fast_slow_engine.specs.Mechs.{Helps, IsCallOf, IsReadyIn, IsSlow, mech_of};
 ghost use Rattle.fast_slow_engine.specs.PhaseTable.{ends, rests, stepped};
 
 use crate::call::Call;
@@ -14,7 +14,7 @@ use normal_traits::Normalized;
 use step_memory::Seen;
 
 /// A step of a call that goes on after it: each but the drawing of the end tick.
-#[inline(never)]
+#[inline(always)]
 #[tactic(auto, using(crate::proofs::Ticks::runs_on))]
 pub fn go_on<C: Normalized>(call: &mut Call, room: &mut Room<C::Search, C::Wrap>, seen: Seen)
     requires call { IsCallOf C.form.client call.old }
@@ -35,6 +35,24 @@ pub fn go_on<C: Normalized>(call: &mut Call, room: &mut Room<C::Search, C::Wrap>
         Doing::Generate { .. } => generate::<C>(call, room, seen),
         Doing::Apply { .. } => apply::<C>(call, room, seen),
         Doing::Wrap(_) => wrap_up::<C>(call, room, seen),
+        Doing::Value(_) => room.doing = Doing::End(Reply::Value((seen.before % (1 << 32)) as u32)),
+        Doing::Announce(_) | Doing::Enter(_) | Doing::Drive | Doing::Help { .. } | Doing::Collect =>
+            go_slowly::<C>(call, room, seen),
+        Doing::Idle | Doing::End(_) => unreachable!(),
+    }
+}
+
+/// A step of the slow path. It stands for itself, so that a step of the fast path is short.
+#[inline(never)]
+fn go_slowly<C: Normalized>(call: &mut Call, room: &mut Room<C::Search, C::Wrap>, seen: Seen)
+    requires call { IsCallOf C.form.client call.old }
+    requires slow { IsSlow (phase_of room.old) }
+    requires ready { IsReadyIn C.form (phase_of room.old) }
+    ensures machine { mech_of call.new (phase_of room.new) ≡ stepped C.form (phase_of room.old) seen (mech_of call.old (phase_of room.old)) }
+    ensures call { IsCallOf C.form.client call.new }
+    ensures ready { IsReadyIn C.form (phase_of room.new) }
+{
+    match &mut room.doing {
         Doing::Announce(at) => {
             let at = *at;
             announce(at, call, room);
@@ -43,8 +61,7 @@ pub fn go_on<C: Normalized>(call: &mut Call, room: &mut Room<C::Search, C::Wrap>
         Doing::Drive => drive::<C>(call, room, seen),
         Doing::Help { .. } => help::<C>(call, room, seen),
         Doing::Collect => collect(call, room, seen),
-        Doing::Value(_) => room.doing = Doing::End(Reply::Value((seen.before % (1 << 32)) as u32)),
-        Doing::Idle | Doing::End(_) => unreachable!(),
+        _ => unreachable!(),
     }
 }
 

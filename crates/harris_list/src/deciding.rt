@@ -21,6 +21,7 @@ pub struct End {
 
 /// The key is absent: the left word leads to a node of a higher key or to the end. A search that stays where
 /// it was is over.
+#[inline(always)]
 fn decide_absent(way: &mut Way, left: Left, cur: u32) -> Found
     requires { cur < 2 ^ 23 }
     ensures search { (search_at way.new, result) ≡ decided_absent (search_at way.old) way.old.sought.aim left cur }
@@ -40,6 +41,7 @@ fn decide_absent(way: &mut Way, left: Left, cur: u32) -> Found
 }
 
 /// The key is that of the node to which the left word leads.
+#[inline(always)]
 fn decide_found(way: &mut Way, left: Left, cur: u32, next: u64) -> Found
     requires { cur < 2 ^ 23 }
     ensures search { (search_at way.new, result) ≡ decided_found (search_at way.old) way.old.sought.aim left cur next }
@@ -61,6 +63,7 @@ fn decide_found(way: &mut Way, left: Left, cur: u32, next: u64) -> Found
 }
 
 /// No marked node is left between the left word and the node that was come to, or the end.
+#[inline(always)]
 pub fn decide(way: &mut Way, end: End) -> Found
     requires { end.cur < 2 ^ 23 }
     ensures search { (search_at way.new, result) ≡ decided (search_at way.old) way.old.sought end.left end.cur end.next end.found }
@@ -75,6 +78,7 @@ pub fn decide(way: &mut Way, end: End) -> Found
 }
 
 /// The search has come to the end of its way. Marked nodes on the way are unlinked first.
+#[inline(always)]
 pub fn finish(way: &mut Way, run: bool, end: End) -> Found
     requires { end.cur < 2 ^ 23 }
     ensures search { (search_at way.new, result) ≡ finished (search_at way.old) way.old.sought end.left run end.cur end.next end.found }
@@ -96,6 +100,7 @@ pub fn finish(way: &mut Way, run: bool, end: End) -> Found
 }
 
 /// The search goes on to a node, if there is one.
+#[inline(always)]
 pub fn move_on(way: &mut Way, left: Left, run: bool, cur: u32) -> Found
     requires { cur < 2 ^ 23 }
     ensures search { (search_at way.new, result) ≡ moved_on (search_at way.old) way.old.sought left run cur }

@@ -36,10 +36,12 @@ impl Normalized for HarrisList {
         Seeking::begun_at(LIST_START, op)
     }
 
+    #[inline(always)]
     fn request(search: &Seeking) -> Request {
         search.asked()
     }
 
+    #[inline(always)]
     fn feed(search: &mut Seeking, seen: Seen) -> Found {
         search.feed(seen)
     }

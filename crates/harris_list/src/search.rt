@@ -46,6 +46,7 @@ pub fn begun_at(start: u32, op: Op) -> Way
 }
 
 /// What a search asks for.
+#[inline(always)]
 pub fn asked(way: &Way) -> Request
     requires { Asks (search_at way.now) }
     ensures { result ≡ asked (search_at way.now) }
@@ -68,6 +69,7 @@ pub fn asked(way: &Way) -> Request
 }
 
 /// The beginning of the list was loaded.
+#[inline(always)]
 fn met_start(way: &mut Way, seen: Seen) -> Found
     requires { way.old.stage ≡ stage.Start }
     ensures search { (search_at way.new, result) ≡ fed (search_at way.old) seen }
@@ -82,6 +84,7 @@ fn met_start(way: &mut Way, seen: Seen) -> Found
 }
 
 /// The next word of a node was loaded.
+#[inline(always)]
 fn met_next(way: &mut Way, seen: Seen) -> Found
     requires stage { way.old.stage ≡ stage.Next }
     requires cur { way.old.cur < 2 ^ 23 }
@@ -100,6 +103,7 @@ fn met_next(way: &mut Way, seen: Seen) -> Found
 }
 
 /// The key of a node was loaded.
+#[inline(always)]
 fn met_key(way: &mut Way, seen: Seen) -> Found
     requires stage { way.old.stage ≡ stage.Key }
     requires cur { way.old.cur < 2 ^ 23 }
@@ -128,6 +132,7 @@ fn met_key(way: &mut Way, seen: Seen) -> Found
 }
 
 /// Marked nodes were to be unlinked.
+#[inline(always)]
 fn unlinked(way: &mut Way, seen: Seen) -> Found
     requires stage { way.old.stage ≡ stage.Unlink }
     requires cur { way.old.cur < 2 ^ 23 }
@@ -152,6 +157,7 @@ fn unlinked(way: &mut Way, seen: Seen) -> Found
 }
 
 /// Takes what the step saw, and says what was found.
+#[inline(always)]
 pub fn fed(way: &mut Way, seen: Seen) -> Found
     requires { Asks (search_at way.old) }
     ensures search { (search_at way.new, result) ≡ fed (search_at way.old) seen }

@@ -37,6 +37,7 @@ impl Seeking {
     }
 
     /// What the search asks for.
+    #[inline(always)]
     pub fn asked(&self) -> Request
         requires { Asks self.now }
         ensures { result ≡ asked self.now }
@@ -45,6 +46,7 @@ impl Seeking {
     }
 
     /// Takes what the step saw, and says what was found.
+    #[inline(always)]
     pub fn feed(&mut self, seen: Seen) -> Found
         requires { Asks self.old }
         ensures search { (self.new, result) ≡ fed self.old seen }

@@ -47,7 +47,7 @@ pub fn leads(word: u64, seat: u32) -> bool
 }
 
 /// Whether the call of a record in this phase isn't completed.
-fn is_open(phase: Phase) -> bool
+pub fn is_open(phase: Phase) -> bool
     ensures { result ≡ is_open phase }
 {
     match phase {

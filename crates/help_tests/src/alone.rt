@@ -18,7 +18,6 @@ const ALONE: Setup = Setup {
     seats: 1,
     cap: 8,
     limit: 0,
-    publishes: true,
 };
 
 /// The steps of a call before it is helped: the begin tick, the look, value word, op word and record word, and the

@@ -15,7 +15,6 @@ const TWO: Setup = Setup {
     seats: 2,
     cap: 1,
     limit: 0,
-    publishes: true,
 };
 
 /// Three.
@@ -23,7 +22,6 @@ const THREE: Setup = Setup {
     seats: 3,
     cap: 1,
     limit: 0,
-    publishes: true,
 };
 
 #[test]

@@ -14,7 +14,6 @@ const EIGHT: Setup = Setup {
     seats: 8,
     cap: 16,
     limit: 0,
-    publishes: true,
 };
 
 /// Three.
@@ -22,7 +21,6 @@ const THREE: Setup = Setup {
     seats: 3,
     cap: 8,
     limit: 0,
-    publishes: true,
 };
 
 /// The queue word with seat 2 alone in version 2.

@@ -3,7 +3,7 @@
 use crate::calls::{ADD_5, DEL_5, HAS_5, ONE_TAKE, PUT_7, slow_line};
 use crate::play::Play;
 use crate::queue_rows::{HELP_PUT, PUT_1, SEVEN_1};
-use crate::rows::Row::{Add, Load, Loses, Store, Wins};
+use crate::rows::Row::{self, Add, Load, Loses, Store, Wins};
 use crate::words::{DONE_1, GENERATE_1, QUEUE_1, QUEUE_2, QUEUE_4, VALUE_2, YES_1, YES_2};
 use fast_slow_engine::{Setup, Turn};
 use harris_list::HarrisList;
@@ -16,7 +16,6 @@ const TWO: Setup = Setup {
     seats: 2,
     cap: 8,
     limit: 0,
-    publishes: true,
 };
 
 /// The queue word with seat 1 alone in version 3.
@@ -27,24 +26,26 @@ const ANNOUNCED: u32 = 5;
 
 const ENTERED: u32 = 9;
 
+/// A put that is published by seat 0, up to its entry into the queue word.
+const PUBLISH_PUT: [Row; 9] = [
+    Add(0, 0),
+    Load(1, 0),
+    Store(24, SEVEN_1),
+    Store(4, PUT_1),
+    Store(12, GENERATE_1),
+    Load(1, 0),
+    Load(12, GENERATE_1),
+    Load(13, 0),
+    Wins(1, 0, QUEUE_1),
+];
+
 #[test]
 fn a_put_is_helped_at_the_look_of_a_take(rt: HostRuntime) {
     let Some(mut play) = Play::<MsQueue>::new(rt.alloc(), Client::Queue, TWO) else {
         panic!(rt; "no memory")
     };
     assert!(rt; play.begin(0, PUT_7) && play.begin(1, ONE_TAKE));
-    let published = [
-        Add(0, 0),
-        Load(1, 0),
-        Store(24, SEVEN_1),
-        Store(4, PUT_1),
-        Store(12, GENERATE_1),
-        Load(1, 0),
-        Load(12, GENERATE_1),
-        Load(13, 0),
-        Wins(1, 0, QUEUE_1),
-    ];
-    assert_eq!(rt; play.walk(0, published.as_slice()), Ok(Turn::Going));
+    assert_eq!(rt; play.walk(0, PUBLISH_PUT.as_slice()), Ok(Turn::Going));
     let looks = [Add(0, 1), Load(1, QUEUE_1)];
     assert_eq!(rt; play.walk(1, looks.as_slice()), Ok(Turn::Going));
     assert_eq!(rt; play.walk(1, HELP_PUT.as_slice()), Ok(Turn::Going));

@@ -19,7 +19,6 @@ const THREE: Setup = Setup {
     seats: 3,
     cap: 8,
     limit: 0,
-    publishes: true,
 };
 
 /// The step after which the owner's seat is in the queue word.

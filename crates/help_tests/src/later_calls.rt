@@ -7,13 +7,14 @@ use crate::words::{BIT, DONE_1, EXECUTING_2, GENERATE_1, GENERATE_2, NODE_OF_1, 
 use fast_slow_engine::{Setup, Turn};
 use lin_report::{Client, Reply};
 use ms_queue::MsQueue;
+use std::alloc::Global;
+use std::process::Abort;
 
 /// Two seats, whose calls are published at once.
 const TWO: Setup = Setup {
     seats: 2,
     cap: 8,
     limit: 0,
-    publishes: true,
 };
 
 /// The step after which a call's record is stored, and that after which its seat is in the queue word.
@@ -44,12 +45,37 @@ const BOTH: u64 = (1 << 32) + 1 + (2 << 4);
 
 const SECOND_ALONE: u64 = (2 << 32) + 2;
 
+/// Seat 0 enters, seat 1 makes these steps, and seat 0 ends its call and makes so many of its next one. Then seat 1 takes
+/// these steps, with which it leaves off helping, and both calls end as they should.
+fn leaves_off(rt: &impl Abort, alloc: Global, helped: u32, later: u32, rows: &[Row]) {
+    let Some(mut play) = Play::<MsQueue>::new(alloc, Client::Queue, TWO) else {
+        panic!(rt; "no memory")
+    };
+    assert!(rt; play.begin(0, PUT_7) && play.begin(1, ONE_TAKE));
+    play.steps(0, ENTERED);
+    play.steps(1, helped);
+    assert!(rt; play.finish(0).is_some() && play.begin(0, PUT_9));
+    play.steps(0, later);
+    assert_eq!(rt;
+        play.walk(1, rows),
+        Ok(Turn::Going),
+        "after {helped} and {later}"
+    );
+    let take = play.finish(1);
+    assert!(rt; take.is_some_and(|line| line.reply == Reply::Value(7)));
+    let put = play.finish(0);
+    assert!(rt; put.is_some_and(|line| line.number == 2 && line.reply == Reply::Done));
+}
+
 #[test]
-fn a_helper_leaves_off_where_it_meets_a_later_call(rt: HostRuntime) {
+fn a_helper_leaves_off_where_the_head_is_gone(rt: HostRuntime) {
+    let alloc = rt.alloc();
+    leaves_off(&rt, alloc, 3, 0, [Load(1, QUEUE_2), LEAVES].as_slice());
+}
+
+#[test]
+fn a_helper_leaves_off_where_it_meets_words_of_a_later_call(rt: HostRuntime) {
     for (helped, later, rows) in [
-        // the head is gone
-        (3, 0, [Load(1, QUEUE_2), LEAVES].as_slice()),
-        // the value word, the op word and then the record are those of the next call
         (
             4,
             3,
@@ -77,35 +103,16 @@ fn a_helper_leaves_off_where_it_meets_a_later_call(rt: HostRuntime) {
             5,
             [Load(24, NINE_2), Load(12, GENERATE_2), LEAVES].as_slice(),
         ),
-        // the removal finds the owner at the head with its next call
-        (
-            COMPLETES,
-            ENTERED,
-            [Load(1, QUEUE_3), Load(12, GENERATE_2), LEAVES].as_slice(),
-        ),
-        (
-            COMPLETES,
-            COMPLETED,
-            [Load(1, QUEUE_3), Load(12, DONE_2), LEAVES].as_slice(),
-        ),
     ] {
-        let Some(mut play) = Play::<MsQueue>::new(rt.alloc(), Client::Queue, TWO) else {
-            panic!(rt; "no memory")
-        };
-        assert!(rt; play.begin(0, PUT_7) && play.begin(1, ONE_TAKE));
-        play.steps(0, ENTERED);
-        play.steps(1, helped);
-        assert!(rt; play.finish(0).is_some() && play.begin(0, PUT_9));
-        play.steps(0, later);
-        assert_eq!(rt;
-            play.walk(1, rows),
-            Ok(Turn::Going),
-            "after {helped} and {later}"
-        );
-        let take = play.finish(1);
-        assert!(rt; take.is_some_and(|line| line.reply == Reply::Value(7)));
-        let put = play.finish(0);
-        assert!(rt; put.is_some_and(|line| line.number == 2 && line.reply == Reply::Done));
+        leaves_off(&rt, rt.alloc(), helped, later, rows);
+    }
+}
+
+#[test]
+fn a_removal_leaves_off_where_the_owner_heads_with_a_later_call(rt: HostRuntime) {
+    for (later, record) in [(ENTERED, GENERATE_2), (COMPLETED, DONE_2)] {
+        let rows = [Load(1, QUEUE_3), Load(12, record), LEAVES];
+        leaves_off(&rt, rt.alloc(), COMPLETES, later, rows.as_slice());
     }
 }
 

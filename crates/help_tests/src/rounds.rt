@@ -18,14 +18,12 @@ const TWO: Setup = Setup {
     seats: 2,
     cap: 8,
     limit: 0,
-    publishes: true,
 };
 
 const TWO_AFTER_ONE: Setup = Setup {
     seats: 2,
     cap: 8,
     limit: 1,
-    publishes: true,
 };
 
 /// The first entry is not made yet: a taker makes it.

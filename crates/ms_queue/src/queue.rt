@@ -36,10 +36,12 @@ impl Normalized for MsQueue {
         begun(op)
     }
 
+    #[inline(always)]
     fn request(search: &QueueSearch) -> Request {
         asked(*search)
     }
 
+    #[inline(always)]
     fn feed(search: &mut QueueSearch, seen: Seen) -> Found {
         let (after, found) = fed(*search, seen);
         *search = after;

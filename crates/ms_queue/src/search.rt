@@ -22,6 +22,7 @@ pub fn begun(op: Op) -> QueueSearch
 }
 
 /// The exchange that moves the tail to the node that the next word names.
+#[inline(always)]
 fn help(tail: u64, next: u64) -> Request
     ensures { result ≡ asked (QueueSearch.PutHelp tail next) }
 {
@@ -33,6 +34,7 @@ fn help(tail: u64, next: u64) -> Request
 }
 
 /// What a search asks for.
+#[inline(always)]
 pub fn asked(search: QueueSearch) -> Request
     ensures { result ≡ asked search }
 {
@@ -54,6 +56,7 @@ pub fn asked(search: QueueSearch) -> Request
 }
 
 /// A put has loaded the next word of the tail's node.
+#[inline(always)]
 fn met_by_put(tail: u64, next: u64) -> (QueueSearch, Found)
     ensures { result ≡ met_by_put tail next }
 {
@@ -68,6 +71,7 @@ fn met_by_put(tail: u64, next: u64) -> (QueueSearch, Found)
 }
 
 /// A take has loaded the next word of the head's node.
+#[inline(always)]
 fn met_by_take(head: u64, tail: u64, next: u64) -> (QueueSearch, Found)
     ensures { result ≡ met_by_take head tail next }
 {
@@ -83,6 +87,7 @@ fn met_by_take(head: u64, tail: u64, next: u64) -> (QueueSearch, Found)
 }
 
 /// A take has loaded the head.
+#[inline(always)]
 fn met_head(head: u64) -> (QueueSearch, Found)
     ensures { result ≡ fed QueueSearch.TakeHead (record { before = head; won = true }) }
 {
@@ -94,6 +99,7 @@ fn met_head(head: u64) -> (QueueSearch, Found)
 }
 
 /// What a search is after its step, and what it found.
+#[inline(always)]
 pub fn fed(search: QueueSearch, seen: Seen) -> (QueueSearch, Found)
     ensures { result ≡ fed search seen }
 {

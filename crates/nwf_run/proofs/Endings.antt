@@ -34,7 +34,7 @@ module _ (tells : Bool) (held : List ℕ → Option (List ℕ)) (words : Option 
 
   -- a text was written whole, and no call of the run found no block left
   abbrev Done : Type 0
-  Done = IsSomeAnd words (λ a. (run : FilesRun) × IsRunFor tells held a run × RunMeetsHeadline (client_asked a) run × (¬ Exhausts run.report) × Appends written written' (text_for a run.report))
+  Done = IsSomeAnd words (λ a. (run : FilesRun) × IsRunFor tells held a run × RunMeetsHeadline (client_asked a) run × (¬ Exhausts run.report) × Appends written written' (text_for a run))
 
   pub done : (answer : Result Replayed Stop) → Made answer → Ends written written' faults faults' status answer → status ≡ 0 → Done
   done (Err stop) made ends none = absurd (not_report stop status ends.0 (inl none))
@@ -44,7 +44,7 @@ module _ (tells : Bool) (held : List ℕ → Option (List ℕ)) (words : Option 
 
   -- a text was written whole, and a call of the run found no block left
   abbrev Exhausted : Type 0
-  Exhausted = IsSomeAnd words (λ a. (run : FilesRun) × IsRunFor tells held a run × RunMeetsHeadline (client_asked a) run × Exhausts run.report × Appends written written' (text_for a run.report))
+  Exhausted = IsSomeAnd words (λ a. (run : FilesRun) × IsRunFor tells held a run × RunMeetsHeadline (client_asked a) run × Exhausts run.report × Appends written written' (text_for a run))
 
   pub exhausted : (answer : Result Replayed Stop) → Made answer → Ends written written' faults faults' status answer → status ≡ 7 → Exhausted
   exhausted (Err stop) made ends seven = absurd (not_report stop status ends.0 (inr (inr seven)))
@@ -54,7 +54,7 @@ module _ (tells : Bool) (held : List ℕ → Option (List ℕ)) (words : Option 
 
   -- the first bytes of a text were written
   abbrev Cut : Type 0
-  Cut = IsSomeAnd words (λ a. (run : FilesRun) × IsRunFor tells held a run × RunMeetsHeadline (client_asked a) run × AppendsPrefix written written' (text_for a run.report))
+  Cut = IsSomeAnd words (λ a. (run : FilesRun) × IsRunFor tells held a run × RunMeetsHeadline (client_asked a) run × AppendsPrefix written written' (text_for a run))
 
   pub cut : (answer : Result Replayed Stop) → Made answer → Ends written written' faults faults' status answer → status ≡ 5 → Cut
   cut (Err stop) made ends five = absurd (not_report stop status ends.0 (inr (inl five)))

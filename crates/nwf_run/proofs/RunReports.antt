@@ -1,5 +1,5 @@
 -- The report of a run, written from its lines put in order.
-use Rattle.std.proofs.Common.{◌≡◌, ℕ, ◌+◌, ◌≤◌, ◌↔◌, Bool, true, false, List, length, map, Option, Some, Vec, All, IsPermutation, refl, sym, ap, ◌∙◌, subst, arith, rules}
+use Rattle.std.proofs.Common.{◌≡◌, ℕ, zero, suc, ◌+◌, ◌≤◌, ◌↔◌, Bool, true, false, List, length, map, Option, Some, Vec, All, IsPermutation, refl, sym, ap, ◌∙◌, subst, arith, rules}
 use Rattle.std.specs.List.{Any, list_any}
 use Rattle.std.specs.Prelude.{sum_by, IfSome}
 use Rattle.std.specs.Global.{Global}
@@ -25,6 +25,8 @@ use Rattle.fast_slow_engine.specs.Runs.{RunState, pending_of}
 use Rattle.run_laws.specs.Files.{FilesFit}
 use Rattle.fast_slow_engine.specs.Reports.{report_of_run}
 use Rattle.event_core.specs.Cores.{CoreView, core_new, with_receipts}
+use Rattle.overtaking_law.specs.Overtaking.{greatest_overtaken}
+use Rattle.run_overtaking.specs.Accounts.{most_overtaken}
 use Rattle.schedule_runs.specs.Orders.{Follows, core_in}
 use Rattle.nwf_run.specs.Writable.{CanBeWritten, RunsCanBeWritten}
 use Rattle.nwf_run.proofs.SameOrder.{apart_moved, apart_pairs, calls_moved, same_summary, same_text}
@@ -57,8 +59,8 @@ module _ {S W : Type 0} (state : RunState S W) (receipts : List Receipt) (pendin
   pub text_is : (count : Option ℕ) (most : ℕ) → CanBeWritten state most → report_text (report_of receipts pending) count ≡ report_text (report_of_run state) count
   text_is count most can = sym (same_text (report_of_run state) (report_of receipts pending) count lines calls can.apart)
 
-  pub summary_is : summary_text (report_of receipts pending) (Some 0) ≡ summary_text (report_of_run state) (Some 0)
-  summary_is = sym (same_summary (report_of_run state) (report_of receipts pending) (Some 0) lines calls)
+  pub summary_is : (count : Option ℕ) → summary_text (report_of receipts pending) count ≡ summary_text (report_of_run state) count
+  summary_is count = sym (same_summary (report_of_run state) (report_of receipts pending) count lines calls)
 
   pub marked : (mark : Bool) → mark ≡ list_any (λ (r : Receipt). reply_is_exhausted r.reply) receipts → (mark ≡ true) ↔ Any (λ (r : Receipt). r.reply ≡ Exhausted) state.receipts
   marked mark is =
@@ -67,6 +69,25 @@ module _ {S W : Type 0} (state : RunState S W) (receipts : List Receipt) (pendin
         λ yes. let (k, r, within, at, h) = Any-from_list_any test state.receipts (sym same ∙ yes) in (k, r, within, at, exhausted_is r.reply h),
         λ (k, r, within, at, h). same ∙ list_any-from_Any test state.receipts (k, r, within, at, ap reply_is_exhausted h),
       )
+
+-- ---- overtaking
+
+-- the greatest count fits its room
+pub few_overtaken : (seats count : ℕ) → seats ≤ 8 → count ≤ most_overtaken seats → count ≤ 524280
+few_overtaken zero count few most = (let n = most in omega (arith, n))
+few_overtaken (suc zero) count few most = (let n = most in omega (arith, n))
+few_overtaken (suc (suc zero)) count few most = (let n = most in omega (arith, n))
+few_overtaken (suc (suc (suc zero))) count few most = (let n = most in omega (arith, n))
+few_overtaken (suc (suc (suc (suc zero)))) count few most = (let n = most in omega (arith, n))
+few_overtaken (suc (suc (suc (suc (suc zero))))) count few most = (let n = most in omega (arith, n))
+few_overtaken (suc (suc (suc (suc (suc (suc zero)))))) count few most = (let n = most in omega (arith, n))
+few_overtaken (suc (suc (suc (suc (suc (suc (suc zero))))))) count few most = (let n = most in omega (arith, n))
+few_overtaken (suc (suc (suc (suc (suc (suc (suc (suc zero)))))))) count few most = (let n = most in omega (arith, n))
+few_overtaken (suc (suc (suc (suc (suc (suc (suc (suc (suc n))))))))) count few most = absurd (omega (arith, few))
+
+-- the count of a core whose lines are in order is that of its run
+pub count_is : {S W : Type 0} (core after : CoreView S W) (count : ℕ) → after ≡ with_receipts after.state.receipts core → count ≡ greatest_overtaken after.state.events → count ≡ greatest_overtaken core.state.events
+count_is core after count kept is = is ∙ ap (λ (v : CoreView _ _). greatest_overtaken v.state.events) kept
 
 -- ---- what the code has of a run
 
@@ -109,7 +130,7 @@ module _ {S W : Type 0} where
         subst (λ s. Follows form s (core_new form setup (files_of commands)) core) same (subst (λ v. Follows form schedule v core) is follows)
 
     -- a core that is the run of the commands in an order
-    pub can_be_written : (setup : Setup) (commands : List (Vec Op Global)) (order : List ℕ) (core : CoreView S W) → RunsCanBeWritten form → length commands ≡ setup.seats → setup.publishes ≡ false → All (λ (ops : Vec Op Global). IsCommandFile form.client ops.items) commands
+    pub can_be_written : (setup : Setup) (commands : List (Vec Op Global)) (order : List ℕ) (core : CoreView S W) → RunsCanBeWritten form → length commands ≡ setup.seats → All (λ (ops : Vec Op Global). IsCommandFile form.client ops.items) commands
         → core ≡ core_in form setup (files_of commands) order → CanBeWritten core.state (sum_by length (files_of commands))
-    can_be_written setup commands order core writable count quiet each is =
-        subst (λ (v : CoreView S W). CanBeWritten v.state (sum_by length (files_of commands))) (sym is) (writable setup (files_of commands) order (files_fit form.client setup commands count each) quiet)
+    can_be_written setup commands order core writable count each is =
+        subst (λ (v : CoreView S W). CanBeWritten v.state (sum_by length (files_of commands))) (sym is) (writable setup (files_of commands) order (files_fit form.client setup commands count each))

@@ -249,13 +249,13 @@ module _ {S W : Type 0} (form : NormalForm S W) (setup : Setup) (files : List (L
 module _ {S W : Type 0} (form : NormalForm S W) where
   -- no move but those that draw ticks writes the tick counter, in any order of the seats
   abbrev pub OrdersKeepTicks : Type 0
-  OrdersKeepTicks = (setup : Setup) (files : List (List Op)) (order : List ℕ) → FilesFit form.client setup files → setup.publishes ≡ false → KeepsTicks form setup (moves_over form setup files order)
+  OrdersKeepTicks = (setup : Setup) (files : List (List Op)) (order : List ℕ) → FilesFit form.client setup files → KeepsTicks form setup (moves_over form setup files order)
 
   -- each reply is one that its command may be given
   abbrev pub RepliesFit : Type 0
   RepliesFit =
-      (setup : Setup) (files : List (List Op)) (order : List ℕ) → FilesFit form.client setup files → setup.publishes ≡ false
+      (setup : Setup) (files : List (List Op)) (order : List ℕ) → FilesFit form.client setup files
       → All (λ (r : Receipt). IsReplyTo r.op r.reply) (run_of form setup (moves_over form setup files order)).receipts
 
   pub runs_can_be_written : OrdersKeepTicks → RepliesFit → RunsCanBeWritten form
-  runs_can_be_written keeps replies setup files order fit quiet = can_be_written form setup files order fit (keeps setup files order fit quiet) (replies setup files order fit quiet)
+  runs_can_be_written keeps replies setup files order fit = can_be_written form setup files order fit (keeps setup files order fit) (replies setup files order fit)

@@ -2,7 +2,7 @@
 use Rattle.std.specs.Prelude.{◌≡◌, ℕ, ◌*◌, Bool, List, Some}
 use Rattle.lin_report.specs.Text.{summary_text}
 use Rattle.normal_traits.specs.NormalForm.{NormalForm}
-use Rattle.run_history.specs.Headline.{MeetsHeadline}
+use Rattle.run_reports.specs.Headline.{MeetsHeadline}
 use Rattle.generated_files.specs.Generated.{generated_files}
 use Rattle.schedule_runs.specs.Rounds.{rounds}
 use Rattle.nwf_run.specs.declared.load_words.LoadWords.{LoadWords}
@@ -27,4 +27,4 @@ pub record IsLoaded {S W : Type 0} (form : NormalForm S W) (load : LoadWords) (t
   pub in_rounds : run.order ≡ rounds load.threads (load.calls * ROUNDS_OF_A_CALL)
   pub is : IsRun form load.cap load.limit run
   pub headline : MeetsHeadline form run.setup run.commands run.order
-  pub text_is : IsTextOf run.report (summary_text run.report (Some 0)) text exhausted
+  pub text_is : IsTextOf run.report (summary_text run.report (Some run.overtaken)) text exhausted

@@ -36,17 +36,17 @@ IsRunFor tells held (a_run r) run = IsRunOfFiles tells held r run
 
 -- what is written of its report: all of it for a replay, for a load the summary alone, and for a run with threads
 -- all of it without a count of overtaking
-abbrev pub text_for : Asked → Report → List ℕ
-text_for (a_replay r) report = report_text report (Some 0)
-text_for (a_load l) report = summary_text report (Some 0)
-text_for (a_run r) report = report_text report None
+abbrev pub text_for : Asked → FilesRun → List ℕ
+text_for (a_replay r) run = report_text run.report (Some run.overtaken)
+text_for (a_load l) run = summary_text run.report (Some run.overtaken)
+text_for (a_run r) run = report_text run.report None
 
 -- the text is that of the run that is asked for, which meets the headline
 pub record Makes (tells : Bool) (held : List ℕ → Option (List ℕ)) (asked : Asked) (text : List ℕ) (exhausted : Bool) : Type 0 where
   pub run : FilesRun
   pub is : IsRunFor tells held asked run
   pub headline : RunMeetsHeadline (client_asked asked) run
-  pub text_is : IsTextOf run.report (text_for asked run.report) text exhausted
+  pub text_is : IsTextOf run.report (text_for asked run) text exhausted
 
 -- why a call stops: its words ask for nothing that is served, or reading stopped at a file, or a load had no memory
 abbrev pub StopsFor : Bool → (List ℕ → Option (List ℕ)) → Option Asked → Stop → Type 0

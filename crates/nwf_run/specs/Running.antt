@@ -3,7 +3,7 @@ use Rattle.std.specs.Prelude.{◌≡◌, ℕ, Bool, IsTrue, List, [], length, su
 use Rattle.lin_report.specs.declared.calls.Op.{Op}
 use Rattle.lin_report.specs.Text.{report_text}
 use Rattle.normal_traits.specs.NormalForm.{NormalForm}
-use Rattle.run_history.specs.Headline.{MeetsHeadline}
+use Rattle.run_reports.specs.Headline.{MeetsHeadline}
 use Rattle.nwf_run.specs.Forms.{form_of}
 use Rattle.nwf_run.specs.Judging.{SayFirst}
 use Rattle.nwf_run.specs.Reading.{files_by_name}

@@ -1,5 +1,5 @@
 -- Runs of command files and their reports, and what every such run meets.
-use Rattle.std.specs.Prelude.{◌≡◌, ℕ, ◌↔◌, Bool, true, false, List, length, Some, Any}
+use Rattle.std.specs.Prelude.{◌≡◌, ℕ, ◌↔◌, Bool, true, List, length, Some, Any}
 use Rattle.lin_report.specs.declared.calls.Client.{Client}
 use Rattle.lin_report.specs.declared.calls.Op.{Op}
 use Rattle.lin_report.specs.declared.calls.Receipt.{Receipt}
@@ -11,7 +11,8 @@ use Rattle.normal_traits.specs.NormalForm.{NormalForm}
 use Rattle.fast_slow_engine.specs.declared.setup.Setup.{Setup}
 use Rattle.fast_slow_engine.specs.Runs.{moves_over, run_of}
 use Rattle.fast_slow_engine.specs.Reports.{report_of_run}
-use Rattle.run_history.specs.Headline.{MeetsHeadline}
+use Rattle.overtaking_law.specs.Overtaking.{greatest_overtaken}
+use Rattle.run_reports.specs.Headline.{MeetsHeadline}
 use Rattle.schedule_runs.specs.Orders.{IsOrderOf}
 use Rattle.nwf_run.specs.Forms.{AtOnceButTheTree, form_of}
 use Rattle.nwf_run.specs.Judging.{Accepts, files_of_bytes}
@@ -24,15 +25,17 @@ pub record FilesRun : Type 0 where
   -- the seats of the steps, the newest first
   pub order : List ℕ
   pub report : Report
+  -- the greatest overtaking count of its calls
+  pub overtaken : ℕ
 
--- the run is that of its commands in its order, with a seat for each list of them, so many blocks and this limit, no call
--- is published in it, and the report is that of this run
+-- the run is that of its commands in its order, with a seat for each list of them, so many blocks and this limit, and the
+-- report and the count are those of this run
 pub record IsRun {S W : Type 0} (form : NormalForm S W) (cap limit : ℕ) (run : FilesRun) : Type 0 where
   pub has_seats : run.setup.seats ≡ length run.commands
   pub has_cap : run.setup.cap ≡ cap
   pub has_limit : run.setup.limit ≡ limit
-  pub unpublished : run.setup.publishes ≡ false
   pub made : run.report ≡ report_of_run (run_of form run.setup (moves_over form run.setup run.commands run.order))
+  pub counted : run.overtaken ≡ greatest_overtaken (run_of form run.setup (moves_over form run.setup run.commands run.order)).events
 
 -- what the laws of every run give for this one: its report is complete and linearizable, and more; and for which clients
 -- the first entry of each list makes its change, which is the premise of one part of it: of the queue, the list and the
@@ -56,7 +59,7 @@ pub record IsDriven {S W : Type 0} (form : NormalForm S W) (cap limit : ℕ) (en
   pub named : IsOrderOf form run.setup run.commands entries run.order
   pub is : IsRun form cap limit run
   pub headline : MeetsHeadline form run.setup run.commands run.order
-  pub text_is : IsTextOf run.report (report_text run.report (Some 0)) text exhausted
+  pub text_is : IsTextOf run.report (report_text run.report (Some run.overtaken)) text exhausted
 
 -- the run is that of a replay of these bytes: of the commands of its files, in the order that its schedule names, where
 -- all of them are accepted
@@ -71,4 +74,4 @@ pub record MakesReplayOfBytes (client : Client) (cap limit : ℕ) (schedule : Li
   pub run : FilesRun
   pub is : IsReplayOfBytes client cap limit schedule files run
   pub headline : RunMeetsHeadline client run
-  pub text_is : IsTextOf run.report (report_text run.report (Some 0)) text exhausted
+  pub text_is : IsTextOf run.report (report_text run.report (Some run.overtaken)) text exhausted

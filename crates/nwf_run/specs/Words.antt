@@ -36,12 +36,12 @@ replay_of (Some structure) (Some cap) None schedule files = None
 replay_of (Some structure) None limit schedule files = None
 replay_of None cap limit schedule files = None
 
--- `replay CLIENT CAP LIMIT SCHEDULE` and one to eight FILE words, with 1 to 65,536 blocks and a limit from 1
+-- `replay CLIENT CAP LIMIT SCHEDULE` and one to eight FILE words, with 1 to 65,536 blocks and a limit from 0
 -- to 255; other words are no replay
 abbrev pub replay_words : List (List ℕ) → Option Replay
 replay_words (command ∷ client ∷ cap ∷ limit ∷ schedule ∷ files) =
     if bytes_eq command (codes "replay") && nat_lt 0 (length files) && nat_le (length files) 8
-    then replay_of (client_named client) (number_in 1 65536 cap) (number_in 1 255 limit) (Some schedule) files
+    then replay_of (client_named client) (number_in 1 65536 cap) (number_in 0 255 limit) (Some schedule) files
     else None
 replay_words _ = None
 
@@ -49,7 +49,7 @@ replay_words _ = None
 abbrev pub run_words : List (List ℕ) → Option Replay
 run_words (command ∷ client ∷ cap ∷ limit ∷ files) =
     if bytes_eq command (codes "run") && nat_lt 0 (length files) && nat_le (length files) 8
-    then replay_of (client_named client) (number_in 1 65536 cap) (number_in 1 255 limit) None files
+    then replay_of (client_named client) (number_in 1 65536 cap) (number_in 0 255 limit) None files
     else None
 run_words _ = None
 
@@ -64,12 +64,12 @@ load_of (Some structure) (Some cap) (Some limit) (Some threads) (Some calls) (So
     Some (record { client = structure; cap = cap; limit = limit; threads = threads; calls = calls; seed = seed })
 load_of _ _ _ _ _ _ = None
 
--- `load CLIENT CAP LIMIT THREADS CALLS SEED`, with 1 to 65,536 blocks, a limit from 1 to 255, one to eight seats,
+-- `load CLIENT CAP LIMIT THREADS CALLS SEED`, with 1 to 65,536 blocks, a limit from 0 to 255, one to eight seats,
 -- 1 to 65,535 calls of each, and a seed of 32 bits; other words are no load
 abbrev pub load_words : List (List ℕ) → Option LoadWords
 load_words (command ∷ client ∷ cap ∷ limit ∷ threads ∷ calls ∷ seed ∷ []) =
     if bytes_eq command (codes "load")
-    then load_of (client_named client) (number_in 1 65536 cap) (number_in 1 255 limit) (number_in 1 8 threads) (number_in 1 65535 calls) (number_in 0 4294967295 seed)
+    then load_of (client_named client) (number_in 1 65536 cap) (number_in 0 255 limit) (number_in 1 8 threads) (number_in 1 65535 calls) (number_in 0 4294967295 seed)
     else None
 load_words _ = None
 

@@ -16,8 +16,8 @@ pub record CanBeWritten {S W : Type 0} (state : RunState S W) (calls : ℕ) : Ty
   pub apart : (t : ℕ) → count_by (λ c. c.begin == t) (calls_of (report_of_run state)) ≤ 1
   pub few : length state.receipts + length (pending_of state.mechs) ≤ calls
 
--- every run over command files in which no call is published can be written, in any order of the seats, with a line for
+-- every run over command files can be written, in any order of the seats, with a line for
 -- each command
 abbrev pub RunsCanBeWritten : {S W : Type 0} → NormalForm S W → Type 0
 RunsCanBeWritten form =
-    (setup : Setup) (files : List (List Op)) (order : List ℕ) → FilesFit form.client setup files → setup.publishes ≡ false → CanBeWritten (run_of form setup (moves_over form setup files order)) (sum_by length files)
+    (setup : Setup) (files : List (List Op)) (order : List ℕ) → FilesFit form.client setup files → CanBeWritten (run_of form setup (moves_over form setup files order)) (sum_by length files)

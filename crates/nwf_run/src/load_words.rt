@@ -39,7 +39,7 @@ pub fn load_words(words: &[String]) -> Option<LoadWords>
     Some(LoadWords {
         client: client_named(client.as_str())?,
         cap: number_in(1, MAX_CAP, cap.as_str())?,
-        limit: number_in(1, MAX_LIMIT, limit.as_str())?,
+        limit: number_in(0, MAX_LIMIT, limit.as_str())?,
         threads: number_in(1, MAX_THREADS, threads.as_str())?,
         calls: number_in(1, MAX_CALLS, calls.as_str())?,
         seed: number_in(0, u32::MAX, seed.as_str())?,

@@ -13,7 +13,7 @@ use generated_files::generate;
 use generated_files::laws::each_runs;
 use lin_report::{NoMemory, report_room, write_summary};
 use normal_traits::Normalized;
-use run_history::headline::files_meet_headline;
+use run_reports::headline::files_meet_headline;
 use schedule_runs::laws::steps_run_in_order;
 use schedule_runs::take_rounds;
 use std::alloc::Global;
@@ -34,7 +34,6 @@ fn summary_of<C: Normalized>(alloc: Global, load: LoadWords) -> Result<Replayed,
         seats: load.threads,
         cap: load.cap,
         limit: load.limit,
-        publishes: false,
     };
     let mut text = report_room(alloc, 0)?;
     each_runs();
@@ -46,7 +45,13 @@ fn summary_of<C: Normalized>(alloc: Global, load: LoadWords) -> Result<Replayed,
     steps_run_in_order::<C>();
     runs_can_be_written::<C>();
     files_meet_headline::<C>();
-    write_summary(&mut text, core.receipts(), pending.as_slice(), Some(0));
+    let overtaken = core.greatest_overtaken();
+    write_summary(
+        &mut text,
+        core.receipts(),
+        pending.as_slice(),
+        Some(overtaken),
+    );
     let exhausted = any_exhausted(core.receipts());
     Ok(Replayed { text, exhausted })
 }

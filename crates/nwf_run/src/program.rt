@@ -42,9 +42,9 @@ pub fn nwf_main<R: Threads + Wait + Sync, F: Files, K: Sink, G: Gate + Sync>(
 
     // What is written is the text of the run that is asked for, which meets the headline: all of it or, after a
     // fault of the sink, its first bytes; the status says whether a call of it found no block left.
-    ensures done { result ≡ 0 → IsSomeAnd (nwf_asked (map string_bytes words.now)) (λ a. (run : FilesRun) × IsRunFor (F.tells files.old) (F.held files.old) a run × RunMeetsHeadline (client_asked a) run × (¬ Exhausts run.report) × Appends (K.written out.old) (K.written out.new) (text_for a run.report)) }
-    ensures exhausted { result ≡ 7 → IsSomeAnd (nwf_asked (map string_bytes words.now)) (λ a. (run : FilesRun) × IsRunFor (F.tells files.old) (F.held files.old) a run × RunMeetsHeadline (client_asked a) run × Exhausts run.report × Appends (K.written out.old) (K.written out.new) (text_for a run.report)) }
-    ensures cut { result ≡ 5 → IsSomeAnd (nwf_asked (map string_bytes words.now)) (λ a. (run : FilesRun) × IsRunFor (F.tells files.old) (F.held files.old) a run × RunMeetsHeadline (client_asked a) run × AppendsPrefix (K.written out.old) (K.written out.new) (text_for a run.report)) }
+    ensures done { result ≡ 0 → IsSomeAnd (nwf_asked (map string_bytes words.now)) (λ a. (run : FilesRun) × IsRunFor (F.tells files.old) (F.held files.old) a run × RunMeetsHeadline (client_asked a) run × (¬ Exhausts run.report) × Appends (K.written out.old) (K.written out.new) (text_for a run)) }
+    ensures exhausted { result ≡ 7 → IsSomeAnd (nwf_asked (map string_bytes words.now)) (λ a. (run : FilesRun) × IsRunFor (F.tells files.old) (F.held files.old) a run × RunMeetsHeadline (client_asked a) run × Exhausts run.report × Appends (K.written out.old) (K.written out.new) (text_for a run)) }
+    ensures cut { result ≡ 5 → IsSomeAnd (nwf_asked (map string_bytes words.now)) (λ a. (run : FilesRun) × IsRunFor (F.tells files.old) (F.held files.old) a run × RunMeetsHeadline (client_asked a) run × AppendsPrefix (K.written out.old) (K.written out.new) (text_for a run)) }
 
     // A file is refused only where it is there and not accepted and each file before it is, and the message
     // names it. No later one was opened.

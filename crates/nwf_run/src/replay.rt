@@ -111,9 +111,9 @@ pub fn replay_main<F: Files, K: Sink>(
 
     // What is written for accepted files is the report of their run, which meets the headline: all of it or,
     // after a fault of the sink, its first bytes; the status says whether a call of it found no block left.
-    ensures done { result ≡ 0 → IsSomeAnd (asked_words (map string_bytes words.now)) (λ a. (run : FilesRun) × IsRunFor (F.tells files.old) (F.held files.old) a run × RunMeetsHeadline (client_asked a) run × (¬ Exhausts run.report) × Appends (K.written out.old) (K.written out.new) (text_for a run.report)) }
-    ensures exhausted { result ≡ 7 → IsSomeAnd (asked_words (map string_bytes words.now)) (λ a. (run : FilesRun) × IsRunFor (F.tells files.old) (F.held files.old) a run × RunMeetsHeadline (client_asked a) run × Exhausts run.report × Appends (K.written out.old) (K.written out.new) (text_for a run.report)) }
-    ensures cut { result ≡ 5 → IsSomeAnd (asked_words (map string_bytes words.now)) (λ a. (run : FilesRun) × IsRunFor (F.tells files.old) (F.held files.old) a run × RunMeetsHeadline (client_asked a) run × AppendsPrefix (K.written out.old) (K.written out.new) (text_for a run.report)) }
+    ensures done { result ≡ 0 → IsSomeAnd (asked_words (map string_bytes words.now)) (λ a. (run : FilesRun) × IsRunFor (F.tells files.old) (F.held files.old) a run × RunMeetsHeadline (client_asked a) run × (¬ Exhausts run.report) × Appends (K.written out.old) (K.written out.new) (text_for a run)) }
+    ensures exhausted { result ≡ 7 → IsSomeAnd (asked_words (map string_bytes words.now)) (λ a. (run : FilesRun) × IsRunFor (F.tells files.old) (F.held files.old) a run × RunMeetsHeadline (client_asked a) run × Exhausts run.report × Appends (K.written out.old) (K.written out.new) (text_for a run)) }
+    ensures cut { result ≡ 5 → IsSomeAnd (asked_words (map string_bytes words.now)) (λ a. (run : FilesRun) × IsRunFor (F.tells files.old) (F.held files.old) a run × RunMeetsHeadline (client_asked a) run × AppendsPrefix (K.written out.old) (K.written out.new) (text_for a run)) }
 
     // A file is refused only where it is there and not accepted and each file before it is, and the message
     // names it. No later one was opened.

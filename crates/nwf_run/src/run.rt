@@ -98,9 +98,9 @@ pub fn run_main<R: Threads + Wait + Sync, F: Files, K: Sink, G: Gate + Sync>(
     // What is written for accepted files is the report of a run of them, in which every command was made and
     // answered, and which meets the headline in the order in which the threads made its steps: all of it or,
     // after a fault of the sink, its first bytes; the status says whether a call of it found no block left.
-    ensures done { result ≡ 0 → IsSomeAnd (run_asked (map string_bytes words.now)) (λ a. (run : FilesRun) × IsRunFor (F.tells files.old) (F.held files.old) a run × RunMeetsHeadline (client_asked a) run × (¬ Exhausts run.report) × Appends (K.written out.old) (K.written out.new) (text_for a run.report)) }
-    ensures exhausted { result ≡ 7 → IsSomeAnd (run_asked (map string_bytes words.now)) (λ a. (run : FilesRun) × IsRunFor (F.tells files.old) (F.held files.old) a run × RunMeetsHeadline (client_asked a) run × Exhausts run.report × Appends (K.written out.old) (K.written out.new) (text_for a run.report)) }
-    ensures cut { result ≡ 5 → IsSomeAnd (run_asked (map string_bytes words.now)) (λ a. (run : FilesRun) × IsRunFor (F.tells files.old) (F.held files.old) a run × RunMeetsHeadline (client_asked a) run × AppendsPrefix (K.written out.old) (K.written out.new) (text_for a run.report)) }
+    ensures done { result ≡ 0 → IsSomeAnd (run_asked (map string_bytes words.now)) (λ a. (run : FilesRun) × IsRunFor (F.tells files.old) (F.held files.old) a run × RunMeetsHeadline (client_asked a) run × (¬ Exhausts run.report) × Appends (K.written out.old) (K.written out.new) (text_for a run)) }
+    ensures exhausted { result ≡ 7 → IsSomeAnd (run_asked (map string_bytes words.now)) (λ a. (run : FilesRun) × IsRunFor (F.tells files.old) (F.held files.old) a run × RunMeetsHeadline (client_asked a) run × Exhausts run.report × Appends (K.written out.old) (K.written out.new) (text_for a run)) }
+    ensures cut { result ≡ 5 → IsSomeAnd (run_asked (map string_bytes words.now)) (λ a. (run : FilesRun) × IsRunFor (F.tells files.old) (F.held files.old) a run × RunMeetsHeadline (client_asked a) run × AppendsPrefix (K.written out.old) (K.written out.new) (text_for a run)) }
 
     // A file is refused only where it is there and not accepted and each file before it is, and the message
     // names it. No later one was opened.

@@ -15,7 +15,7 @@ use event_core::Core;
 use fast_slow_engine::Setup;
 use lin_report::{Client, NoMemory, Op, Receipt, Reply, report_room, write_report};
 use normal_traits::Normalized;
-use run_history::headline::files_meet_headline;
+use run_reports::headline::files_meet_headline;
 use schedule_runs::drive;
 use schedule_runs::laws::runs_in_order;
 use std::alloc::Global;
@@ -50,7 +50,7 @@ pub fn any_exhausted(receipts: &[Receipt]) -> bool
         .any(|receipt| matches!(receipt.reply, Reply::Exhausted))
 }
 
-/// Every run over command files in which no call is published can be written, in any order of the seats.
+/// Every run over command files can be written, in any order of the seats.
 pub fn runs_can_be_written<C: Normalized>()
     ensures { RunsCanBeWritten C.form }
 {}
@@ -75,7 +75,6 @@ pub fn report_of<C: Normalized>(
         seats: scripts.commands.len() as u32,
         cap,
         limit,
-        publishes: false,
     };
     let mut text = report_room(alloc, commands_of(&scripts.commands))?;
     let mut core = Core::<C>::new(alloc, setup, scripts.commands)?;
@@ -85,7 +84,13 @@ pub fn report_of<C: Normalized>(
     runs_in_order::<C>();
     runs_can_be_written::<C>();
     files_meet_headline::<C>();
-    write_report(&mut text, core.receipts(), pending.as_slice(), Some(0));
+    let overtaken = core.greatest_overtaken();
+    write_report(
+        &mut text,
+        core.receipts(),
+        pending.as_slice(),
+        Some(overtaken),
+    );
     let exhausted = any_exhausted(core.receipts());
     Ok(Replayed { text, exhausted })
 }

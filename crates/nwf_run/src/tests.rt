@@ -9,4 +9,5 @@ mod queues;
 mod refusals;
 mod rows;
 mod runs;
+mod slow;
 mod trees;

@@ -39,7 +39,6 @@ fn threaded<C: Normalized + Send + Sync, R: Threads + Wait + Sync, G: Gate + Syn
         seats: commands.len() as u32,
         cap,
         limit,
-        publishes: false,
     };
     let mut text = report_room(alloc, commands_of(&commands))?;
     let (mut lines, _) = run::<R, C, G>(rt, alloc, setup, commands, gate)?;

@@ -63,7 +63,7 @@ pub fn replay_words(words: &[String]) -> Option<ReplayWords<'_>>
     match (
         client_named(client.as_str()),
         number_in(1, MAX_CAP, cap.as_str()),
-        number_in(1, MAX_LIMIT, limit.as_str()),
+        number_in(0, MAX_LIMIT, limit.as_str()),
     ) {
         (Some(client), Some(cap), Some(limit)) => Some(ReplayWords {
             client,
@@ -92,7 +92,7 @@ pub fn run_words(words: &[String]) -> Option<RunWords<'_>>
     match (
         client_named(client.as_str()),
         number_in(1, MAX_CAP, cap.as_str()),
-        number_in(1, MAX_LIMIT, limit.as_str()),
+        number_in(0, MAX_LIMIT, limit.as_str()),
     ) {
         (Some(client), Some(cap), Some(limit)) => Some(RunWords {
             client,

@@ -24,7 +24,6 @@ pub fn one_file(alloc: Global, file: &[u8], cap: u32) -> Option<Core<MsQueue>>
         seats: 1,
         cap,
         limit: LIMIT,
-        publishes: false,
     };
     Core::new(alloc, setup, files).ok()
 }
@@ -42,7 +41,6 @@ pub fn two_files(alloc: Global, first: &[u8], second: &[u8], cap: u32) -> Option
         seats: 2,
         cap,
         limit: LIMIT,
-        publishes: false,
     };
     Core::new(alloc, setup, files).ok()
 }

@@ -49,7 +49,6 @@ fn a_call_is_pending_from_its_begin_tick_on(rt: HostRuntime) {
         seats: 2,
         cap: 8,
         limit: 3,
-        publishes: false,
     };
     let mut machine = Machine::<MsQueue>::new(1, setup);
     machine.start(ONE_TAKE);

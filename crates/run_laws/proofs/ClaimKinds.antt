@@ -41,7 +41,7 @@ use Rattle.fast_slow_engine.specs.Mechs.{Mech}
 use Rattle.fast_slow_engine.specs.Hands.{holds_none}
 use Rattle.fast_slow_engine.specs.HelpTable.{filling, help_fed, helping_ends, helping_hand, helping_request, work_request}
 use Rattle.fast_slow_engine.specs.HelpWords.{told_word}
-use Rattle.fast_slow_engine.specs.PhaseTable.{announced, applied, driven, entered, executed, generated, head_helped, head_seen, help_stepped, helped, in_phase, may_search, offered, request_in, rests, searched, spent, stepped, told, tried, with_hand, wrapped_up}
+use Rattle.fast_slow_engine.specs.PhaseTable.{announced, applied, driven, entered, executed, generated, head_helped, help_stepped, helped, in_phase, may_search, offered, request_in, rests, searched, spent, stepped, told, tried, with_hand, wrapped_up}
 use Rattle.run_laws.specs.Ticks.{LeavesWord}
 use Rattle.run_laws.specs.Claims.{claimed_in, claims_block, helping_asks, helping_claims, work_claims}
 use Rattle.run_laws.proofs.HelpClaims.{fed_claims_none, hand_goes}
@@ -257,7 +257,7 @@ module _ {S W : Type 0} where
         → ClaimKind phase mech (stepped form phase (seen_of (request_in form phase mech) words) mech) (claimed_in phase (get_or words 2 0) mech.setup.cap) (get_or words 2 0) (get_or (words_after (request_in form phase mech) words) 2 0)
     claim_kind Idle mech words runs leaves inside room = absurd (search rules)
     claim_kind Begin mech words runs leaves inside room = quiet Begin mech _ _ _ refl refl (record { at = refl; hand = inl refl }) (leaves refl)
-    claim_kind Look mech words runs leaves inside room = quiet Look mech _ _ _ refl refl (goes_so _ mech (head_stays (head_seen mech.setup (seen_of (Load 1) words).before) false mech)) (leaves refl)
+    claim_kind Look mech words runs leaves inside room = quiet Look mech _ _ _ refl refl (goes_so _ mech (head_stays (head_of (seen_of (Load 1) words).before) false mech)) (leaves refl)
     claim_kind (Generate s Search) mech words runs leaves inside room =
         quiet (Generate s Search) mech _ _ _ refl refl (goes_so _ mech (searched_stays (form.found_of s (seen_of (form.request_of s) words)) (form.feed_of s (seen_of (form.request_of s) words)) mech)) (leaves refl)
     claim_kind (Generate s LookForBlock) mech words runs leaves inside room = look_kind s mech (seen_of (Load 2) words) (get_or words 2 0) _ (load_tells 2 words) (leaves refl)

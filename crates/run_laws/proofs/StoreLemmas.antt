@@ -47,7 +47,7 @@ use Rattle.fast_slow_engine.specs.Hands.{block_of, holds_none}
 use Rattle.fast_slow_engine.specs.HelpWords.{executing_word, is_executing, told_word}
 use Rattle.fast_slow_engine.specs.HelpTable.{executed_work, filling, first_work, found_work, help_fed, helping_ends, helping_fed, helping_hand, read_work, work_fed, work_turn, worked, wrapped_work, wrapping_up}
 use Rattle.fast_slow_engine.specs.Mechs.{Mech}
-use Rattle.fast_slow_engine.specs.PhaseTable.{announced, applied, driven, entered, executed, generated, head_helped, head_seen, help_stepped, helped, in_phase, may_search, mech_fed, mech_request, offered, searched, spent, stepped, stores_for, told, tried, with_hand, wrapped_up}
+use Rattle.fast_slow_engine.specs.PhaseTable.{announced, applied, driven, entered, executed, generated, head_helped, help_stepped, helped, in_phase, may_search, mech_fed, mech_request, offered, searched, spent, stepped, stores_for, told, tried, with_hand, wrapped_up}
 use Rattle.fast_slow_engine.specs.Runs.{Move, RunState, begun, moved_by, run_of}
 use Rattle.run_laws.specs.Seats.{EachMech}
 use Rattle.run_laws.proofs.Steps.{each_set}
@@ -222,7 +222,7 @@ module _ {S W : Type 0} where
     stores_step : (phase : Phase S W) (seen : Seen) (mech : Mech S W) → PhaseStores mech.phase → PhaseStores phase → PhaseStores (stepped form phase seen mech).phase
     stores_step Idle seen mech own on = own
     stores_step Begin seen mech own on = tt
-    stores_step Look seen mech own on = head_stores (head_seen mech.setup seen.before) false mech
+    stores_step Look seen mech own on = head_stores (head_of seen.before) false mech
     stores_step (Generate s at) seen mech own on = generated_stores s at seen mech
     stores_step (Apply run stores at) seen mech own on = applied_stores run stores at seen mech on
     stores_step (Wrap w) seen mech own on = wrapped_stores (form.wrap_found_of w seen) (form.feed_wrap_of w seen) mech

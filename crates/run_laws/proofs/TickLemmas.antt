@@ -1,13 +1,15 @@
 -- The tick counter counts the ticks that were drawn.
-use Rattle.std.proofs.Common.{arith, ◌≡◌, ◌∙◌, refl, sym, subst, ℕ, ◌+◌, ◌-◌, ◌*◌, ◌<◌, ◌≤◌, ◌^◌, false, List, [], ◌∷◌, length, length-append, length-set, get_or, slice_get, slice_set, Option, Some, None, All}
+use Rattle.std.proofs.Common.{arith, ◌≡◌, ◌∙◌, refl, sym, subst, ℕ, ◌+◌, ◌-◌, ◌*◌, ◌<◌, ◌≤◌, ◌^◌, false, List, [], ◌∷◌, length, length-append, length-set, get_or, slice_get, slice_set, Option, Some, None, All, ap}
 use Rattle.std.specs.Prelude.{sum_by}
 use Rattle.std.specs.Option.{option_to_list}
+use Rattle.std.proofs.lemmas.List.Elements.{filter-append}
 use Rattle.std.proofs.lemmas.List.Sums.{sum_by-le, sum_by-set}
 use Rattle.std.proofs.lemmas.Option.{get_or_from_slice_get, slice_get-get_or, slice_get_within}
 use Rattle.lin_report.specs.declared.calls.Client.{Client}
 use Rattle.lin_report.specs.declared.calls.Client.TheVariants as client
 use Rattle.lin_report.specs.declared.calls.Op.{Op}
 use Rattle.lin_report.specs.declared.calls.Receipt.{Receipt}
+use Rattle.lin_report.specs.declared.events.Event.{Event}
 use Rattle.step_memory.specs.Step.{seen_of, words_after}
 use Rattle.step_memory.proofs.Words.{length-words_after}
 use Rattle.node_arena.specs.Opening.{opening_word}
@@ -15,8 +17,10 @@ use Rattle.node_arena.proofs.OpeningLemmas.{length-opening_words, opening_each}
 use Rattle.normal_traits.specs.NormalForm.{NormalForm}
 use Rattle.fast_slow_engine.specs.declared.setup.Setup.{Setup}
 use Rattle.fast_slow_engine.specs.Mechs.{Mech}
+use Rattle.fast_slow_engine.specs.Events.{is_tick, step_events}
 use Rattle.fast_slow_engine.specs.PhaseTable.{mech_event, mech_fed, mech_request, mech_turn, rests, ticks_left}
 use Rattle.fast_slow_engine.specs.Runs.{Move, RunState, CanMove, IsMove, AreMoves, begun, opening_run, returned, run_of, run_step}
+use Rattle.fast_slow_engine.proofs.Events.{step_ticks, tick_events}
 use Rattle.fast_slow_engine.proofs.SameCalls.{same_fed}
 use Rattle.run_laws.specs.Seats.{EachMech}
 use Rattle.run_laws.specs.Ticks.{MoveKeepsTicks, KeepsTicks, TicksCount}
@@ -68,7 +72,7 @@ module _ {S W : Type 0} where
       pub few : EachMech (λ seat mech. IsFew mech) state.mechs
       pub seats : length state.mechs ≤ 8
       pub word : get_or state.words 0 0 ≡ sum_by ticks_had state.mechs
-      pub events : get_or state.words 0 0 ≡ length state.events
+      pub events : get_or state.words 0 0 ≡ length (tick_events state.events)
 
     pub room : (state : RunState S W) → CountsTicks state → get_or state.words 0 0 + 1 < 2 ^ 64
     room state counts =
@@ -115,7 +119,12 @@ module _ {S W : Type 0} where
               (record { number = omega (arith, same.number, one.few.number); left = omega (arith, same.number, one.few.left, more.left) });
           seats = omega (arith, length-set state.mechs move.seat new, counts.seats);
           word = omega (arith, sums, more.had, more.word, one.had, counts.word);
-          events = omega (arith, length-append state.events (option_to_list (mech_event mech)), more.word, counts.events);
+          events = (
+              let words' = words_after (mech_request form mech) state.words in
+              let parts = ap length (filter-append (λ (event : Event). is_tick event.kind) state.events (step_events mech state.words words')) in
+              let both = length-append (tick_events state.events) (tick_events (step_events mech state.words words')) in
+              let own = ap length (step_ticks mech state.words words') in
+              omega (arith, parts, both, own, more.word, counts.events));
         })
 
     pub opening_word_at : (setup : Setup) → get_or (opening_run form setup).words 0 0 ≡ 0

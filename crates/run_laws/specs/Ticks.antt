@@ -1,5 +1,5 @@
 -- The tick counter: the ticks of a run are drawn once each.
-use Rattle.std.specs.Prelude.{◌≡◌, ℕ, ◌==◌, nat_lt, if◌then◌else◌, count_by, Bool, true, false, List, [], ◌∷◌, length, slice_get, slice_index, Some}
+use Rattle.std.specs.Prelude.{◌≡◌, ℕ, ◌==◌, nat_lt, if◌then◌else◌, count_by, filter, Bool, true, false, List, [], ◌∷◌, length, slice_get, slice_index, Some}
 use Rattle.lin_report.specs.Report.{ticks_of}
 use Rattle.step_memory.specs.declared.steps.Request.{Request}
 use Rattle.step_memory.specs.Step.{words_after}
@@ -9,6 +9,7 @@ use Rattle.fast_slow_engine.specs.declared.phases.Phase.{Phase}
 use Rattle.fast_slow_engine.specs.declared.phases.Phase.TheVariants as phase
 use Rattle.fast_slow_engine.specs.declared.setup.Setup.{Setup}
 use Rattle.fast_slow_engine.specs.Mechs.{Mech}
+use Rattle.fast_slow_engine.specs.Events.{is_tick}
 use Rattle.fast_slow_engine.specs.PhaseTable.{mech_request}
 use Rattle.fast_slow_engine.specs.Runs.{Move, RunState, AreMoves, begun, run_of}
 use Rattle.fast_slow_engine.specs.Reports.{report_of_run}
@@ -40,11 +41,11 @@ module _ {S W : Type 0} (form : NormalForm S W) where
   KeepsTicks setup [] = Unit {0}
   KeepsTicks setup (move ∷ older) = KeepsTicks setup older × MoveKeepsTicks (run_of form setup older) move
 
-  -- the tick counter is the number of begins and returns
+  -- the tick counter is the number of begins and returns among the events
   abbrev pub TicksCount : Type 0
   TicksCount =
       (setup : Setup) (moves : List Move) → AreMoves form setup moves → KeepsTicks setup moves
-      → slice_index (run_of form setup moves).words TICKS ≡ length (run_of form setup moves).events
+      → slice_index (run_of form setup moves).words TICKS ≡ length (filter (λ event. is_tick event.kind) (run_of form setup moves).events)
 
   -- the ticks of a run are drawn once each
   abbrev pub TicksOnce : Type 0

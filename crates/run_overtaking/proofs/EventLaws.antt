@@ -25,7 +25,9 @@ use Rattle.run_queue.proofs.Runs.RunMoves.{IsQueued, runs_queued, runs_later}
 use Rattle.run_overtaking.specs.Accounts.{overtakers, most_overtaken}
 use Rattle.run_overtaking.specs.Counts.{counts_moved, counts_of}
 use Rattle.run_overtaking.specs.Waiting.{Waits}
-use Rattle.run_overtaking.specs.Events.{OvertakenBounded, GreatestBounded, eight_seats, events_moved, events_of}
+use Rattle.fast_slow_engine.specs.Events.{eight_seats}
+use Rattle.run_overtaking.specs.Events.{OvertakenBounded, GreatestBounded}
+use Rattle.run_overtaking.proofs.Events.Folded.{events_are, events_moved, events_of}
 use Rattle.run_overtaking.proofs.Accounts.Sums.{fold_append}
 use Rattle.run_overtaking.proofs.Accounts.Runs.{inside_of, runs_counted}
 use Rattle.run_overtaking.proofs.AccountLaws.{few_returns, record_is}
@@ -107,12 +109,13 @@ module _ {S W : Type 0} (form : NormalForm S W) where
 
   pub overtaken_bounded : OvertakenBounded form
   overtaken_bounded setup moves are keeps x k =
-      subst (λ n. n ≤ most_overtaken setup.seats) (overtaken_is x k (events_of form setup moves)) (count_few setup moves are keeps x k (state x k (events_of form setup moves)) (tracked setup moves are keeps x k))
+      subst (λ es. overtaken es x k ≤ most_overtaken setup.seats) (events_are form setup moves)
+      (subst (λ n. n ≤ most_overtaken setup.seats) (overtaken_is x k (events_of form setup moves)) (count_few setup moves are keeps x k (state x k (events_of form setup moves)) (tracked setup moves are keeps x k)))
 
   pub greatest_bounded : GreatestBounded form
   unfolding greatest_overtaken
   greatest_bounded setup moves are keeps =
-      let events = events_of form setup moves in
+      let events = (run_of form setup moves).events in
       let count = λ (event : Event). overtaken events event.seat event.number in
       max_least (greatest count) count refl (λ x xs. refl) events (publication 0 0) (most_overtaken setup.seats)
       (λ i less. overtaken_bounded setup moves are keeps (get_or events i (publication 0 0)).seat (get_or events i (publication 0 0)).number)

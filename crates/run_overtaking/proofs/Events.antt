@@ -3,3 +3,5 @@ pub mod CallStates
 pub mod Overtaken
 pub mod Members
 pub mod StepOrder
+pub mod Few
+pub mod Folded

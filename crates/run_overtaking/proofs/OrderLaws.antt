@@ -26,10 +26,11 @@ use Rattle.overtaking_law.specs.Order.{publication, completion, AreOrdered}
 use Rattle.overtaking_law.proofs.Ordered.{are_ordered-nil}
 use Rattle.run_queue.specs.QueueGhosts.{ghosts_moved, queue_ghosts}
 use Rattle.run_queue.specs.Premises.{KeepsQueue}
-use Rattle.run_queue.proofs.Runs.Alone.{unused_out}
-use Rattle.run_queue.proofs.Runs.Openings.{opens_unused}
+use Rattle.run_queue.proofs.Runs.Openings.{opens_out}
 use Rattle.run_queue.proofs.Runs.RunMoves.{IsQueued, mover, runs_queued, runs_later}
-use Rattle.run_overtaking.specs.Events.{EventsOrdered, completed, published, eight_seats, events_moved, events_of}
+use Rattle.fast_slow_engine.specs.Events.{completed, published, eight_seats}
+use Rattle.run_overtaking.specs.Events.{EventsOrdered}
+use Rattle.run_overtaking.proofs.Events.Folded.{events_are, events_moved, events_of}
 use Rattle.run_overtaking.proofs.Accounts.Runs.{inside_of, runs_counted}
 use Rattle.run_overtaking.proofs.EventLaws.{eight_has}
 use Rattle.run_overtaking.proofs.Events.Members.{apart_of, in_none}
@@ -63,7 +64,7 @@ low_among : (t : ℕ) (seats : List ℕ) → Low seats → among_seats t seats �
 low_among t [] low in' = absurd (true≢false (sym in'))
 low_among t (s ∷ seats) low in' = elim (or_cases (s == t) (among_seats t seats) in') [ inl same ↦ subst (λ k. k < 8) (eqb-true s t same) low.0 | inr rest ↦ low_among t seats low.1 rest ]
 
-eight_low : (t : ℕ) → among_seats t eight_seats ≡ true → t < 8
+pub eight_low : (t : ℕ) → among_seats t eight_seats ≡ true → t < 8
 eight_low t in' = low_among t eight_seats (omega arith, (omega arith, (omega arith, (omega arith, (omega arith, (omega arith, (omega arith, (omega arith, tt)))))))) in'
 
 -- ---- runs
@@ -126,7 +127,7 @@ module _ {S W : Type 0} where
           ];
         }
 
-    inside_run : (setup : Setup) (moves : List Move) → AreMoves form setup moves → KeepsQueue form setup moves → (t : ℕ) → IsIn (scene_of (run_of form setup moves).words (queue_ghosts form setup moves)) t → t < 8
+    pub inside_run : (setup : Setup) (moves : List Move) → AreMoves form setup moves → KeepsQueue form setup moves → (t : ℕ) → IsIn (scene_of (run_of form setup moves).words (queue_ghosts form setup moves)) t → t < 8
     inside_run setup moves are keeps t in' =
         let less = inside_of (scene_of (run_of form setup moves).words (queue_ghosts form setup moves)) setup.seats (runs_counted form setup moves are keeps).beyond t in' in
         let few = setup.few_seats in omega (arith, less, few)
@@ -137,7 +138,7 @@ module _ {S W : Type 0} where
       queue = record {
         published' = λ t n c. absurd (in_none _ c);
         completed' = λ t n c. absurd (in_none _ c);
-        waits = λ t in' opened. absurd (not_both in' (unused_out (run_of form setup []).words no_ghosts t (opens_unused form.client setup.cap)));
+        waits = λ t in' opened. absurd (not_both in' (opens_out form.client setup.cap t));
       };
       calls = λ i mech found. record { begun' = λ n c. absurd (in_none _ c); returned' = λ n c. absurd (in_none _ c) };
     }
@@ -147,4 +148,4 @@ module _ {S W : Type 0} where
         (events_of form setup older) (told setup older are.0 keeps.0)
 
     pub events_ordered : EventsOrdered form
-    events_ordered setup moves are keeps = (told setup moves are keeps).ordered
+    events_ordered setup moves are keeps = subst AreOrdered (events_are form setup moves) (told setup moves are keeps).ordered

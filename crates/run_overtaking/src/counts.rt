@@ -1,5 +1,5 @@
 //! The events of every run: in which order they come, and how often they say that a call is overtaken.
-ghost use Rattle.run_overtaking.specs.Events.{OvertakenBounded, GreatestBounded, EventsOrdered, OwnEventsAgree, NoneOvertaken};
+ghost use Rattle.run_overtaking.specs.Events.{OvertakenBounded, GreatestBounded, EventsFit, EventsOrdered};
 
 use normal_traits::Normalized;
 
@@ -13,18 +13,13 @@ pub fn greatest_bounded<C: Normalized>()
     ensures { GreatestBounded C.form }
 {}
 
-/// Where no call is published, none is overtaken.
-pub fn none_overtaken<C: Normalized>()
-    ensures { NoneOvertaken C.form }
-{}
-
 /// The events of a run are ordered: each comes once, a call completes behind its publication, and is published where no
 /// other call of its seat is open.
 pub fn events_ordered<C: Normalized>()
     ensures { EventsOrdered C.form }
 {}
 
-/// Those of the machines among them are the events of the run, in the same order.
-pub fn own_events_agree<C: Normalized>()
-    ensures { OwnEventsAgree C.form }
+/// There are at most four for each call that was begun, so room for so many is enough.
+pub fn events_fit<C: Normalized>()
+    ensures { EventsFit C.form }
 {}

@@ -1,5 +1,4 @@
 -- The steps put together: every run, and every seat of it.
-pub mod Alone
 pub mod Openings
 pub mod RunMoves
 pub mod SeatViews

@@ -2,7 +2,6 @@ pub mod QueueViews
 pub mod QueueRuns
 pub mod QueueLaws
 pub mod Fits
-pub mod Alone
 pub mod QueueGhosts
 pub mod Premises
 pub mod Rounds

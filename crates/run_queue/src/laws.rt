@@ -1,6 +1,5 @@
 //! Laws of the help queue in every run of the whole phase table, for any client whose requests leave its words.
 ghost use Rattle.run_queue.specs.QueueLaws.{MembersHold, HelpedHold, GathersHold, RemovalsHold, EntriesHold, OwnersHold, OutcomesHold, AdvancesHold, VersionsRise, OneWordEach, RecordsGoOn};
-ghost use Rattle.run_queue.specs.Alone.{AloneHold};
 ghost use Rattle.run_queue.specs.HeldBlocks.{NamesAreClaimed, ClaimsKeepQueue};
 ghost use Rattle.run_queue.specs.Rounds.{RoundsFit};
 
@@ -76,9 +75,4 @@ pub fn claims_keep_queue<C: Normalized>()
 /// A published call ends with the outcome of its record, which is completed with its number.
 pub fn outcomes_hold<C: Normalized>()
     ensures { OutcomesHold C.form }
-{}
-
-/// Where no call is published, the words of the queue stay as they opened, and each call stays with its seat.
-pub fn alone_hold<C: Normalized>()
-    ensures { AloneHold C.form }
 {}

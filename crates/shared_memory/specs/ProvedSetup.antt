@@ -3,4 +3,4 @@ use Rattle.std.proofs.Common.{arith, false}
 use Rattle.fast_slow_engine.specs.declared.setup.Setup.{Setup}
 
 pub one_seat : Setup
-one_seat = record { seats = 1; cap = 1; limit = 0; publishes = false; some_seat = omega arith; few_seats = omega arith; some_block = omega arith; few_blocks = omega arith; few_failures = omega arith }
+one_seat = record { seats = 1; cap = 1; limit = 0; some_seat = omega arith; few_seats = omega arith; some_block = omega arith; few_blocks = omega arith; few_failures = omega arith }

@@ -3,7 +3,8 @@ ghost use Rattle.std.specs.Prelude.{◌≡◌, ℕ, ◌+◌, ◌<◌, ◌≤◌,
 ghost use Rattle.lin_report.specs.declared.calls.Op.{Op};
 ghost use Rattle.node_arena.specs.Opening.{IsLaidOut, opening_words};
 ghost use Rattle.fast_slow_engine.specs.Runs.{CanMove, begun};
-ghost use Rattle.fast_slow_engine.specs.PhaseTable.{mech_request, rests};
+ghost use Rattle.fast_slow_engine.specs.declared.setup.Turn.{Turn};
+ghost use Rattle.fast_slow_engine.specs.PhaseTable.{ends, mech_request, rests};
 ghost use Rattle.shared_memory.specs.Views.{Face, Follows, Memory, Stepped, command_of, cut_left, first_view, glued, moved, new_view};
 ghost use Rattle.shared_memory.specs.Closing.{Closes, IsWhole};
 
@@ -11,7 +12,7 @@ use crate::rule::{Advance, Begins, Cut, Glue, Keeps, Miss};
 use crate::view::View;
 use atomic_table::{Seat, Table};
 use fast_slow_engine::{Machine, Setup, Turn};
-use lin_report::NoMemory;
+use lin_report::{NoMemory, Receipt};
 use node_arena::opening_words;
 use node_arena::places::{CLAIMS, TICKS};
 use normal_traits::Normalized;
@@ -71,6 +72,7 @@ impl<C: Normalized> Shared<C> {
 
     /// One step of the port's seat, which begins this command, if any, and what it saw. A place past the last
     /// word is no word of the table: the step loads word 0 for the seat's view, and tells nothing.
+    #[inline(always)]
     fn step_as<B: Begins>(&self, port: &mut SeatPort<C>, request: Request) -> Seen
         requires table { port.old.table ≡ self.now.table }
         requires can { CanMove C.form B.command port.old.view.machine }
@@ -113,29 +115,64 @@ impl<C: Normalized> Shared<C> {
         }
     }
 
-    /// The machine's next request as one step, whose command the caller's ghost names.
-    fn feed_as<B: Begins>(&self, port: &mut SeatPort<C>, machine: &mut Machine<C>) -> Turn
+    /// The machine's next request as one step, whose command the caller's ghost names, and what it saw. Each kind of
+    /// step is made by itself, so that it is short where the kind is known.
+    #[inline(always)]
+    fn next_as<B: Begins>(&self, port: &mut SeatPort<C>, machine: &Machine<C>) -> Seen
         requires table { port.old.table ≡ self.now.table }
-        requires machine { Follows C.form port.old.view machine.old }
-        requires command { B.command ≡ command_of port.old.view.machine machine.old }
+        requires machine { Follows C.form port.old.view machine.now }
+        requires command { B.command ≡ command_of port.old.view.machine machine.now }
         ensures table { port.new.table ≡ port.old.table }
-        ensures step { Stepped C.form port.old.view machine.old port.new.view machine.new result }
+        ensures view { port.new.view ≡ moved C.form port.old.view (command_of port.old.view.machine machine.now) result }
     {
-        let request = machine.request();
-        let seen = self.step_as::<B>(port, request);
-        machine.feed(seen)
+        match machine.request() {
+            Request::Load { at } => self.step_as::<B>(port, Request::Load { at }),
+            Request::Store { at, value } => self.step_as::<B>(port, Request::Store { at, value }),
+            Request::Exchange { at, from, to } => {
+                self.step_as::<B>(port, Request::Exchange { at, from, to })
+            }
+            Request::Add { at, by } => self.step_as::<B>(port, Request::Add { at, by }),
+        }
     }
 
     /// Makes the machine's next request on the memory, as one atomic step, and feeds the machine what that step
     /// saw. The machine is the one in the port's view, or that one after one start. It waits for nobody, and a
     /// request past the last word changes nothing.
+    #[inline(always)]
     pub fn advance(&self, port: &mut SeatPort<C>, machine: &mut Machine<C>) -> Turn
         requires table { port.old.table ≡ self.now.table }
         requires machine { Follows C.form port.old.view machine.old }
         ensures table { port.new.table ≡ port.old.table }
         ensures step { Stepped C.form port.old.view machine.old port.new.view machine.new result }
     {
-        self.feed_as::<Brand>(port, machine)
+        let seen = self.next_as::<Brand>(port, machine);
+        machine.feed(seen)
+    }
+
+    /// The same for a step that draws no end tick, after which the call goes on.
+    #[inline(always)]
+    pub fn go_on(&self, port: &mut SeatPort<C>, machine: &mut Machine<C>)
+        requires table { port.old.table ≡ self.now.table }
+        requires machine { Follows C.form port.old.view machine.old }
+        requires goes_on { ends machine.old.phase ≡ false }
+        ensures table { port.new.table ≡ port.old.table }
+        ensures step { Stepped C.form port.old.view machine.old port.new.view machine.new Turn.Going }
+    {
+        let seen = self.next_as::<Brand>(port, machine);
+        machine.go_on(seen);
+    }
+
+    /// The same for the step that draws the end tick, at which the call returns.
+    #[inline(always)]
+    pub fn finish(&self, port: &mut SeatPort<C>, machine: &mut Machine<C>) -> Receipt
+        requires table { port.old.table ≡ self.now.table }
+        requires machine { Follows C.form port.old.view machine.old }
+        requires ends { ends machine.old.phase ≡ true }
+        ensures table { port.new.table ≡ port.old.table }
+        ensures step { Stepped C.form port.old.view machine.old port.new.view machine.new (Turn.Returned result) }
+    {
+        let seen = self.next_as::<Brand>(port, machine);
+        machine.finish(seen)
     }
 
     /// Splits the port of the next seat off that of seat 0, or of the one into which that was gathered.

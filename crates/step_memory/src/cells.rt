@@ -17,6 +17,8 @@ impl Model for Cells {
 }
 
 impl Cells {
+    ghost use Rattle.step_memory.specs.Step.{words_after, seen_of};
+
     /// A memory of these words.
     pub fn new(words: Vec<u64>) -> Cells
         ensures { result ≡ words.items }
@@ -30,13 +32,14 @@ impl Cells {
     {
         self.words.as_slice()
     }
-}
 
-impl Port for Cells {
-    ghost words = { λ c. c };
-
+    /// Makes one step.
+    #[inline(always)]
     #[tactic(auto, unfolding(crate::specs::Step::words_after, crate::specs::Step::seen_of))]
-    fn apply(&mut self, request: Request) -> Seen {
+    fn make(&mut self, request: Request) -> Seen
+        ensures changes { self.new ≡ words_after request self.old }
+        ensures tells { result ≡ seen_of request self.old }
+    {
         let at = request.place() as usize;
         if at >= self.words.len() {
             return Seen {
@@ -56,6 +59,21 @@ impl Port for Cells {
             Request::Add { by, .. } => self.words[at] = before.wrapping_add(by),
         }
         request.tells(before)
+    }
+}
+
+impl Port for Cells {
+    ghost words = { λ c. c };
+
+    /// Each kind of step is made by itself, so that it is short where the kind is known.
+    #[inline(always)]
+    fn apply(&mut self, request: Request) -> Seen {
+        match request {
+            Request::Load { at } => self.make(Request::Load { at }),
+            Request::Store { at, value } => self.make(Request::Store { at, value }),
+            Request::Exchange { at, from, to } => self.make(Request::Exchange { at, from, to }),
+            Request::Add { at, by } => self.make(Request::Add { at, by }),
+        }
     }
 }
 

@@ -13,7 +13,8 @@ use Rattle.fast_slow_engine.specs.Runs.{RunState, moves_over, pending_of, run_of
 use Rattle.fast_slow_engine.proofs.LineLemmas.{rest_pends_nothing}
 use Rattle.run_laws.specs.Seats.{EachMech}
 use Rattle.run_laws.proofs.SeatLemmas.{seats_stay}
-use Rattle.run_history.proofs.HeadlineLemmas.{files_meet_headline}
+use Rattle.run_invariant.proofs.Kept.Induction.{runs_are_kept}
+use Rattle.run_reports.proofs.Placed.Headline.{files_meet_headline}
 use Rattle.move_orders.specs.Orders.{AreOver, begun_at, begun_files, seats_of}
 use Rattle.move_orders.proofs.OverFiles.{moves_over_files}
 use Rattle.move_orders.proofs.Gathered.{lines_gather}
@@ -35,7 +36,7 @@ none_pend (m ∷ ms) each = ap (λ o. option_to_list o ++ pending_of ms) (rest_p
 
 module _ {S W : Type 0} (form : NormalForm S W) (laws : Laws form) where
   pub threads_meet_headline : ThreadsMeetHeadline form
-  threads_meet_headline setup files lines ticks claimed many quiet run =
+  threads_meet_headline setup files lines ticks claimed many run =
       let moves = run.moves in
       let state = run_of form setup moves in
       let seated = seats_stay form setup moves run.are in
@@ -54,5 +55,5 @@ module _ {S W : Type 0} (form : NormalForm S W) (laws : Laws form) where
         made = subst (λ (s : RunState S W). IsPermutation s.receipts lines) is (subst (IsPermutation state.receipts) (sym run.same) (lines_gather form setup moves run.are));
         drawn = subst (λ (s : RunState S W). slice_index s.words TICKS ≡ ticks) is run.drawn;
         asked = subst (λ (s : RunState S W). slice_index s.words CLAIMS ≡ claimed) is run.asked;
-        meets = files_meet_headline form laws setup files (seats_of moves) over.fit quiet;
+        meets = files_meet_headline form laws (runs_are_kept form laws) setup files (seats_of moves) over.fit;
       }

@@ -37,7 +37,6 @@ fn one_port_puts_and_takes(rt: HostRuntime) {
         seats: 1,
         cap: 8,
         limit: 3,
-        publishes: false,
     };
     let Ok((shared, mut port)) = Shared::<MsQueue>::make(rt.alloc(), setup) else {
         panic!(rt; "no memory")
@@ -62,7 +61,6 @@ fn two_ports_take_in_turn(rt: HostRuntime) {
         seats: 2,
         cap: 8,
         limit: 3,
-        publishes: false,
     };
     let Ok((shared, mut first)) = Shared::<MsQueue>::make(rt.alloc(), setup) else {
         panic!(rt; "no memory")

@@ -31,7 +31,7 @@ impl Gate for Meeting {
         }
         self.here
             .fetch_or(1u64.wrapping_shl(seat), Ordering::SeqCst);
-        for _ in 0..100_000_000u32 {
+        for _ in 0..1_000_000_000u32 {
             if self.here.load(Ordering::SeqCst) == 255 {
                 return;
             }
@@ -75,11 +75,11 @@ fn eight_threads_meet(rt: HostRuntime) -> Result<(), Fail> {
     let Some(files) = eight_files(rt.alloc()) else {
         panic!(rt; "no memory")
     };
+    // An exchange is lost to one that is won, and sixteen calls win fewer than 255: each call stays on the fast path.
     let setup = Setup {
         seats: 8,
         cap: 65536,
-        limit: 3,
-        publishes: false,
+        limit: 255,
     };
     let Ok((lines, totals)) = run::<_, MsQueue, _>(&rt, rt.alloc(), setup, files, &gate) else {
         panic!(rt; "no memory")

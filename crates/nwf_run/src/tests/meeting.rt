@@ -57,7 +57,7 @@ impl Meeting {
 
     /// Waits until a word has all of these bits, so many turns at most.
     fn wait(&self, word: &AtomicU64, bits: u64) {
-        for _ in 0..100_000_000u32 {
+        for _ in 0..1_000_000_000u32 {
             if word.load(Ordering::SeqCst) & bits == bits {
                 return;
             }
@@ -134,11 +134,19 @@ fn what_is_printed_is_what_the_threads_did(rt: HostRuntime) -> Result<(), Fail> 
         let (seat, number) = (place / 2, place % 2 + 1);
         let (begin, end) = (kept(&gate.begins, place), kept(&gate.ends, place));
         let first = format!(in alloc; "{seat} {number} ")?;
-        let last = format!(in alloc; " {begin} {end} fast")?;
-        assert_eq!(rt; lines_like(text, first.as_str(), last.as_str()), 1);
+        let fast = format!(in alloc; " {begin} {end} fast")?;
+        let slow = format!(in alloc; " {begin} {end} slow")?;
+        let lines = (
+            lines_like(text, first.as_str(), fast.as_str()),
+            lines_like(text, first.as_str(), slow.as_str()),
+        );
+        assert!(rt; matches!(lines, (1, 0) | (0, 1)));
     }
-    let summary = "calls 16 fast 16 slow 0 exhausted 0 pending 0";
-    assert_eq!(rt; lines_like(text, summary, summary), 1);
+    // How many calls lose three exchanges, and are published, is up to the schedule.
+    let (fast, slow) = (lines_like(text, "", " fast"), lines_like(text, "", " slow"));
+    assert_eq!(rt; fast.wrapping_add(slow), 16);
+    let summary = format!(in alloc; "calls 16 fast {fast} slow {slow} exhausted 0 pending 0")?;
+    assert_eq!(rt; lines_like(text, summary.as_str(), summary.as_str()), 1);
     assert_eq!(rt; lines_like(text, "", ""), 18);
     Ok(())
 }

@@ -127,7 +127,6 @@ fn words_that_are_no_run(rt: HostRuntime) -> Result<(), Fail> {
         "run stack 8 3 f0",
         "run queue 0 3 f0",
         "run queue 65537 3 f0",
-        "run queue 8 0 f0",
         "run queue 8 256 f0",
         "run queue eight 3 f0",
         "run queue 8 3x f0",

@@ -28,7 +28,7 @@ use Rattle.fast_slow_engine.specs.declared.phases.Generating.TheVariants.{Search
 use Rattle.fast_slow_engine.specs.declared.phases.Applying.TheVariants.{Fill, Execute}
 use Rattle.fast_slow_engine.specs.declared.help.Helping.TheVariants.{Record}
 use Rattle.fast_slow_engine.specs.Mechs.{Mech}
-use Rattle.fast_slow_engine.specs.PhaseTable.{announced, entered, executed, head_helped, head_seen, helped, in_phase, stepped, wrapped_up}
+use Rattle.fast_slow_engine.specs.PhaseTable.{announced, entered, executed, head_helped, helped, in_phase, stepped, wrapped_up}
 use Rattle.offered_blocks.specs.Blocks.{Offer}
 use Rattle.helper_knowledge.specs.Callers.{Caller}
 use Rattle.helper_knowledge.specs.Carried.{OfSome}
@@ -179,7 +179,7 @@ module _ {S W : Type 0} (form : NormalForm S W) (laws : Laws form) (world after 
   pub phase_knows : (at : Phase S W) → mech.phase ≡ at → Rests at → StepsIn form world after offers offers' at mech own (own_after at) identity seen → KnowsAfter at
   phase_knows phase.Idle same rests is = idle_knows same
   phase_knows phase.Begin same rests is = tt
-  phase_knows phase.Look same rests is = head_knows (head_seen mech.setup seen.before) false own.held rests.command
+  phase_knows phase.Look same rests is = head_knows (head_of seen.before) false own.held rests.command
   phase_knows (phase.Generate s Search) same rests is =
       let fed = laws.search_fed world after seen s mech.op own.carried.since rests.command rests.holds.shape rests.knows.0 rests.knows.1 is.1 in
       searched_knows form after offers' callers own.begun None laws shape (form.found_of s seen) identity own.carried.since (form.feed_of s seen) mech rests.command leaves.fresh fed.0 fed.1 leaves.small

@@ -88,9 +88,9 @@ module _ {S W : Type 0} (form : NormalForm S W) where
       ]
 
   -- an exchange of a list and what it leaves
-  record HasRun (world after : World) (run : FastWalk) (seen : Seen) (held : Held S) : Type 0 where
-    won : seen.won ≡ true → Took after held.list run.next × NoneFrom after held.list.identity (run.next + 1)
-    lost : seen.won ≡ false → (after ≡ world) × ((entry : Entry) × (slice_get held.list.entries run.next ≡ Some entry) × IsPassed world entry)
+  pub record HasRun (world after : World) (run : FastWalk) (seen : Seen) (held : Held S) : Type 0 where
+    pub won : seen.won ≡ true → Took after held.list run.next × NoneFrom after held.list.identity (run.next + 1)
+    pub lost : seen.won ≡ false → (after ≡ world) × ((entry : Entry) × (slice_get held.list.entries run.next ≡ Some entry) × IsPassed world entry)
 
   no_both : {A : Type 0} (b : Bool) → b ≡ true → b ≡ false → A
   no_both b on off = absurd cc
@@ -112,7 +112,7 @@ module _ {S W : Type 0} (form : NormalForm S W) where
         | inr past ↦ (let running = known.running in absurd (omega (arith, past.0, running.0)))
       ]
 
-  has_run : (laws : Laws form) (world after : World) (offers offers' : ℕ → Option (Offer S)) (run : FastWalk) (seen : Seen) (held : Held S) → form.shape world → KnowsRun form world run held → held.list.entries ≡ run.entries
+  pub has_run : (laws : Laws form) (world after : World) (offers offers' : ℕ → Option (Offer S)) (run : FastWalk) (seen : Seen) (held : Held S) → form.shape world → KnowsRun form world run held → held.list.entries ≡ run.entries
       → Enters form world after offers offers' run (Some held) seen → HasRun world after run seen held
   has_run laws world after offers offers' run seen held shape known same (misses failed differs is) =
       record { won = λ on. no_both seen.won on failed; lost = λ off. (is, lost_passed laws world run held shape known same differs) }
@@ -129,7 +129,7 @@ module _ {S W : Type 0} (form : NormalForm S W) where
       }
 
   -- where it stops
-  run_stopped : (world after : World) (run : FastWalk) (seen : Seen) (held : Held S) (stop : ℕ) → Grows world after → KnowsRun form world run held → held.list.entries ≡ run.entries → HasRun world after run seen held
+  pub run_stopped : (world after : World) (run : FastWalk) (seen : Seen) (held : Held S) (stop : ℕ) → Grows world after → KnowsRun form world run held → held.list.entries ≡ run.entries → HasRun world after run seen held
       → fast_execution run seen ≡ execution.Stopped stop → Stopped after held.list stop × NoneFrom after held.list.identity stop
   run_stopped world after run seen held stop grows known entries has is =
       let same : length held.list.entries ≡ length run.entries = ap length entries in

@@ -43,7 +43,7 @@ module _ {S W : Type 0} (form : NormalForm S W) (laws : Laws form) (setup : Setu
   callers = callers_in (run_of form setup older) (ghost_of form setup older)
 
   -- the block in hand is one of the run
-  hand_within : (block : ℕ) → mech.hand ≡ Some block → (0 < block) × (block ≤ setup.cap)
+  pub hand_within : (block : ℕ) → mech.hand ≡ Some block → (0 < block) × (block ≤ setup.cap)
   hand_within block has = (let is = hands_spare form setup older are.0 (keeps_claims form setup older are.0 kept) move.seat mech at block has in (is.some, is.within))
 
   help_inside : (head : ℕ) (help : Helping S W) → HelpingFits help → KnowsHelp form (world_of form setup older) (ghost_of form setup older).offers (callers head) head mech.hand own.carried help → HelpInside form help words
@@ -92,7 +92,7 @@ module _ {S W : Type 0} (form : NormalForm S W) (laws : Laws form) (setup : Setu
         small = λ block has. (let within = k.within block has in omega (arith, within, few));
       }
 
-  hand_begun : (begins : Option Op) → (begun begins mech).hand ≡ mech.hand
+  pub hand_begun : (begins : Option Op) → (begun begins mech).hand ≡ mech.hand
   hand_begun None = refl
   hand_begun (Some op) = refl
 

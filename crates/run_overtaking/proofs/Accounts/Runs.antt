@@ -30,7 +30,6 @@ use Rattle.run_queue.specs.QueueViews.{phase_view, next_number}
 use Rattle.run_queue.specs.QueueGhosts.{ghosts_moved, ghosts_stepped, queue_ghosts}
 use Rattle.run_queue.specs.Premises.{HasRounds, LeavesQueue, KeepsQueue, MoveLeavesQueue, is_for_client}
 use Rattle.run_queue.proofs.Runs.RunMoves.{IsQueued, Mover, mover, mover_goes, new_mech, runs_queued}
-use Rattle.run_queue.proofs.Runs.Alone.{unused_out}
 use Rattle.run_queue.proofs.Runs.Openings.{opens_sound, opens_zero}
 use Rattle.run_overtaking.specs.Accounts.{KeepsAccount, overtakers}
 use Rattle.run_overtaking.specs.Counts.{Counts, no_counts, allowance, counts_moved, counts_of, counts_stepped}
@@ -173,7 +172,7 @@ module _ {S W : Type 0} where
 
       new_held : (x : ℕ) → IsIn a x → held_back a.queue a.records (counts.looked i) mech.phase ≡ true → (held_back b.queue b.records (counts'.looked i) new.phase ≡ true) ⊎ Dropped a b
       new_held x in' held =
-          step_held form mech setup.seats i setup.few_seats words ghosts q.long q.sound b later (counts.looked i) (counts'.looked i) same_seats mech.phase x m.runs (λ off. unused_out words ghosts x (q.unused (sym (ap (λ (s : Setup). s.publishes) m.is.setup') ∙ off))) in' (inside_of a setup.seats c.beyond) (keeps i) looks_now refl
+          step_held form mech setup.seats i setup.few_seats words ghosts q.long q.sound b later (counts.looked i) (counts'.looked i) same_seats mech.phase x m.runs in' (inside_of a setup.seats c.beyond) (keeps i) looks_now refl
           (λ t low. seat_word t _ low) m.knows knows held
 
       -- who draws its end tick has no open record

@@ -85,11 +85,6 @@ module _ {S W : Type 0} (form : NormalForm S W) (mech : Mech S W) (seats who : �
       let up = number_rises seats who a b l s in omega (arith, e, up))
       (λ _. tried_quiet m)
 
-  -- where no call is published, a look helps nobody
-  look_if : (publishes : Bool) (o : Option ℕ) (m : Mech S W) → m.setup.seats ≡ seats → n' ≡ number_at o (record_in words) → LookFacts b n' (phase_view (head_helped form (if publishes then o else None) false m).phase)
-  look_if true o m of' number = look_facts o m of' number
-  look_if false o m of' number = tried_quiet m
-
   help_if : (x : Bool) (y z : Mech S W) → LookFacts b n' (phase_view y.phase) → LookFacts b n' (phase_view z.phase) → LookFacts b n' (phase_view (if x then y else z).phase)
   help_if x y z h k = either_quiet b n' x y z (λ _. h) (λ _. k)
 
@@ -116,7 +111,7 @@ module _ {S W : Type 0} (form : NormalForm S W) (mech : Mech S W) (seats who : �
       → PhaseFacts a seats who (next_number p mech.number) (phase_view p) → PhaseFits seats p → LookFacts a n (phase_view p) → LookFacts b n' (phase_view (stepped form p (seen_of (request_in form p mech) words) mech).phase)
   step_facts phase.Idle runs keeps looked facts fits h = absurd cc
   step_facts phase.Begin runs keeps looked facts fits h = tt
-  step_facts phase.Look runs keeps looked facts fits h = look_if mech.setup.publishes (head_of (seen_of (Load QUEUE) words).before) mech same_seats (looked refl ∙ ap (λ q. number_at (head_of q) (record_in words)) (sym (load_tells QUEUE words)))
+  step_facts phase.Look runs keeps looked facts fits h = look_facts (head_of (seen_of (Load QUEUE) words).before) mech same_seats (looked refl ∙ ap (λ q. number_at (head_of q) (record_in words)) (sym (load_tells QUEUE words)))
   step_facts (phase.Generate s step) runs keeps looked facts fits h = fast_quiet form b n' seats mech.number _ (fast_generated form seats s step _ mech)
   step_facts (phase.Apply run stores step) runs keeps looked facts fits h = fast_quiet form b n' seats mech.number _ (fast_applied form seats run stores step _ mech fits)
   step_facts (phase.Wrap wrap) runs keeps looked facts fits h = fast_quiet form b n' seats mech.number _ (fast_wrapped form seats _ _ mech)
@@ -154,10 +149,6 @@ module _ {S W : Type 0} (form : NormalForm S W) (mech : Mech S W) (seats who : �
       subst (λ c. Held (if c then in_phase (phase.Help false (record { head = s; seats = m.setup.seats; at = Record None })) m else helped form false m)) (sym real)
       (ap (λ c. c && (record_number (b.records s) == n')) leads' ∙ eq-eqb (record_number (b.records s)) n' e)
 
-  look_held_if : (publishes : Bool) (x word : ℕ) → (publishes ≡ false → IsOut a x) → IsIn a x → Held (head_helped form (head_of word) false mech) → Held (head_helped form (if publishes then head_of word else None) false mech)
-  look_held_if true x word none in' held = held
-  look_held_if false x word none in' held = absurd (not_both in' (none refl))
-
   help_held : (drives : Bool) (help : Help S W) → (looks (phase.Help drives help) ≡ false → n' ≡ n) → PhaseFacts a seats who (next_number (phase.Help drives help) mech.number) (phase_view (phase.Help drives help))
       → b.queue ≡ slice_index (words_after (helping_request form help.at help.head) words) QUEUE → LookFacts a n (phase_view (phase.Help drives help)) → held_back a.queue a.records n (phase.Help drives help) ≡ true
       → Held (help_stepped form drives help (seen_of (helping_request form help.at help.head) words) mech) ⊎ Dropped a b
@@ -175,27 +166,27 @@ module _ {S W : Type 0} (form : NormalForm S W) (mech : Mech S W) (seats who : �
         | inr still' ↦ inl (ap (λ c. c && (record_number (b.records s) == n')) still'.0 ∙ eq-eqb (record_number (b.records s)) n' (still'.1 ∙ number ∙ sym (keeps refl)))
       ])
 
-  pub step_held : (p : Phase S W) (x : ℕ) → rests p ≡ false → (mech.setup.publishes ≡ false → IsOut a x) → IsIn a x → ((t : ℕ) → IsIn a t → t < seats) → (looks p ≡ false → n' ≡ n) → (looks p ≡ true → n' ≡ number_at (head_of (queue_in words)) (record_in words))
+  pub step_held : (p : Phase S W) (x : ℕ) → rests p ≡ false → IsIn a x → ((t : ℕ) → IsIn a t → t < seats) → (looks p ≡ false → n' ≡ n) → (looks p ≡ true → n' ≡ number_at (head_of (queue_in words)) (record_in words))
       → b.queue ≡ slice_index (words_after (request_in form p mech) words) QUEUE → ((t : ℕ) → t < 8 → b.records t ≡ record_in (words_after (request_in form p mech) words) t)
       → PhaseFacts a seats who (next_number p mech.number) (phase_view p) → LookFacts a n (phase_view p) → held_back a.queue a.records n p ≡ true
       → Held (stepped form p (seen_of (request_in form p mech) words) mech) ⊎ Dropped a b
-  step_held phase.Idle x runs none in' below keeps looked wrote same facts h held = absurd cc
-  step_held phase.Begin x runs none in' below keeps looked wrote same facts h held = inl refl
-  step_held phase.Look x runs none in' below keeps looked wrote same facts h held =
+  step_held phase.Idle x runs in' below keeps looked wrote same facts h held = absurd cc
+  step_held phase.Begin x runs in' below keeps looked wrote same facts h held = inl refl
+  step_held phase.Look x runs in' below keeps looked wrote same facts h held =
       let stay : words_after (Load QUEUE) words ≡ words = load_keeps QUEUE words in
       inl
-      (subst (λ q. Held (head_helped form (if mech.setup.publishes then head_of q else None) false mech)) (sym (load_tells QUEUE words))
-      (look_held_if mech.setup.publishes x (queue_in words) none in' (look_held (queue_seats a.queue) x mech same_seats (ap queue_seats (sym (wrote ∙ ap queue_in stay))) in' below (λ t low. same t low ∙ ap (λ ws. record_in ws t) stay) (looked refl))))
-  step_held (phase.Generate s step) x runs none in' below keeps looked wrote same facts h held = absurd (true≢false (sym held))
-  step_held (phase.Apply run stores step) x runs none in' below keeps looked wrote same facts h held = absurd (true≢false (sym held))
-  step_held (phase.Wrap wrap) x runs none in' below keeps looked wrote same facts h held = absurd (true≢false (sym held))
-  step_held (phase.Announce step) x runs none in' below keeps looked wrote same facts h held = absurd (true≢false (sym held))
-  step_held (phase.Enter owner) x runs none in' below keeps looked wrote same facts h held = absurd (true≢false (sym held))
-  step_held phase.Drive x runs none in' below keeps looked wrote same facts h held = absurd (true≢false (sym held))
-  step_held (phase.Help drives help) x runs none in' below keeps looked wrote same facts h held = help_held drives help keeps facts wrote h held
-  step_held phase.Collect x runs none in' below keeps looked wrote same facts h held = absurd (true≢false (sym held))
-  step_held (phase.Value reference) x runs none in' below keeps looked wrote same facts h held = absurd (true≢false (sym held))
-  step_held (phase.End reply) x runs none in' below keeps looked wrote same facts h held = absurd (true≢false (sym held))
+      (subst (λ q. Held (head_helped form (head_of q) false mech)) (sym (load_tells QUEUE words))
+      (look_held (queue_seats a.queue) x mech same_seats (ap queue_seats (sym (wrote ∙ ap queue_in stay))) in' below (λ t low. same t low ∙ ap (λ ws. record_in ws t) stay) (looked refl)))
+  step_held (phase.Generate s step) x runs in' below keeps looked wrote same facts h held = absurd (true≢false (sym held))
+  step_held (phase.Apply run stores step) x runs in' below keeps looked wrote same facts h held = absurd (true≢false (sym held))
+  step_held (phase.Wrap wrap) x runs in' below keeps looked wrote same facts h held = absurd (true≢false (sym held))
+  step_held (phase.Announce step) x runs in' below keeps looked wrote same facts h held = absurd (true≢false (sym held))
+  step_held (phase.Enter owner) x runs in' below keeps looked wrote same facts h held = absurd (true≢false (sym held))
+  step_held phase.Drive x runs in' below keeps looked wrote same facts h held = absurd (true≢false (sym held))
+  step_held (phase.Help drives help) x runs in' below keeps looked wrote same facts h held = help_held drives help keeps facts wrote h held
+  step_held phase.Collect x runs in' below keeps looked wrote same facts h held = absurd (true≢false (sym held))
+  step_held (phase.Value reference) x runs in' below keeps looked wrote same facts h held = absurd (true≢false (sym held))
+  step_held (phase.End reply) x runs in' below keeps looked wrote same facts h held = absurd (true≢false (sym held))
 
 -- the machines of all other seats are held back as before, unless the head has left
 pub other_held : {S W : Type 0} (seats who : ℕ) (a b : Scene) (l : Later seats who a b) (n : ℕ) (p : Phase S W) → held_back a.queue a.records n p ≡ true → (held_back b.queue b.records n p ≡ true) ⊎ Dropped a b

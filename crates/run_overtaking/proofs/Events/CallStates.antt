@@ -14,7 +14,7 @@ use Rattle.overtaking_law.specs.Order.{publication, completion}
 use Rattle.overtaking_law.proofs.States.{State, next, completed_stays}
 use Rattle.overtaking_law.proofs.States.State.{Unpublished, Waiting, Completed}
 use Rattle.run_overtaking.proofs.Accounts.Places.{in_rest}
-use Rattle.run_overtaking.specs.Events.{published, completed}
+use Rattle.fast_slow_engine.specs.Events.{published, completed}
 
 module _ (x k : ℕ) where
   keeps_count : (c : ℕ) → Waiting (c + 0) ≡ Waiting c

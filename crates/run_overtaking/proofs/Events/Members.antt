@@ -9,7 +9,7 @@ use Rattle.help_queue.specs.Gathers.{among_seats, holds, is_open}
 use Rattle.help_queue_laws.proofs.Known.QueueWords.{not_both}
 use Rattle.overtaking_law.specs.Order.{publication, completion, IsOpen, MayFollow, AreOrdered}
 use Rattle.overtaking_law.proofs.Ordered.{are_ordered-push}
-use Rattle.run_overtaking.specs.Events.{published, completed}
+use Rattle.fast_slow_engine.specs.Events.{published, completed}
 use Rattle.run_overtaking.proofs.Accounts.Places.{in_rest}
 use Rattle.run_overtaking.proofs.Accounts.Allowances.{tail_differ, head_differs}
 

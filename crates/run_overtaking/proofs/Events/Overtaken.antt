@@ -15,7 +15,7 @@ use Rattle.overtaking_law.proofs.States.State.{Unpublished, Waiting, Completed}
 use Rattle.run_overtaking.specs.Accounts.{overtakers, most_overtaken}
 use Rattle.run_overtaking.specs.Counts.{Counts, counts_after}
 use Rattle.run_overtaking.specs.Waiting.{Waits, enters}
-use Rattle.run_overtaking.specs.Events.{published, completed, eight_seats, step_events}
+use Rattle.fast_slow_engine.specs.Events.{published, completed, eight_seats, step_events}
 use Rattle.run_overtaking.proofs.Accounts.Sums.{fold_append, sum_grows, sum_zero}
 use Rattle.run_overtaking.proofs.Events.CallStates.{published_waits, published_none, completed_none, completed_waits, own_waits, own_none}
 

@@ -23,7 +23,7 @@ use Rattle.fast_slow_engine.proofs.SameCalls.{same_fed}
 use Rattle.fast_slow_engine.proofs.Ticks.{draws}
 use Rattle.overtaking_law.specs.Order.{publication, completion, AreOrdered}
 use Rattle.run_queue.proofs.EventLaws.{HasCompleted, completed_later}
-use Rattle.run_overtaking.specs.Events.{published, completed, eight_seats}
+use Rattle.fast_slow_engine.specs.Events.{published, completed, eight_seats}
 use Rattle.run_overtaking.proofs.Accounts.Scenes.{opened_before}
 use Rattle.run_overtaking.proofs.Events.Members.{Apart, Follows, in_none, in_cons, in_parts, follows_append, ordered_more, completed_has, completed_all, completed_follow, published_has, published_all, published_follow}
 
@@ -43,20 +43,20 @@ pub record TellsCalls {S W : Type 0} (events : List Event) (i : ℕ) (mech : Mec
   pub begun' : (n : ℕ) → Contains events (event kind.Begin i n) → (n < mech.number) ⊎ ((mech.number ≡ n) × (ticks_left mech.phase ≤ 1))
   pub returned' : (n : ℕ) → Contains events (event kind.Return i n) → (n < mech.number) ⊎ ((mech.number ≡ n) × (rests mech.phase ≡ true))
 
-in_one : (x e : Event) (o : Option Event) → o ≡ Some x → Contains (option_to_list o) e → e ≡ x
+pub in_one : (x e : Event) (o : Option Event) → o ≡ Some x → Contains (option_to_list o) e → e ≡ x
 in_one x e o is c = elim (in_cons x e [] (subst (λ (p : Option Event). Contains (option_to_list p) e) is c)) [ inl same ↦ sym same | inr none ↦ absurd (in_none e none) ]
 
 -- ---- the machine's own event
 
 -- it has none, or it begins, or it returns
-abbrev Own : {S W : Type 0} → NormalForm S W → Phase S W → Mech S W → Type 0
+abbrev pub Own : {S W : Type 0} → NormalForm S W → Phase S W → Mech S W → Type 0
 Own form p mech =
     (event_in p mech ≡ None)
     ⊎ (((event_in p mech ≡ Some (event_of kind.Begin mech)) × (ticks_left p ≡ 2))
     ⊎ ((event_in p mech ≡ Some (event_of kind.Return mech)) × ((seen : Seen) → rests (stepped form p seen mech).phase ≡ true)))
 
 module _ {S W : Type 0} (form : NormalForm S W) where
-  own_is : (p : Phase S W) (mech : Mech S W) → Own form p mech
+  pub own_is : (p : Phase S W) (mech : Mech S W) → Own form p mech
   own_is phase.Idle mech = inl refl
   own_is phase.Begin mech = inr (inl (refl, refl))
   own_is phase.Look mech = inl refl

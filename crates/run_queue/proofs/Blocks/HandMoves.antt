@@ -35,7 +35,7 @@ use Rattle.fast_slow_engine.specs.declared.help.Work.TheVariants as work
 use Rattle.fast_slow_engine.specs.Mechs.{Mech}
 use Rattle.fast_slow_engine.specs.HelpTable.{helping_fed, helping_hand, helping_ends}
 use Rattle.help_queue.specs.Heads.{head_of}
-use Rattle.fast_slow_engine.specs.PhaseTable.{in_phase, with_hand, told, may_search, head_seen, tried, failed, offered, searched, wrapped_up, executed, generated, applied, announced, entered, helped, head_helped, help_stepped, stepped}
+use Rattle.fast_slow_engine.specs.PhaseTable.{in_phase, with_hand, told, may_search, tried, failed, offered, searched, wrapped_up, executed, generated, applied, announced, entered, helped, head_helped, help_stepped, stepped}
 use Rattle.run_queue.specs.Rounds.{one_if, names_in, names_helping}
 use Rattle.run_queue.specs.HeldBlocks.{in_hand, claims_in, claims_helping, HelpingHand, PhaseHand}
 use Rattle.run_queue.proofs.Blocks.HandSteps.{hand_on, work_count}
@@ -155,7 +155,7 @@ module _ {S W : Type 0} where
     pub phase_hands : (p : Phase S W) (seen : Seen) (mech : Mech S W) → PhaseHand p mech.hand → PhaseHand mech.phase mech.hand → HandStep p seen mech (stepped form p seen mech)
     phase_hands phase.Idle seen mech h own = record { count = omega arith; fits = own }
     phase_hands phase.Begin seen mech h own = record { count = omega arith; fits = tt }
-    phase_hands phase.Look seen mech h own = quiet seen mech _ phase.Look refl (holds_head (in_hand mech.hand + 0) (head_seen mech.setup seen.before) false mech (omega arith))
+    phase_hands phase.Look seen mech h own = quiet seen mech _ phase.Look refl (holds_head (in_hand mech.hand + 0) (head_of seen.before) false mech (omega arith))
     phase_hands (phase.Generate s step) seen mech h own = quiet seen mech _ (phase.Generate s step) refl (holds_generated s step seen mech)
     phase_hands (phase.Apply run stores step) seen mech h own = quiet seen mech _ (phase.Apply run stores step) refl (holds_applied (in_hand mech.hand + 0) run stores step seen mech (omega arith))
     phase_hands (phase.Wrap wrap) seen mech h own = quiet seen mech _ (phase.Wrap wrap) refl (holds_wrapped (in_hand mech.hand + 0) (form.wrap_found_of wrap seen) (form.feed_wrap_of wrap seen) mech (omega arith))

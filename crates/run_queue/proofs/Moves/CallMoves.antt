@@ -82,22 +82,10 @@ module _ {S W : Type 0} (form : NormalForm S W) (mech : Mech S W) (words : List 
 
   -- ---- looks
 
-  -- where calls are published the look is that of the queue; where none is, nobody is in the word, and a search begins
-  look_by : (publishes : Bool) → (publishes ≡ false → IsOut (scene_of words ghosts) mech.seat) → Facts in_queue.Look
-      → Goes mech.setup.seats mech.seat words ghosts in_queue.Look (Load QUEUE) (λ seen. head_helped form (if publishes then head_of seen.before else None) false mech)
-  look_by true out h =
+  pub look_goes : Facts in_queue.Look → Goes' phase.Look
+  look_goes h =
       goes_by in_queue.Look _ (caller_fed (caller_at in_queue.Look)) (λ seen. head_helped form (head_of seen.before) false mech) (by_caller in_queue.Look h)
       (λ seen. views_number seats (made + 1) mech.number (head_helped form (head_of seen.before) false mech) (callers.help_begun seen.before seats false) number (views_begun form seen.before false mech))
-  look_by false out h =
-      let view = views_tried form seats mech in
-      beside_goes seats i words ghosts in_queue.Look long (Load QUEUE) (λ seen. head_helped form None false mech) refl (leaves_load QUEUE words) sound
-      (λ b records queue. (
-        knows_by b seats i mech.number (tried form mech) in_queue.StoreValue view (free_same was b records queue i mech.number h, out_same was b records queue i (out refl)),
-        view.fits,
-      ))
-
-  pub look_goes : (mech.setup.publishes ≡ false → IsOut (scene_of words ghosts) mech.seat) → Facts in_queue.Look → Goes' phase.Look
-  look_goes out h = look_by mech.setup.publishes out h
 
   pub drive_goes : Facts in_queue.Drive → Goes' phase.Drive
   drive_goes h =

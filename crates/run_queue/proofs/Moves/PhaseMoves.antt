@@ -66,19 +66,19 @@ module _ {S W : Type 0} (form : NormalForm S W) (mech : Mech S W) (words : List 
   -- ---- all phases
 
   pub phase_goes : (phase : Phase S W) → rests phase ≡ false → PhaseFacts (scene_of words ghosts) mech.setup.seats mech.seat (next_number phase mech.number) (phase_view phase) → PhaseFits mech.setup.seats phase
-      → (mech.setup.publishes ≡ false → IsOut (scene_of words ghosts) mech.seat) → (is_for_client phase ≡ true → LeavesQueue (request_in form phase mech) words) → Goes' phase
-  phase_goes Idle runs h fits out client = absurd cc
-  phase_goes Begin runs h fits out client = fast.begin_goes form mech words ghosts long sound h
-  phase_goes Look runs h fits out client = call.look_goes form mech words ghosts few inside long sound some most out h
-  phase_goes (Generate s step) runs h fits out client = fast.generate_goes form mech words ghosts long sound s step client h.0 h.1
-  phase_goes (Apply run stores step) runs h fits out client = fast.apply_goes form mech words ghosts long sound run stores step fits client h.0 h.1
-  phase_goes (Wrap wrap) runs h fits out client = fast.wrap_goes form mech words ghosts long sound wrap (client refl) h.0 h.1
-  phase_goes (Announce announcing.Value) runs h fits out client = call.value_goes form mech words ghosts few inside long sound some most h
-  phase_goes (Announce announcing.Op) runs h fits out client = call.op_goes form mech words ghosts few inside long sound some most low h
-  phase_goes (Announce announcing.Record) runs h fits out client = call.record_goes form mech words ghosts few inside long sound some most h
-  phase_goes (Enter owner) runs h fits out client = call.enter_goes form mech words ghosts few inside long sound some most owner h
-  phase_goes Drive runs h fits out client = call.drive_goes form mech words ghosts few inside long sound some most h
-  phase_goes (Help drives help) runs h fits out client = help_goes drives help.head help.seats fits.0 help.at fits.1 h client
-  phase_goes Collect runs h fits out client = call.collect_goes form mech words ghosts few inside long sound some most h
-  phase_goes (Value reference) runs h fits out client = fast.value_goes form mech words ghosts long sound reference h
-  phase_goes (End reply) runs h fits out client = fast.end_goes form mech words ghosts long sound reply h
+      → (is_for_client phase ≡ true → LeavesQueue (request_in form phase mech) words) → Goes' phase
+  phase_goes Idle runs h fits client = absurd cc
+  phase_goes Begin runs h fits client = fast.begin_goes form mech words ghosts long sound h
+  phase_goes Look runs h fits client = call.look_goes form mech words ghosts few inside long sound some most h
+  phase_goes (Generate s step) runs h fits client = fast.generate_goes form mech words ghosts long sound s step client h.0 h.1
+  phase_goes (Apply run stores step) runs h fits client = fast.apply_goes form mech words ghosts long sound run stores step fits client h.0 h.1
+  phase_goes (Wrap wrap) runs h fits client = fast.wrap_goes form mech words ghosts long sound wrap (client refl) h.0 h.1
+  phase_goes (Announce announcing.Value) runs h fits client = call.value_goes form mech words ghosts few inside long sound some most h
+  phase_goes (Announce announcing.Op) runs h fits client = call.op_goes form mech words ghosts few inside long sound some most low h
+  phase_goes (Announce announcing.Record) runs h fits client = call.record_goes form mech words ghosts few inside long sound some most h
+  phase_goes (Enter owner) runs h fits client = call.enter_goes form mech words ghosts few inside long sound some most owner h
+  phase_goes Drive runs h fits client = call.drive_goes form mech words ghosts few inside long sound some most h
+  phase_goes (Help drives help) runs h fits client = help_goes drives help.head help.seats fits.0 help.at fits.1 h client
+  phase_goes Collect runs h fits client = call.collect_goes form mech words ghosts few inside long sound some most h
+  phase_goes (Value reference) runs h fits client = fast.value_goes form mech words ghosts long sound reference h
+  phase_goes (End reply) runs h fits client = fast.end_goes form mech words ghosts long sound reply h

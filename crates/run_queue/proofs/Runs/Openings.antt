@@ -9,14 +9,13 @@ use Rattle.word_fields.specs.Records.{record_phase, record_number}
 use Rattle.node_arena.specs.MemoryMap.{op_place, record_place, value_place}
 use Rattle.node_arena.specs.Opening.{opening_word, opening_words, tree_word}
 use Rattle.node_arena.proofs.OpeningLemmas.{opening_each, length-opening_words}
-use Rattle.help_queue.specs.Gathers.{is_open}
+use Rattle.help_queue.specs.Gathers.{among_seats, holds, is_open}
 use Rattle.help_queue_laws.specs.Ghosts.{no_ghosts}
-use Rattle.help_queue_laws.proofs.Known.Scenes.{scene_of, IsSound}
+use Rattle.help_queue_laws.proofs.Known.Scenes.{scene_of, IsOut, IsSound}
 use Rattle.help_queue_laws.proofs.Known.Knowledge.{IsFree}
 use Rattle.help_queue_laws.proofs.Known.Frames.{Agrees, frames_sound}
 use Rattle.help_queue_laws.proofs.Steps.Results.{seat_word}
-use Rattle.help_queue_laws.proofs.Runs.RunLemmas.{zeros, zero_phase, zero_number, opening_sound}
-use Rattle.run_queue.specs.Alone.{IsUnused}
+use Rattle.help_queue_laws.proofs.Runs.RunLemmas.{zeros, zero_phase, zero_number, zero_seats, opening_sound}
 use Rattle.run_queue.specs.Premises.{IsQueuePlace}
 
 -- the words of the queue are among the first
@@ -54,8 +53,9 @@ module _ (c : Client) (cap : ℕ) where
   pub opens_sound : (seats : ℕ) → IsSound (scene_of (opening_words c cap) no_ghosts)
   opens_sound seats = frames_sound seats 0 (replicate 32 0) (opening_words c cap) no_ghosts opening_agrees opening_sound
 
-  pub opens_unused : IsUnused (opening_words c cap)
-  opens_unused place is = is_zero place is ∙ zeros 32 place
+  -- nobody is in the queue word
+  pub opens_out : (t : ℕ) → IsOut (scene_of (opening_words c cap) no_ghosts) t
+  opens_out t = ap (λ q. holds q t) (is_zero 1 (inl refl) ∙ zeros 32 1) ∙ ap (among_seats t) zero_seats
 
   pub opens_zero : (t : ℕ) → t < 8 → slice_index (opening_words c cap) (record_place t) ≡ 0
   opens_zero t few = opening_agrees.records t few ∙ zeros 32 (record_place t)

@@ -22,33 +22,29 @@ use Rattle.fast_slow_engine.specs.Runs.{Move, RunState, IsMove, AreMoves, CanMov
 use Rattle.fast_slow_engine.proofs.Commands.{code_fits}
 use Rattle.fast_slow_engine.proofs.SameCalls.{same_fed}
 use Rattle.run_queue.specs.QueueViews.{phase_view, next_number}
-use Rattle.run_queue.specs.Alone.{is_alone, IsUnused, AloneHold}
 use Rattle.run_queue.specs.Fits.{PhaseFits}
 use Rattle.run_queue.specs.QueueGhosts.{ghosts_moved, ghosts_stepped, queue_ghosts}
 use Rattle.run_queue.specs.Premises.{HasRounds, LeavesQueue, KeepsQueue, ClientLeavesQueue, MoveLeavesQueue, is_for_client}
 use Rattle.run_queue.proofs.Views.CallViews.{KnowsQueue}
 use Rattle.run_queue.proofs.Moves.Beside.{Goes}
 use Rattle.run_queue.proofs.Moves.PhaseMoves.{phase_goes}
-use Rattle.run_queue.proofs.Runs.Alone.{unused_out, unused_rounds, alone_fed, alone_unused}
-use Rattle.run_queue.proofs.Runs.Openings.{opens_sound, opens_free, opens_long, opens_unused}
+use Rattle.run_queue.proofs.Runs.Openings.{opens_sound, opens_free, opens_long}
 
 module _ {S W : Type 0} where
   -- the machine of a seat: it has that seat and the setup of the run, a call that runs has a number and a code that fit an op
-  -- word, and what its phase says by itself. Where no call is published it is alone
+  -- word, and what its phase says by itself
   pub record IsSeatOf (setup : Setup) (i : ℕ) (mech : Mech S W) : Type 0 where
     pub seat : mech.seat ≡ i
     pub setup' : mech.setup ≡ setup
     pub most : mech.number ≤ 65535
     pub runs : rests mech.phase ≡ false → (1 ≤ mech.number) × (mech.op.code < 2 ^ 4)
     pub fits : PhaseFits setup.seats mech.phase
-    pub alone : setup.publishes ≡ false → is_alone mech.phase ≡ true
 
   -- what holds of the state of every run, with its ghosts: the invariant of the main induction
   pub record IsQueued (setup : Setup) (state : RunState S W) (ghosts : Ghosts) : Type 0 where
     pub long : 32 ≤ length state.words
     pub count : length state.mechs ≡ setup.seats
     pub sound : IsSound (scene_of state.words ghosts)
-    pub unused : setup.publishes ≡ false → IsUnused state.words
     pub seats : (i : ℕ) (mech : Mech S W) → slice_get state.mechs i ≡ Some mech → IsSeatOf setup i mech
     pub knows : (i : ℕ) (mech : Mech S W) → slice_get state.mechs i ≡ Some mech → KnowsQueue (scene_of state.words ghosts) setup.seats i mech
 
@@ -80,7 +76,7 @@ module _ {S W : Type 0} where
         let few = can.1 in
         record {
           runs = refl;
-          is = record { seat = is.seat; setup' = is.setup'; most = omega (arith, few); runs = λ _. (omega arith, code_fits form.client op can.2.command); fits = tt; alone = λ none. refl };
+          is = record { seat = is.seat; setup' = is.setup'; most = omega (arith, few); runs = λ _. (omega arith, code_fits form.client op can.2.command); fits = tt };
           knows = subst (λ phase. KnowsQueue a setup.seats i (record mech { phase = phase })) (resting mech.phase can.0) knows;
         }
 
@@ -110,7 +106,7 @@ module _ {S W : Type 0} where
           (phase_goes form mech words ghosts mech.setup.few_seats (subst (λ n. mech.seat < n) (sym seats) (subst (λ k. k < setup.seats) (sym m.is.seat) inside)) q.long q.sound some m.is.most low rounds
           mech.phase m.runs
           (subst (λ k. KnowsQueue (scene_of words ghosts) mech.setup.seats k mech) (sym m.is.seat) (subst (λ n. KnowsQueue (scene_of words ghosts) n i mech) (sym seats) m.knows))
-          (subst (λ n. PhaseFits n mech.phase) (sym seats) m.is.fits) (λ off. unused_out words ghosts mech.seat (q.unused (sym (ap (λ (s : Setup). s.publishes) m.is.setup') ∙ off))) client))
+          (subst (λ n. PhaseFits n mech.phase) (sym seats) m.is.fits) client))
 
       new_is : PhaseFits setup.seats new.phase → IsSeatOf setup i new
       new_is fits =
@@ -123,7 +119,6 @@ module _ {S W : Type 0} where
             most = subst (λ n. n ≤ 65535) (sym number) m.is.most;
             runs = λ _. (subst (λ n. 1 ≤ n) (sym number) runs.0, subst (λ (op : Op). op.code < 2 ^ 4) (sym same.op) runs.1);
             fits = fits;
-            alone = λ none. alone_fed form mech.phase (seen_of (mech_request form mech) words) mech (ap (λ (s : Setup). s.publishes) m.is.setup' ∙ none) (m.is.alone none) (m.is.alone none);
           }
 
       pub move_queued : HasRounds words → (is_for_client mech.phase ≡ true → LeavesQueue (mech_request form mech) words) → IsQueued setup (stepped_by form i mech state) (ghosts_stepped form i mech words ghosts)
@@ -133,7 +128,6 @@ module _ {S W : Type 0} where
             long = subst (λ n. 32 ≤ n) (sym (length-words_after (mech_request form mech) words)) q.long;
             count = length-set state.mechs i new ∙ q.count;
             sound = goes.sound;
-            unused = λ none. alone_unused form mech words setup.seats mech.phase (m.is.alone none) m.is.fits client (q.unused none);
             seats = λ k mate at. elim (cases_eq k i) [
               | inl same ↦ subst (λ t. IsSeatOf setup t mate) (sym same) (subst (IsSeatOf setup i) (is_new k mate same at) (new_is goes.fits))
               | inr other ↦ q.seats k mate (sym (beside_set state.mechs i k new other) ∙ at)
@@ -172,8 +166,7 @@ module _ {S W : Type 0} where
       long = opens_long form.client setup.cap;
       count = (let make : ℕ → Mech S W = λ seat. mech_new seat setup in length-map-range_with_len make 0 setup.seats);
       sound = opens_sound form.client setup.cap setup.seats;
-      unused = λ none. opens_unused form.client setup.cap;
-      seats = λ i mech found. subst (IsSeatOf setup i) (new_mech setup i mech found).0 (record { seat = refl; setup' = refl; most = omega arith; runs = λ h. absurd cc; fits = tt; alone = λ none. refl });
+      seats = λ i mech found. subst (IsSeatOf setup i) (new_mech setup i mech found).0 (record { seat = refl; setup' = refl; most = omega arith; runs = λ h. absurd cc; fits = tt });
       knows = λ i mech found.
           let inside = (new_mech setup i mech found).1 in
           let few = setup.few_seats in
@@ -201,17 +194,3 @@ module _ {S W : Type 0} where
     runs_later setup move older are keeps =
         let state = run_of form setup older in
         move_later setup move state (queue_ghosts form setup older) (slice_get state.mechs move.seat) refl are.1 keeps.1 keeps.2 (runs_queued setup older are.0 keeps.0)
-
-    -- ---- where no call is published
-
-    pub alone_hold : AloneHold form
-    alone_hold setup moves none are leaves =
-        let keeps = alone_keeps setup moves none are leaves in
-        let q = runs_queued setup moves are keeps in
-        (keeps, record { unused = q.unused none; seats = λ i mech found. (q.seats i mech found).alone none })
-      where
-        alone_keeps : (setup : Setup) (moves : List Move) → setup.publishes ≡ false → AreMoves form setup moves → ClientLeavesQueue form setup moves → KeepsQueue form setup moves
-        alone_keeps setup [] none are leaves = tt
-        alone_keeps setup (move ∷ older) none are leaves =
-            let keeps = alone_keeps setup older none are.0 leaves.0 in
-            (keeps, leaves.1, unused_rounds (run_of form setup older).words ((runs_queued setup older are.0 keeps).unused none))

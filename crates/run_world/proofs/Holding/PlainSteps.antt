@@ -19,7 +19,7 @@ use Rattle.fast_slow_engine.specs.declared.help.Help as helper
 use Rattle.fast_slow_engine.specs.declared.help.Helping.TheVariants as helping
 use Rattle.fast_slow_engine.specs.HelpTable.{help_fed, helping_ends, helping_hand}
 use Rattle.fast_slow_engine.specs.Mechs.{Mech}
-use Rattle.fast_slow_engine.specs.PhaseTable.{announced, entered, failed, head_helped, head_seen, helped, in_phase, may_search, stepped, told, tried, with_hand}
+use Rattle.fast_slow_engine.specs.PhaseTable.{announced, entered, failed, head_helped, helped, in_phase, may_search, stepped, told, tried, with_hand}
 
 -- this holds of each phase in which a call has no list and asks for no block
 pub record HoldsPlain {S W : Type 0} (P : Phase S W → Type 0) : Type 0 where
@@ -83,7 +83,7 @@ module _ {S W : Type 0} (P : Phase S W → Type 0) (is : HoldsPlain P) where
     pub leads_plain : (phase : Phase S W) (seen : Seen) (mech : Mech S W) → LeadsPlain phase → P (stepped form phase seen mech).phase
     leads_plain Idle seen mech leads = absurd leads
     leads_plain Begin seen mech leads = is.look
-    leads_plain Look seen mech leads = head_plain (head_seen mech.setup seen.before) false mech
+    leads_plain Look seen mech leads = head_plain (head_of seen.before) false mech
     leads_plain (Generate s at) seen mech leads = absurd leads
     leads_plain (Apply run stores at) seen mech leads = absurd leads
     leads_plain (Wrap w) seen mech leads = absurd leads

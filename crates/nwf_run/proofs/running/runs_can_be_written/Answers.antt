@@ -1,8 +1,8 @@
 use Rattle.fast_slow_engine.specs.Runs.{moves_over}
 use Rattle.run_laws.proofs.FileLemmas.{files_run}
-use Rattle.run_history.proofs.LinearizedLemmas.{replies_all_fit}
-use Rattle.run_history.proofs.PlaceableLemmas.{each_placeable}
-use Rattle.run_history.proofs.RunLemmas.{counters_kept}
+use Rattle.run_invariant.proofs.Kept.Induction.{runs_are_kept}
+use Rattle.run_invariant.proofs.Kept.Runs.{counters_kept}
+use Rattle.run_reports.proofs.Placed.Linearized.{replies_all_fit}
 use Rattle.nwf_run.proofs.Writable as writable
 use Rattle.nwf_run.proofs.running.runs_can_be_written.Goals as goal
 
@@ -11,5 +11,5 @@ returns g c =
     let form = g.C.Normalized.form in
     let laws = g.met.C.Normalized.laws in
     writable.runs_can_be_written form
-    (λ setup files order fit quiet. (counters_kept form laws setup (moves_over form setup files order) (files_run form setup files order fit).follow quiet).0)
-    (replies_all_fit form laws (each_placeable form laws))
+    (λ setup files order fit. (counters_kept form laws (runs_are_kept form laws) setup (moves_over form setup files order) (files_run form setup files order fit).follow).0)
+    (replies_all_fit form laws (runs_are_kept form laws))

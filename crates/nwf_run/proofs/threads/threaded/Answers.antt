@@ -10,6 +10,7 @@ use Rattle.lin_report.specs.declared.calls.Receipt.{Receipt}
 use Rattle.lin_report.specs.Calls.{report_of}
 use Rattle.lin_report.specs.Text.{reply_is_exhausted, report_text}
 use Rattle.fast_slow_engine.specs.Reports.{report_of_run}
+use Rattle.overtaking_law.specs.Overtaking.{greatest_overtaken}
 use Rattle.nwf_run.proofs.RunReports.{files_of, files_fit, can_write, few_lines, text_is, marked}
 use Rattle.nwf_run.proofs.ThreadReports.{all_lines, ran, sorted_lines, whole_run}
 use Rattle.nwf_run.proofs.threads.threaded.Goals as goal
@@ -20,8 +21,8 @@ write_report-requires-clause-room g c =
     let commands : List (Vec Op Global) = c.args.commands.items in
     let files = files_of commands in
     let fit = files_fit form.client _ commands (search rules) c.requires.commands in
-    let meets = c.threads_meet_headline.ensures _ files c.in_ok-lines.lines.items _ _ fit.count refl c.in_ok-lines.ensures.run in
-    let can = c.runs_can_be_written.ensures _ files meets.order fit refl in
+    let meets = c.threads_meet_headline.ensures _ files c.in_ok-lines.lines.items _ _ fit.count c.in_ok-lines.ensures.run in
+    let can = c.runs_can_be_written.ensures _ files meets.order fit in
     let moved = subst (IsPermutation c.in_ok-lines.lines.items) (sym c.deref-2.ensures.value) c.sort_unstable_by_key.ensures.permutation in
     let order = subst (IsNonDecreasingBy (λ (r : Receipt). r.begin)) (sym c.deref-2.ensures.value) (IsNonDecreasingBy-from_sort_by_key (λ (r : Receipt). r.begin) _ c.sort_unstable_by_key.ensures.sorted (λ a r q k. search rules)) in
     let sorted = sorted_lines form _ files c.in_ok-lines.lines.items _ _ meets c.deref-2.result.now moved order in
@@ -35,8 +36,8 @@ write_report-requires-clause-report g c =
     let commands : List (Vec Op Global) = c.args.commands.items in
     let files = files_of commands in
     let fit = files_fit form.client _ commands (search rules) c.requires.commands in
-    let meets = c.threads_meet_headline.ensures _ files c.in_ok-lines.lines.items _ _ fit.count refl c.in_ok-lines.ensures.run in
-    let can = c.runs_can_be_written.ensures _ files meets.order fit refl in
+    let meets = c.threads_meet_headline.ensures _ files c.in_ok-lines.lines.items _ _ fit.count c.in_ok-lines.ensures.run in
+    let can = c.runs_can_be_written.ensures _ files meets.order fit in
     let moved = subst (IsPermutation c.in_ok-lines.lines.items) (sym c.deref-2.ensures.value) c.sort_unstable_by_key.ensures.permutation in
     let order = subst (IsNonDecreasingBy (λ (r : Receipt). r.begin)) (sym c.deref-2.ensures.value) (IsNonDecreasingBy-from_sort_by_key (λ (r : Receipt). r.begin) _ c.sort_unstable_by_key.ensures.sorted (λ a r q k. search rules)) in
     let sorted = sorted_lines form _ files c.in_ok-lines.lines.items _ _ meets c.deref-2.result.now moved order in
@@ -49,23 +50,23 @@ returns g c =
     let commands : List (Vec Op Global) = c.args.commands.items in
     let files = files_of commands in
     let fit = files_fit form.client _ commands (search rules) c.requires.commands in
-    let meets = c.threads_meet_headline.ensures _ files c.in_ok-lines.lines.items _ _ fit.count refl c.in_ok-lines.ensures.run in
-    let can = c.runs_can_be_written.ensures _ files meets.order fit refl in
+    let meets = c.threads_meet_headline.ensures _ files c.in_ok-lines.lines.items _ _ fit.count c.in_ok-lines.ensures.run in
+    let can = c.runs_can_be_written.ensures _ files meets.order fit in
     let moved = subst (IsPermutation c.in_ok-lines.lines.items) (sym c.deref-2.ensures.value) c.sort_unstable_by_key.ensures.permutation in
     let order = subst (IsNonDecreasingBy (λ (r : Receipt). r.begin)) (sym c.deref-2.ensures.value) (IsNonDecreasingBy-from_sort_by_key (λ (r : Receipt). r.begin) _ c.sort_unstable_by_key.ensures.sorted (λ a r q k. search rules)) in
     let sorted = sorted_lines form _ files c.in_ok-lines.lines.items _ _ meets c.deref-2.result.now moved order in
     let state = ran form _ files c.in_ok-lines.lines.items _ _ meets in
     let mark = c.any_exhausted-exhausted.ensures ∙ ap (list_any (λ (r : Receipt). reply_is_exhausted r.reply)) (c.deref-3.ensures.value ∙ sym c.deref-2.ensures.value) in
     record {
-      run = record { setup = _; commands = files; order = meets.order; report = report_of_run state };
+      run = record { setup = _; commands = files; order = meets.order; report = report_of_run state; overtaken = greatest_overtaken state.events };
       of_commands = refl;
       is = record {
         runs = record {
           has_seats = omega (arith, c.len.ensures, c.args.commands.ok.0, length-map commands (λ (ops : Vec Op Global). ops.items));
           has_cap = refl;
           has_limit = refl;
-          unpublished = refl;
           made = refl;
+          counted = refl;
         };
         whole = whole_run form _ files c.in_ok-lines.lines.items _ _ meets (all_lines form _ files c.in_ok-lines.lines.items _ _ fit.count c.in_ok-lines.ensures.run);
         over = meets.over;

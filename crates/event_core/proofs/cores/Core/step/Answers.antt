@@ -1,7 +1,12 @@
-use Rattle.std.proofs.Common.{◌∙◌, ap}
+use Rattle.std.proofs.Common.{rules, ◌∙◌, ◌+◌, ◌++◌, ◌≤◌, sym, subst, ap, length, vec_len, vec_capacity}
+use Rattle.step_memory.specs.Step.{seen_of, words_after}
+use Rattle.fast_slow_engine.specs.PhaseTable.{mech_fed, mech_turn}
+use Rattle.run_invariant.proofs.Kept.Induction.{runs_are_kept}
+use Rattle.run_invariant.proofs.Kept.Runs.{queues_kept}
 use Rattle.event_core.specs.Cores.{core_stepped, core_turn}
 use Rattle.event_core.proofs.CoreLemmas.{is_over_by, next_core, next_turn, not_over_by, over_core, over_turn, seated}
-use Rattle.event_core.proofs.Rooms.{begun_seated, room_to_note, stepped_seated}
+use Rattle.event_core.proofs.Rooms.{over_kept, room_to_note, stepped_kept}
+use Rattle.event_core.proofs.StepEvents.{noted_step}
 use Rattle.event_core.proofs.cores.Core.step.Goals as goal
 
 pub returns-then-not-begin_next-clause-core : goal.returns-then-not-begin_next-clause-core
@@ -16,31 +21,58 @@ returns-then-not-begin_next-clause-turn g c =
     (is_over_by _ _ c.begin_next.ensures.over c.if-not-begin_next.true)
     ∙ ap (core_turn g.C.Normalized.form c.args.seat) c.self.view_is
 
-pub returns-clause-core : goal.returns-clause-core
-returns-clause-core g c =
-    next_core g.C.Normalized.form _ _ _ _ _ _ _ _ _ _ _ _ _ _ (seated _ _ _ _ _ _ c.self.view_is c.requires.seat) c.index_mut-at.ensures.value c.begin_next.ensures.machine c.begin_next.ensures.file
-    (not_over_by _ _ c.begin_next.ensures.over c.if-not-begin_next.false)
-    c.step-turn.ensures.words c.step-turn.ensures.mech c.step-turn.ensures.file c.step-turn.ensures.turn c.next_event-event.ensures c.keep.ensures.items c.note.ensures.items
-    ∙ ap (core_stepped g.C.Normalized.form c.args.seat) c.self.view_is
-
-pub returns-clause-turn : goal.returns-clause-turn
-returns-clause-turn g c =
-    c.keep.ensures.turn
-    ∙ next_turn g.C.Normalized.form c.self.inside.setup _ _ _ _ _ _ c.begin_next.new.self _ (seated _ _ _ _ _ _ c.self.view_is c.requires.seat) c.index_mut-at.ensures.value c.begin_next.ensures.machine
-    (not_over_by _ _ c.begin_next.ensures.over c.if-not-begin_next.false) c.step-turn.ensures.turn
-    ∙ ap (core_turn g.C.Normalized.form c.args.seat) c.self.view_is
-
 pub invariant_of-self : goal.invariant_of-self
 invariant_of-self g c =
-    begun_seated c.self.inside.setup _ _ _ _ _ _ _ _ (seated _ _ _ _ _ _ c.self.view_is c.requires.seat) c.index_mut-at.ensures.value c.begin_next.ensures.lines c.begin_next.ensures.events c.self.invariant
+    over_kept g.C.Normalized.form c.self.inside.setup _ _ _ _ _ _ c.self.invariant _ _ _ (seated _ _ _ _ _ _ c.self.view_is c.requires.seat) c.index_mut-at.ensures.value c.begin_next.ensures.machine c.begin_next.ensures.file
+    (is_over_by _ _ c.begin_next.ensures.over c.if-not-begin_next.true)
 
-pub note-requires : goal.note-requires
-note-requires g c =
-    room_to_note c.self.inside.setup _ _ _ _ c.step-turn.new.self _ _ _ _ _ (seated _ _ _ _ _ _ c.self.view_is c.requires.seat) c.index_mut-at.ensures.value
-    c.begin_next.ensures.events c.step-turn.ensures.events c.next_event-event.ensures c.self.invariant
+pub note_step-requires : goal.note_step-requires
+note_step-requires g c =
+    let form = g.C.Normalized.form in
+    let laws = g.met.C.Normalized.laws in
+    let setup = c.self.inside.setup in
+    let told = noted_step form c.begin_next.new.self.mech c.self.inside.cells c.apply-seen.new.self c.words.result.now c.words-2.result.now c.request-request.result c.place-place.result c.word_at-before.result c.next_event-tick.result
+    c.request-request.ensures c.place-place.ensures c.words.ensures c.word_at-before.ensures c.apply-seen.ensures.changes c.words-2.ensures c.next_event-tick.ensures in
+    let room = room_to_note form setup _ _ _ _ _ _ c.self.invariant _ _ _ (seated _ _ _ _ _ _ c.self.view_is c.requires.seat) c.index_mut-at.ensures.value c.begin_next.ensures.machine c.begin_next.ensures.file
+    (queues_kept form laws (runs_are_kept form laws) setup) (c.begin_next.ensures.can (search rules)) c.feed-turn.new.self c.apply-seen.new.self
+    (c.apply-seen.ensures.changes ∙ ap (λ r. words_after r c.self.inside.cells) c.request-request.ensures)
+    (c.feed-turn.ensures.mech ∙ ap (mech_fed form c.begin_next.new.self.mech) (c.apply-seen.ensures.tells ∙ ap (λ r. seen_of r c.self.inside.cells) c.request-request.ensures))
+    c.feed-turn.ensures.file c.feed-turn.ensures.number _ (search rules) in
+    record {
+      room = subst (λ es. vec_len c.self.inside.events + length es ≤ vec_capacity c.self.inside.events) (sym told) room;
+    }
 
 pub invariant_of-self-2 : goal.invariant_of-self-2
 invariant_of-self-2 g c =
-    stepped_seated c.self.inside.setup _ _ _ _ c.step-turn.new.self _ _ _ _ _ _ _ _ _ _ (seated _ _ _ _ _ _ c.self.view_is c.requires.seat) c.index_mut-at.ensures.value
-    c.begin_next.ensures.lines c.begin_next.ensures.events c.step-turn.ensures.lines c.step-turn.ensures.events c.next_event-event.ensures
-    c.keep.ensures.len c.keep.ensures.capacity c.note.ensures.len c.note.ensures.capacity c.self.invariant
+    let form = g.C.Normalized.form in
+    let laws = g.met.C.Normalized.laws in
+    let setup = c.self.inside.setup in
+    let told = noted_step form c.begin_next.new.self.mech c.self.inside.cells c.apply-seen.new.self c.words.result.now c.words-2.result.now c.request-request.result c.place-place.result c.word_at-before.result c.next_event-tick.result
+    c.request-request.ensures c.place-place.ensures c.words.ensures c.word_at-before.ensures c.apply-seen.ensures.changes c.words-2.ensures c.next_event-tick.ensures in
+    stepped_kept form setup _ _ _ _ _ _ c.self.invariant _ _ _ (seated _ _ _ _ _ _ c.self.view_is c.requires.seat) c.index_mut-at.ensures.value c.begin_next.ensures.machine c.begin_next.ensures.file
+    (queues_kept form laws (runs_are_kept form laws) setup) (c.begin_next.ensures.can (search rules)) c.feed-turn.new.self c.apply-seen.new.self
+    (c.apply-seen.ensures.changes ∙ ap (λ r. words_after r c.self.inside.cells) c.request-request.ensures)
+    (c.feed-turn.ensures.mech ∙ ap (mech_fed form c.begin_next.new.self.mech) (c.apply-seen.ensures.tells ∙ ap (λ r. seen_of r c.self.inside.cells) c.request-request.ensures))
+    c.feed-turn.ensures.file c.feed-turn.ensures.number _ _ _ _ _ c.begin_next.ensures.lines c.feed-turn.ensures.lines c.keep.ensures.len c.keep.ensures.capacity
+    (c.note_step.ensures.items ∙ ap (λ es. c.self.inside.events.items ++ es) told) c.note_step.ensures.capacity
+
+pub returns-clause-core : goal.returns-clause-core
+returns-clause-core g c =
+    let form = g.C.Normalized.form in
+    let told = noted_step form c.begin_next.new.self.mech c.self.inside.cells c.apply-seen.new.self c.words.result.now c.words-2.result.now c.request-request.result c.place-place.result c.word_at-before.result c.next_event-tick.result
+    c.request-request.ensures c.place-place.ensures c.words.ensures c.word_at-before.ensures c.apply-seen.ensures.changes c.words-2.ensures c.next_event-tick.ensures in
+    let saw = c.apply-seen.ensures.tells ∙ ap (λ r. seen_of r c.self.inside.cells) c.request-request.ensures in
+    next_core form _ _ _ _ _ _ _ _ _ _ _ _ _ (seated _ _ _ _ _ _ c.self.view_is c.requires.seat) c.index_mut-at.ensures.value c.begin_next.ensures.machine c.begin_next.ensures.file
+    (not_over_by _ _ c.begin_next.ensures.over c.if-not-begin_next.false)
+    (c.apply-seen.ensures.changes ∙ ap (λ r. words_after r c.self.inside.cells) c.request-request.ensures)
+    (c.feed-turn.ensures.mech ∙ ap (mech_fed form c.begin_next.new.self.mech) saw) c.feed-turn.ensures.file (c.feed-turn.ensures.turn ∙ ap (mech_turn c.begin_next.new.self.mech) saw)
+    c.keep.ensures.items (c.note_step.ensures.items ∙ ap (λ es. c.self.inside.events.items ++ es) told)
+    ∙ ap (core_stepped form c.args.seat) c.self.view_is
+
+pub returns-clause-turn : goal.returns-clause-turn
+returns-clause-turn g c =
+    let saw = c.apply-seen.ensures.tells ∙ ap (λ r. seen_of r c.self.inside.cells) c.request-request.ensures in
+    c.keep.ensures.turn
+    ∙ next_turn g.C.Normalized.form c.self.inside.setup _ _ _ _ _ _ c.begin_next.new.self _ (seated _ _ _ _ _ _ c.self.view_is c.requires.seat) c.index_mut-at.ensures.value c.begin_next.ensures.machine
+    (not_over_by _ _ c.begin_next.ensures.over c.if-not-begin_next.false) (c.feed-turn.ensures.turn ∙ ap (mech_turn c.begin_next.new.self.mech) saw)
+    ∙ ap (core_turn g.C.Normalized.form c.args.seat) c.self.view_is

@@ -1,0 +1,146 @@
+-- The events of a step are those that are read off the word at its place.
+use Rattle.std.proofs.Common.{arith, ◌≡◌, ◌≢◌, ◌∙◌, refl, sym, ap, ℕ, zero, suc, ◌+◌, ◌-◌, ◌<◌, ◌==◌, ◌&&◌, not, if◌then◌else◌, Bool, true, false, List, [], ◌∷◌, ◌++◌, slice_index, Option, Some, None, inl, inr}
+use Rattle.std.specs.Prelude.{nat_le, nat_lt}
+use Rattle.std.specs.Option.{option_to_list}
+use Rattle.std.proofs.lemmas.Bool.{and_parts, cases_Bool, cases_eq, eq-eqb, eqb-false, le-leb, leb-true, lt-ltb, ltb-true, ne_eqb, or_left, or_parts, or_right, true≢false}
+use Rattle.lin_report.specs.declared.events.Event.{Event}
+use Rattle.step_memory.specs.declared.steps.Request.{Request}
+use Rattle.step_memory.specs.Step.{place_of, words_after}
+use Rattle.step_memory.proofs.Words.{word_elsewhere}
+use Rattle.word_fields.specs.Records.{record_phase, record_number}
+use Rattle.word_fields.specs.Seats.{queue_seats}
+use Rattle.node_arena.specs.declared.places.TheConstants.{QUEUE, RECORDS}
+use Rattle.normal_traits.specs.NormalForm.{NormalForm}
+use Rattle.help_queue.specs.Gathers.{among_seats, holds, is_open}
+use Rattle.overtaking_law.specs.Order.{completion, publication}
+use Rattle.fast_slow_engine.specs.Events.{completed, eight_seats, published, queue_word, record_word_of, step_events}
+use Rattle.fast_slow_engine.specs.Mechs.{Mech}
+use Rattle.fast_slow_engine.specs.PhaseTable.{mech_event, mech_request}
+use Rattle.run_overtaking.proofs.OrderLaws.{eight_low}
+use Rattle.event_core.specs.Noted.{completed_at, noted, published_at}
+
+-- ---- completions
+
+closed_not : (b : Bool) → (b && not b) ≡ false
+closed_not true = refl
+closed_not false = refl
+
+module _ (r r' : ℕ → ℕ) where
+  abbrev closes : ℕ → Bool
+  closes t = is_open (record_phase (r t)) && not (is_open (record_phase (r' t)))
+
+  abbrev after : ℕ → List Event → Bool → List Event
+  after t events b = if b then completion t (record_number (r t)) ∷ events else events
+
+  -- a record that stayed has not closed
+  same_stays : (t : ℕ) (seats : List ℕ) → r' t ≡ r t → completed r r' (t ∷ seats) ≡ completed r r' seats
+  same_stays t seats same = ap (after t (completed r r' seats)) (ap (λ w. is_open (record_phase (r t)) && not (is_open (record_phase w))) same ∙ closed_not (is_open (record_phase (r t))))
+
+  module _ (t : ℕ) (others : (s : ℕ) → s ≢ t → r' s ≡ r s) where
+    -- no other has closed
+    none_closed : (seats : List ℕ) → among_seats t seats ≡ false → completed r r' seats ≡ []
+    none_closed [] none = refl
+    none_closed (s ∷ seats) none =
+        let parts = or_parts (s == t) (among_seats t seats) none in
+        same_stays s seats (others s (eqb-false s t parts.0)) ∙ none_closed seats parts.1
+
+    -- so the completion is its own, if it is one
+    one_closed : (before behind : List ℕ) → among_seats t before ≡ false → among_seats t behind ≡ false → completed r r' (before ++ t ∷ behind) ≡ (if closes t then completion t (record_number (r t)) ∷ [] else [])
+    one_closed [] behind none none' = ap (λ es. after t es (closes t)) (none_closed behind none')
+    one_closed (s ∷ before) behind none none' =
+        let parts = or_parts (s == t) (among_seats t before) none in
+        same_stays s (before ++ t ∷ behind) (others s (eqb-false s t parts.0)) ∙ one_closed before behind parts.1 none'
+
+some_or_none : (e : Event) (b : Bool) → (if b then e ∷ [] else []) ≡ option_to_list (if b then Some e else None)
+some_or_none e true = refl
+some_or_none e false = refl
+
+module _ (r r' : ℕ → ℕ) where
+  eight_closed : (t : ℕ) → t < 8 → ((s : ℕ) → s ≢ t → r' s ≡ r s) → completed r r' eight_seats ≡ (if is_open (record_phase (r t)) && not (is_open (record_phase (r' t))) then completion t (record_number (r t)) ∷ [] else [])
+  eight_closed zero few others = one_closed r r' 0 others [] (1 ∷ 2 ∷ 3 ∷ 4 ∷ 5 ∷ 6 ∷ 7 ∷ []) refl refl
+  eight_closed (suc zero) few others = one_closed r r' 1 others (0 ∷ []) (2 ∷ 3 ∷ 4 ∷ 5 ∷ 6 ∷ 7 ∷ []) refl refl
+  eight_closed (suc (suc zero)) few others = one_closed r r' 2 others (0 ∷ 1 ∷ []) (3 ∷ 4 ∷ 5 ∷ 6 ∷ 7 ∷ []) refl refl
+  eight_closed (suc (suc (suc zero))) few others = one_closed r r' 3 others (0 ∷ 1 ∷ 2 ∷ []) (4 ∷ 5 ∷ 6 ∷ 7 ∷ []) refl refl
+  eight_closed (suc (suc (suc (suc zero)))) few others = one_closed r r' 4 others (0 ∷ 1 ∷ 2 ∷ 3 ∷ []) (5 ∷ 6 ∷ 7 ∷ []) refl refl
+  eight_closed (suc (suc (suc (suc (suc zero))))) few others = one_closed r r' 5 others (0 ∷ 1 ∷ 2 ∷ 3 ∷ 4 ∷ []) (6 ∷ 7 ∷ []) refl refl
+  eight_closed (suc (suc (suc (suc (suc (suc zero)))))) few others = one_closed r r' 6 others (0 ∷ 1 ∷ 2 ∷ 3 ∷ 4 ∷ 5 ∷ []) (7 ∷ []) refl refl
+  eight_closed (suc (suc (suc (suc (suc (suc (suc zero))))))) few others = one_closed r r' 7 others (0 ∷ 1 ∷ 2 ∷ 3 ∷ 4 ∷ 5 ∷ 6 ∷ []) [] refl refl
+  eight_closed (suc (suc (suc (suc (suc (suc (suc (suc n)))))))) few others = absurd (omega (arith, few))
+
+  none_closed_of : (seats : List ℕ) → ((s : ℕ) → among_seats s seats ≡ true → r' s ≡ r s) → completed r r' seats ≡ []
+  none_closed_of [] same = refl
+  none_closed_of (s ∷ seats) same =
+      same_stays r r' s seats (same s (or_left (s == s) (among_seats s seats) (eq-eqb s s refl))) ∙ none_closed_of seats (λ t among. same t (or_right (s == t) (among_seats t seats) among))
+
+-- the seats of a word are not published by it
+none_published : (queue : ℕ) (records : ℕ → ℕ) (seats : List ℕ) → ((t : ℕ) → among_seats t seats ≡ true → holds queue t ≡ true) → published queue records seats ≡ []
+none_published queue records [] all = refl
+none_published queue records (t ∷ seats) all =
+    ap (λ b. if b then published queue records seats else publication t (record_number (records t)) ∷ published queue records seats) (all t (or_left (t == t) (among_seats t seats) (eq-eqb t t refl)))
+    ∙ none_published queue records seats (λ s among. all s (or_right (t == s) (among_seats s seats) among))
+
+-- a place at a record is one of the eight
+outside : {A : Type 0} (place s : ℕ) → RECORDS + s ≡ place → s < 8 → (nat_le RECORDS place && nat_lt place (RECORDS + 8)) ≡ false → A
+outside place s same few without =
+    let low : nat_le RECORDS place ≡ true = le-leb RECORDS place (omega (arith, same)) in
+    let high : nat_lt place (RECORDS + 8) ≡ true = lt-ltb place (RECORDS + 8) (omega (arith, same, few)) in
+    absurd (true≢false (sym (ap (λ b. b && nat_lt place (RECORDS + 8)) low ∙ high) ∙ without))
+
+module _ (request : Request) (words : List ℕ) where
+  abbrev place : ℕ
+  place = place_of request
+
+  abbrev words' : List ℕ
+  words' = words_after request words
+
+  beside : (p : ℕ) → p ≢ place → slice_index words' p ≡ slice_index words p
+  beside p other = word_elsewhere request words p other
+
+  -- the completion of a step
+  completed_is : completed (record_word_of words) (record_word_of words') eight_seats ≡ option_to_list (completed_at place (slice_index words place) (slice_index words' place))
+  completed_is =
+      let closing : Bool = is_open (record_phase (slice_index words place)) && not (is_open (record_phase (slice_index words' place))) in
+      let event = completion (place - RECORDS) (record_number (slice_index words place)) in
+      elim (cases_Bool (nat_le RECORDS place && nat_lt place (RECORDS + 8))) [
+        | inl within ↦ (
+            let low = leb-true RECORDS place (and_parts (nat_le RECORDS place) (nat_lt place (RECORDS + 8)) within).0 in
+            let high = ltb-true place (RECORDS + 8) (and_parts (nat_le RECORDS place) (nat_lt place (RECORDS + 8)) within).1 in
+            let t = place - RECORDS in
+            let here : RECORDS + t ≡ place = omega (arith, low) in
+            let few : t < 8 = omega (arith, high, low) in
+            eight_closed (record_word_of words) (record_word_of words') t few (λ s other. beside (RECORDS + s) (λ same. other (omega (arith, same))))
+            ∙ ap (λ p. if is_open (record_phase (slice_index words p)) && not (is_open (record_phase (slice_index words' p))) then completion t (record_number (slice_index words p)) ∷ [] else []) here
+            ∙ some_or_none event closing
+            ∙ ap (λ b. option_to_list (if b && closing then Some event else None)) (sym within))
+        | inr without ↦ none_closed_of (record_word_of words) (record_word_of words') eight_seats (λ s among. beside (RECORDS + s) (λ same. outside place s same (eight_low s among) without))
+            ∙ ap (λ b. option_to_list (if b && closing then Some event else None)) (sym without)
+      ]
+
+  -- the publications of a step
+  published_is : published (queue_word words) (record_word_of words') (queue_seats (queue_word words')) ≡ published_at place (slice_index words place) words'
+  published_is =
+      let there = published (queue_word words) (record_word_of words') (queue_seats (queue_word words')) in
+      elim (cases_eq place QUEUE) [
+        | inl at ↦ ap (λ p. published (slice_index words p) (record_word_of words') (queue_seats (queue_word words'))) (sym at) ∙ ap (λ b. if b then published (slice_index words place) (record_word_of words') (queue_seats (queue_word words')) else []) (sym (eq-eqb place QUEUE at))
+        | inr other ↦ (
+            let same : queue_word words' ≡ queue_word words = beside QUEUE (λ e. other (sym e)) in
+            ap (λ q. published (queue_word words) (record_word_of words') (queue_seats q)) same
+            ∙ none_published (queue_word words) (record_word_of words') (queue_seats (queue_word words)) (λ t among. among)
+            ∙ ap (λ b. if b then published (slice_index words place) (record_word_of words') (queue_seats (queue_word words')) else []) (sym (ne_eqb place QUEUE other)))
+      ]
+
+  pub step_noted : {S W : Type 0} (mech : Mech S W) → step_events mech words words' ≡ noted (mech_event mech) place (slice_index words place) words'
+  step_noted mech = ap (λ es. es ++ (option_to_list (mech_event mech) ++ published (queue_word words) (record_word_of words') (queue_seats (queue_word words')))) completed_is
+      ∙ ap (λ es. option_to_list (completed_at place (slice_index words place) (slice_index words' place)) ++ (option_to_list (mech_event mech) ++ es)) published_is
+
+module _ {S W : Type 0} (form : NormalForm S W) (mech : Mech S W) (words words' now now' : List ℕ) (request : Request) (place before : ℕ) (tick : Option Event) (asks : request ≡ mech_request form mech) (at : place ≡ place_of request)
+    (same : now ≡ words) (found : before ≡ slice_index now place) (left : words' ≡ words_after request words) (same' : now' ≡ words') (drawn : tick ≡ mech_event mech) where
+  -- what is noted of a step is what it tells
+  pub noted_step : noted tick place before now' ≡ step_events mech words words'
+  noted_step =
+      ap (λ t. noted t place before now') drawn
+      ∙ ap (λ ws. noted (mech_event mech) place before ws) (same' ∙ left)
+      ∙ ap (λ b. noted (mech_event mech) place b (words_after request words)) (found ∙ ap (λ ws. slice_index ws place) same)
+      ∙ ap (λ p. noted (mech_event mech) p (slice_index words p) (words_after request words)) at
+      ∙ sym (step_noted request words mech)
+      ∙ ap (step_events mech words) (sym left)

@@ -1,0 +1,113 @@
+//! The events of a step that are read off the memory: calls that it publishes, and the call that it completes.
+ghost use Rattle.std.specs.Prelude.{◌≡◌, ◌+◌, ◌<◌, ◌≤◌, ◌++◌, ◌∷◌, [], length, slice_index, vec_len, vec_capacity};
+ghost use Rattle.std.specs.Option.{option_to_list};
+ghost use Rattle.word_fields.specs.Seats.{AreSeats, queue_seats};
+ghost use Rattle.fast_slow_engine.specs.Events.{published, queue_word, record_word_of};
+ghost use Rattle.event_core.specs.Noted.{completed_at, noted, published_at};
+
+use help_queue::gather::{holds, is_open};
+use lin_report::{Event, EventKind};
+use node_arena::places::{QUEUE, RECORDS};
+use node_arena::record_place;
+use word_fields::{QueueWord, RecordWord};
+
+/// The word at a place, 0 past the last one.
+pub fn word_at(words: &[u64], place: u32) -> u64
+    ensures { result ≡ slice_index words.now place }
+{
+    match words.get(place as usize) {
+        Some(word) => *word,
+        None => 0,
+    }
+}
+
+/// The completion that a step at this place is, if it left this word for that one.
+fn completed_at(place: u32, before: u64, after: u64) -> Option<Event>
+    ensures { result ≡ completed_at place before after }
+{
+    if !(RECORDS..RECORDS + 8).contains(&place) {
+        return None;
+    }
+    let record = RecordWord::unpack(before);
+    if !is_open(record.phase) || is_open(RecordWord::unpack(after).phase) {
+        return None;
+    }
+    Some(Event {
+        kind: EventKind::Complete,
+        seat: place - RECORDS,
+        number: u32::from(record.number),
+    })
+}
+
+/// Puts an event last, where there is one.
+fn note(events: &mut Vec<Event>, event: Option<Event>)
+    requires { vec_len events.old + length (option_to_list event) ≤ vec_capacity events.old }
+    ensures items { events.new.items ≡ events.old.items ++ option_to_list event }
+    ensures len { vec_len events.new ≡ vec_len events.old + length (option_to_list event) }
+    ensures capacity { vec_capacity events.new ≡ vec_capacity events.old }
+{
+    if let Some(event) = event {
+        events.push_reserved(event);
+    }
+}
+
+/// The publication of a seat that a queue word has, by its record, if the older word doesn't hold it.
+fn publication_of(seat: u32, queue: u64, words: &[u64]) -> Option<Event>
+    requires { seat < 8 }
+    ensures { option_to_list result ≡ published queue (record_word_of words.now) (seat ∷ []) }
+{
+    if holds(queue, seat) {
+        return None;
+    }
+    let record = RecordWord::unpack(word_at(words, record_place(seat)));
+    Some(Event {
+        kind: EventKind::Publish,
+        seat,
+        number: u32::from(record.number),
+    })
+}
+
+/// Puts the publications of those seats last that the older queue word doesn't hold.
+fn note_seats(events: &mut Vec<Event>, queue: u64, words: &[u64], seats: &[u8])
+    requires seats { AreSeats seats.now }
+    requires room { vec_len events.old + length (published queue (record_word_of words.now) seats.now) ≤ vec_capacity events.old }
+    ensures items { events.new.items ≡ events.old.items ++ published queue (record_word_of words.now) seats.now }
+    ensures len { vec_len events.new ≡ vec_len events.old + length (published queue (record_word_of words.now) seats.now) }
+    ensures capacity { vec_capacity events.new ≡ vec_capacity events.old }
+{
+    for seat in seats {
+        note(events, publication_of(u32::from(*seat), queue, words));
+    }
+}
+
+/// Puts the publications last that a step at this place is, if it found this word there and left these words.
+fn note_published(events: &mut Vec<Event>, place: u32, before: u64, words: &[u64])
+    requires room { vec_len events.old + length (published_at place before words.now) ≤ vec_capacity events.old }
+    ensures items { events.new.items ≡ events.old.items ++ published_at place before words.now }
+    ensures len { vec_len events.new ≡ vec_len events.old + length (published_at place before words.now) }
+    ensures capacity { vec_capacity events.new ≡ vec_capacity events.old }
+{
+    if place != QUEUE {
+        return;
+    }
+    let queue = QueueWord::unpack(word_at(words, QUEUE));
+    note_seats(events, before, words, &queue.seats);
+}
+
+/// Puts the events of a step last: it drew this tick, if any, found this word at its place, and left these words.
+pub fn note_step(
+    events: &mut Vec<Event>,
+    tick: Option<Event>,
+    place: u32,
+    before: u64,
+    words: &[u64],
+)
+    requires room { vec_len events.old + length (noted tick place before words.now) ≤ vec_capacity events.old }
+    ensures items { events.new.items ≡ events.old.items ++ noted tick place before words.now }
+    ensures len { vec_len events.new ≡ vec_len events.old + length (noted tick place before words.now) }
+    ensures capacity { vec_capacity events.new ≡ vec_capacity events.old }
+{
+    note(events, completed_at(place, before, word_at(words, place)));
+    note(events, tick);
+    note_published(events, place, before, words);
+}

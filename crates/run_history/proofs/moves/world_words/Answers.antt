@@ -1,5 +1,0 @@
-use Rattle.run_history.proofs.WordLemmas.{world_words}
-use Rattle.run_history.proofs.moves.world_words.Goals as goal
-
-pub returns : goal.returns
-returns g c = world_words g.C.Normalized.form

@@ -1,0 +1,3 @@
+-- What the other machines know.
+pub mod Callers
+pub mod Know

@@ -1,0 +1,3 @@
+-- What the won exchanges of every run obey, and which move made each.
+pub mod Obey
+pub mod Once

@@ -1,0 +1,6 @@
+use Rattle.run_invariant.proofs.Kept.Induction.{runs_are_kept}
+use Rattle.run_reports.proofs.Placed.Headline.{files_meet_headline}
+use Rattle.run_reports.proofs.headline.files_meet_headline.Goals as goal
+
+pub returns : goal.returns
+returns g c = files_meet_headline g.C.Normalized.form g.met.C.Normalized.laws (runs_are_kept g.C.Normalized.form g.met.C.Normalized.laws)

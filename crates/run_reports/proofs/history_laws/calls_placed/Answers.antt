@@ -1,0 +1,6 @@
+use Rattle.run_invariant.proofs.Kept.Induction.{runs_are_kept}
+use Rattle.run_reports.proofs.Placed.Moments.{calls_placed}
+use Rattle.run_reports.proofs.history_laws.calls_placed.Goals as goal
+
+pub returns : goal.returns
+returns g c = calls_placed g.C.Normalized.form g.met.C.Normalized.laws (runs_are_kept g.C.Normalized.form g.met.C.Normalized.laws)

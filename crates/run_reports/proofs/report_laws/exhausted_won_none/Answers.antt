@@ -1,0 +1,6 @@
+use Rattle.run_invariant.proofs.Kept.Induction.{runs_are_kept}
+use Rattle.run_reports.proofs.Placed.Linearized.{exhausted_won_none}
+use Rattle.run_reports.proofs.report_laws.exhausted_won_none.Goals as goal
+
+pub returns : goal.returns
+returns g c = exhausted_won_none g.C.Normalized.form g.met.C.Normalized.laws (runs_are_kept g.C.Normalized.form g.met.C.Normalized.laws)

@@ -1,0 +1,10 @@
+pub mod Changes
+pub mod Exchanges
+pub mod Journals
+pub mod NoneLeft
+pub mod Endings
+pub mod Placed
+pub mod History
+pub mod Files
+pub mod Linearized
+pub mod Headline
