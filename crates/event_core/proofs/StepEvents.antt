@@ -1,8 +1,8 @@
 -- The events of a step are those that are read off the word at its place.
-use Rattle.std.proofs.Common.{arith, ◌≡◌, ◌≢◌, ◌∙◌, refl, sym, ap, ℕ, zero, suc, ◌+◌, ◌-◌, ◌<◌, ◌==◌, ◌&&◌, not, if◌then◌else◌, Bool, true, false, List, [], ◌∷◌, ◌++◌, slice_index, Option, Some, None, inl, inr}
+use Rattle.std.proofs.Common.{arith, subst, ◌≤◌, ◌≡◌, ◌≢◌, ◌∙◌, refl, sym, ap, ℕ, zero, suc, ◌+◌, ◌-◌, ◌<◌, ◌==◌, ◌&&◌, not, if◌then◌else◌, Bool, true, false, List, [], ◌∷◌, ◌++◌, slice_index, Option, Some, None, inl, inr}
 use Rattle.std.specs.Prelude.{nat_le, nat_lt}
 use Rattle.std.specs.Option.{option_to_list}
-use Rattle.std.proofs.lemmas.Bool.{and_parts, cases_Bool, cases_eq, eq-eqb, eqb-false, le-leb, leb-true, lt-ltb, ltb-true, ne_eqb, or_left, or_parts, or_right, true≢false}
+use Rattle.std.proofs.lemmas.Bool.{and_parts, cases_Bool, cases_eq, eq-eqb, eqb-false, le-leb, leb-true, le-ltb, lt-ltb, ltb-true, ne_eqb, or_left, or_parts, or_right, true≢false}
 use Rattle.lin_report.specs.declared.events.Event.{Event}
 use Rattle.step_memory.specs.declared.steps.Request.{Request}
 use Rattle.step_memory.specs.Step.{place_of, words_after}
@@ -11,13 +11,16 @@ use Rattle.word_fields.specs.Records.{record_phase, record_number}
 use Rattle.word_fields.specs.Seats.{queue_seats}
 use Rattle.node_arena.specs.declared.places.TheConstants.{QUEUE, RECORDS}
 use Rattle.normal_traits.specs.NormalForm.{NormalForm}
-use Rattle.help_queue.specs.Gathers.{among_seats, holds, is_open}
-use Rattle.overtaking_law.specs.Order.{completion, publication}
+use Rattle.help_queue.specs.Gathers.{among_seats, is_open}
+use Rattle.overtaking_law.specs.Order.{completion}
 use Rattle.fast_slow_engine.specs.Events.{completed, eight_seats, published, queue_word, record_word_of, step_events}
 use Rattle.fast_slow_engine.specs.Mechs.{Mech}
-use Rattle.fast_slow_engine.specs.PhaseTable.{mech_event, mech_request}
+use Rattle.fast_slow_engine.specs.declared.phases.Phase.{Phase}
+use Rattle.fast_slow_engine.specs.declared.phases.Phase.TheVariants.{Idle, Begin, Look, Generate, Apply, Wrap, Announce, Enter, Drive, Help, Collect, Value, End}
+use Rattle.fast_slow_engine.specs.PhaseTable.{ends, event_in, mech_event, mech_request, request_in}
 use Rattle.run_overtaking.proofs.OrderLaws.{eight_low}
 use Rattle.event_core.specs.Noted.{completed_at, noted, published_at}
+use Rattle.event_core.proofs.Publications.{none_published}
 
 -- ---- completions
 
@@ -71,13 +74,6 @@ module _ (r r' : ℕ → ℕ) where
   none_closed_of [] same = refl
   none_closed_of (s ∷ seats) same =
       same_stays r r' s seats (same s (or_left (s == s) (among_seats s seats) (eq-eqb s s refl))) ∙ none_closed_of seats (λ t among. same t (or_right (s == t) (among_seats t seats) among))
-
--- the seats of a word are not published by it
-none_published : (queue : ℕ) (records : ℕ → ℕ) (seats : List ℕ) → ((t : ℕ) → among_seats t seats ≡ true → holds queue t ≡ true) → published queue records seats ≡ []
-none_published queue records [] all = refl
-none_published queue records (t ∷ seats) all =
-    ap (λ b. if b then published queue records seats else publication t (record_number (records t)) ∷ published queue records seats) (all t (or_left (t == t) (among_seats t seats) (eq-eqb t t refl)))
-    ∙ none_published queue records seats (λ s among. all s (or_right (t == s) (among_seats s seats) among))
 
 -- a place at a record is one of the eight
 outside : {A : Type 0} (place s : ℕ) → RECORDS + s ≡ place → s < 8 → (nat_le RECORDS place && nat_lt place (RECORDS + 8)) ≡ false → A
@@ -144,3 +140,58 @@ module _ {S W : Type 0} (form : NormalForm S W) (mech : Mech S W) (words words' 
       ∙ ap (λ p. noted (mech_event mech) p (slice_index words p) (words_after request words)) at
       ∙ sym (step_noted request words mech)
       ∙ ap (step_events mech words) (sym left)
+
+-- a step at a place beyond the records tells no event, where it draws no tick
+module _ (place before : ℕ) (words : List ℕ) (beyond : RECORDS + 8 ≤ place) where
+  abbrev closing : Bool
+  closing = is_open (record_phase before) && not (is_open (record_phase (slice_index words place)))
+
+  abbrev closed_with : Bool → List Event
+  closed_with within = option_to_list (if within && closing then Some (completion (place - RECORDS) (record_number before)) else None)
+
+  never : (b : Bool) → (b && false) ≡ false
+  never true = refl
+  never false = refl
+
+  none_noted : noted None place before words ≡ []
+  none_noted =
+      let past : nat_lt place (RECORDS + 8) ≡ false = le-ltb place (RECORDS + 8) beyond in
+      let other : (place == QUEUE) ≡ false = ne_eqb place QUEUE (λ e. absurd (omega (arith, e, beyond))) in
+      ap (λ b. closed_with (nat_le RECORDS place && b) ++ published_at place before words) past
+      ∙ ap (λ b. closed_with b ++ published_at place before words) (never (nat_le RECORDS place))
+      ∙ ap (λ b. if b then published before (record_word_of words) (queue_seats (queue_word words)) else []) other
+
+module _ {S W : Type 0} (form : NormalForm S W) where
+  -- a step beyond the records draws no tick
+  draws_none : (phase : Phase S W) (mech : Mech S W) → RECORDS + 8 ≤ place_of (request_in form phase mech) → (event_in phase mech ≡ None) × (ends phase ≡ false)
+  draws_none Begin mech beyond = absurd (omega (arith, beyond))
+  draws_none (End reply) mech beyond = absurd (omega (arith, beyond))
+  draws_none Idle mech beyond = (refl, refl)
+  draws_none Look mech beyond = (refl, refl)
+  draws_none (Generate search at) mech beyond = (refl, refl)
+  draws_none (Apply run stores at) mech beyond = (refl, refl)
+  draws_none (Wrap wrap) mech beyond = (refl, refl)
+  draws_none (Announce at) mech beyond = (refl, refl)
+  draws_none (Enter owner) mech beyond = (refl, refl)
+  draws_none Drive mech beyond = (refl, refl)
+  draws_none (Help drives help) mech beyond = (refl, refl)
+  draws_none Collect mech beyond = (refl, refl)
+  draws_none (Value reference) mech beyond = (refl, refl)
+
+  module _ (mech : Mech S W) (request : Request) (place : ℕ) (asks : request ≡ mech_request form mech) (at : place ≡ place_of request) (beyond : nat_le (RECORDS + 8) place ≡ true) where
+    far : RECORDS + 8 ≤ place_of (mech_request form mech)
+    far = subst (λ r. RECORDS + 8 ≤ place_of r) asks (subst (λ p. RECORDS + 8 ≤ p) at (leb-true (RECORDS + 8) place beyond))
+
+    -- so the call goes on after it
+    pub goes_on : ends mech.phase ≡ false
+    goes_on = (draws_none mech.phase mech far).1
+
+    -- and it tells nothing
+    pub tells_none : (words now : List ℕ) → now ≡ words_after request words → step_events mech words now ≡ []
+    tells_none words now left =
+        let place' = place_of (mech_request form mech) in
+        let after = words_after (mech_request form mech) words in
+        ap (step_events mech words) (left ∙ ap (λ r. words_after r words) asks)
+        ∙ step_noted (mech_request form mech) words mech
+        ∙ ap (λ t. noted t place' (slice_index words place') after) (draws_none mech.phase mech far).0
+        ∙ none_noted place' (slice_index words place') after far

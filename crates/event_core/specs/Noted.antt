@@ -1,5 +1,5 @@
 -- What a step tells of published and completed calls, read off the word at its place before it and after it.
-use Rattle.std.specs.Prelude.{ℕ, ◌+◌, ◌-◌, ◌==◌, ◌&&◌, nat_le, nat_lt, not, if◌then◌else◌, List, [], ◌++◌, slice_index, Option, Some, None}
+use Rattle.std.specs.Prelude.{ℕ, ◌+◌, ◌-◌, ◌==◌, ◌&&◌, nat_le, nat_lt, not, if◌then◌else◌, get_or, Bool, false, List, [], ◌++◌, slice_index, Option, Some, None}
 use Rattle.std.specs.Option.{option_to_list}
 use Rattle.lin_report.specs.declared.events.Event.{Event}
 use Rattle.word_fields.specs.Records.{record_phase, record_number}
@@ -8,6 +8,10 @@ use Rattle.node_arena.specs.declared.places.TheConstants.{QUEUE, RECORDS}
 use Rattle.help_queue.specs.Gathers.{is_open}
 use Rattle.overtaking_law.specs.Order.{completion}
 use Rattle.fast_slow_engine.specs.Events.{published, queue_word, record_word_of}
+
+-- whether a seat is one of the members of a queue word, as they are read off it
+abbrev pub is_member : List Bool → ℕ → Bool
+is_member members seat = get_or members seat false
 
 -- the completion that a step at this place is, if a record word closed there
 abbrev pub completed_at : ℕ → ℕ → ℕ → Option Event

@@ -6,7 +6,7 @@ ghost use Rattle.std.specs.Option.{option_to_list};
 ghost use Rattle.fast_slow_engine.specs.Runs.{returned};
 ghost use Rattle.event_core.specs.Cores.{core_new, core_turn_of, new_seats};
 
-use crate::noting::{note_step, word_at};
+use crate::noting::{is_beyond, note_step, word_at};
 use crate::seats::Seat;
 use arrayvec::ArrayVec;
 use fast_slow_engine::{Setup, Turn};
@@ -91,9 +91,14 @@ impl<C: Normalized> Core<C> {
         if !at.begin_next() {
             return CoreTurn::Idle;
         }
-        let tick = at.next_event();
         let request = at.request();
         let place = request.place();
+        if is_beyond(place) {
+            let seen = self.cells.apply(request);
+            at.go_on(seen);
+            return CoreTurn::Going;
+        }
+        let tick = at.next_event();
         let before = word_at(self.cells.words(), place);
         let seen = self.cells.apply(request);
         let turn = at.feed(seen);

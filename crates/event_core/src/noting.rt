@@ -1,14 +1,15 @@
 //! The events of a step that are read off the memory: calls that it publishes, and the call that it completes.
-ghost use Rattle.std.specs.Prelude.{◌≡◌, ◌+◌, ◌<◌, ◌≤◌, ◌++◌, ◌∷◌, [], length, slice_index, vec_len, vec_capacity};
+ghost use Rattle.std.specs.Prelude.{◌≡◌, ◌+◌, ◌<◌, ◌≤◌, ◌++◌, ◌∷◌, [], length, nat_le, slice_index, vec_len, vec_capacity};
 ghost use Rattle.std.specs.Option.{option_to_list};
-ghost use Rattle.word_fields.specs.Seats.{AreSeats, queue_seats};
-ghost use Rattle.fast_slow_engine.specs.Events.{published, queue_word, record_word_of};
-ghost use Rattle.event_core.specs.Noted.{completed_at, noted, published_at};
+ghost use Rattle.word_fields.specs.Seats.{AreSeats};
+ghost use Rattle.fast_slow_engine.specs.Events.{published_by, record_word_of};
+ghost use Rattle.event_core.specs.Noted.{completed_at, is_member, noted, published_at};
 
-use help_queue::gather::{holds, is_open};
+use help_queue::gather::is_open;
 use lin_report::{Event, EventKind};
 use node_arena::places::{QUEUE, RECORDS};
 use node_arena::record_place;
+use word_fields::queues::members;
 use word_fields::{QueueWord, RecordWord};
 
 /// The word at a place, 0 past the last one.
@@ -19,6 +20,14 @@ pub fn word_at(words: &[u64], place: u32) -> u64
         Some(word) => *word,
         None => 0,
     }
+}
+
+/// Whether a place is beyond the records. A step there tells no event.
+#[inline(always)]
+pub fn is_beyond(place: u32) -> bool
+    ensures { result ≡ nat_le (RECORDS + 8) place }
+{
+    place >= RECORDS + 8
 }
 
 /// The completion that a step at this place is, if it left this word for that one.
@@ -51,12 +60,12 @@ fn note(events: &mut Vec<Event>, event: Option<Event>)
     }
 }
 
-/// The publication of a seat that a queue word has, by its record, if the older word doesn't hold it.
-fn publication_of(seat: u32, queue: u64, words: &[u64]) -> Option<Event>
+/// The publication of a seat that a queue word has, by its record, if it was no member before.
+fn publication_of(seat: u32, before: &[bool; 8], words: &[u64]) -> Option<Event>
     requires { seat < 8 }
-    ensures { option_to_list result ≡ published queue (record_word_of words.now) (seat ∷ []) }
+    ensures { option_to_list result ≡ published_by (is_member before.now) (record_word_of words.now) (seat ∷ []) }
 {
-    if holds(queue, seat) {
+    if before[seat as usize] {
         return None;
     }
     let record = RecordWord::unpack(word_at(words, record_place(seat)));
@@ -67,16 +76,16 @@ fn publication_of(seat: u32, queue: u64, words: &[u64]) -> Option<Event>
     })
 }
 
-/// Puts the publications of those seats last that the older queue word doesn't hold.
-fn note_seats(events: &mut Vec<Event>, queue: u64, words: &[u64], seats: &[u8])
+/// Puts the publications of those seats last that were no members before.
+fn note_seats(events: &mut Vec<Event>, before: &[bool; 8], words: &[u64], seats: &[u8])
     requires seats { AreSeats seats.now }
-    requires room { vec_len events.old + length (published queue (record_word_of words.now) seats.now) ≤ vec_capacity events.old }
-    ensures items { events.new.items ≡ events.old.items ++ published queue (record_word_of words.now) seats.now }
-    ensures len { vec_len events.new ≡ vec_len events.old + length (published queue (record_word_of words.now) seats.now) }
+    requires room { vec_len events.old + length (published_by (is_member before.now) (record_word_of words.now) seats.now) ≤ vec_capacity events.old }
+    ensures items { events.new.items ≡ events.old.items ++ published_by (is_member before.now) (record_word_of words.now) seats.now }
+    ensures len { vec_len events.new ≡ vec_len events.old + length (published_by (is_member before.now) (record_word_of words.now) seats.now) }
     ensures capacity { vec_capacity events.new ≡ vec_capacity events.old }
 {
     for seat in seats {
-        note(events, publication_of(u32::from(*seat), queue, words));
+        note(events, publication_of(u32::from(*seat), before, words));
     }
 }
 
@@ -90,8 +99,15 @@ fn note_published(events: &mut Vec<Event>, place: u32, before: u64, words: &[u64
     if place != QUEUE {
         return;
     }
-    let queue = QueueWord::unpack(word_at(words, QUEUE));
-    note_seats(events, before, words, &queue.seats);
+    let queue = word_at(words, QUEUE);
+    if queue != before {
+        note_seats(
+            events,
+            &members(before),
+            words,
+            &QueueWord::unpack(queue).seats,
+        );
+    }
 }
 
 /// Puts the events of a step last: it drew this tick, if any, found this word at its place, and left these words.

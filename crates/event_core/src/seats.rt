@@ -3,7 +3,7 @@ ghost use Rattle.std.specs.Prelude.{◌≡◌, ◌+◌, ◌<◌, ◌≤◌, true
 ghost use Rattle.std.specs.Option.{option_to_list};
 ghost use Rattle.step_memory.specs.Step.{seen_of, words_after};
 ghost use Rattle.fast_slow_engine.specs.Runs.{CanMove, begun, returned};
-ghost use Rattle.fast_slow_engine.specs.PhaseTable.{lists, mech_event, mech_fed, mech_new, mech_pending, mech_request, mech_turn, rests};
+ghost use Rattle.fast_slow_engine.specs.PhaseTable.{ends, lists, mech_event, mech_fed, mech_new, mech_pending, mech_request, mech_turn, rests};
 
 use fast_slow_engine::{Machine, Setup, Turn};
 use lin_report::{Event, Op, PendingCall};
@@ -92,6 +92,20 @@ impl<C: Normalized> Seat<C> {
         ensures lines { lines_owed self.new + length (returned result) ≡ lines_owed self.old }
     {
         self.machine.feed(seen)
+    }
+
+    /// Takes what that step saw, where it draws no end tick.
+    #[inline(always)]
+    pub fn go_on(&mut self, seen: Seen)
+        requires runs { rests self.old.mech.phase ≡ false }
+        requires goes_on { ends self.old.mech.phase ≡ false }
+        ensures mech { self.new.mech ≡ mech_fed C.form self.old.mech seen }
+        ensures number { self.new.mech.number ≤ length self.new.file }
+        ensures file { self.new.file ≡ self.old.file }
+        ensures turn { mech_turn self.old.mech seen ≡ Turn.Going }
+        ensures lines { lines_owed self.new ≡ lines_owed self.old }
+    {
+        self.machine.go_on(seen)
     }
 
     /// Whether the next step is the exchange of an entry of a list.

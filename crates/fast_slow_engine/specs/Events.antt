@@ -21,10 +21,14 @@ queue_word words = slice_index words QUEUE
 abbrev pub record_word_of : List ℕ → ℕ → ℕ
 record_word_of words seat = slice_index words (record_place seat)
 
+-- the publications of the seats that were not held before, by a test of that, in this order
+abbrev pub published_by : (ℕ → Bool) → (ℕ → ℕ) → List ℕ → List Event
+published_by held records [] = []
+published_by held records (t ∷ seats) = if held t then published_by held records seats else publication t (record_number (records t)) ∷ published_by held records seats
+
 -- the publications of the seats that a queue word has and an older one has not, in the order of the word
 abbrev pub published : ℕ → (ℕ → ℕ) → List ℕ → List Event
-published queue records [] = []
-published queue records (t ∷ seats) = if holds queue t then published queue records seats else publication t (record_number (records t)) ∷ published queue records seats
+published queue records seats = published_by (holds queue) records seats
 
 -- the completions of the seats whose records were open and have closed
 abbrev pub completed : (ℕ → ℕ) → (ℕ → ℕ) → List ℕ → List Event

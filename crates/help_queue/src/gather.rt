@@ -4,13 +4,14 @@ ghost use Rattle.step_memory.specs.declared.steps.Request.{Request};
 ghost use Rattle.word_fields.specs.Seats.{AreSeats, queue_seats};
 ghost use Rattle.word_fields.specs.Queues.{queue_version, queue_word};
 ghost use Rattle.node_arena.specs.MemoryMap.{record_place};
-ghost use Rattle.help_queue.specs.Gathers.{Gathering, IsGathering, among_seats, holds, leads, is_first, is_open, first_out, gather_begun, gather_over, gather_fed, entered_word, removed_word};
+ghost use Rattle.help_queue.specs.Gathers.{Gathering, IsGathering, among_seats, holds, leads, is_open, first_out, gather_begun, gather_over, gather_fed, entered_word, removed_word};
 
 use arrayvec::ArrayVec;
 use node_arena::places::QUEUE;
 use node_arena::record_place;
 use std::marker::Model;
 use step_memory::Request;
+use word_fields::queues::{head, members};
 use word_fields::{Phase, QueueWord, RecordWord};
 
 /// Whether a seat is among these.
@@ -26,24 +27,17 @@ pub fn holds(word: u64, seat: u32) -> bool
     requires { seat < 8 }
     ensures { result ≡ holds word seat }
 {
-    is_among(seat, &QueueWord::unpack(word).seats)
-}
-
-/// Whether a seat is the first of these.
-fn is_first(seat: u32, seats: &[u8]) -> bool
-    ensures { result ≡ is_first seat seats.now }
-{
-    match seats.first() {
-        Some(first) => u32::from(*first) == seat,
-        None => false,
-    }
+    members(word)[seat as usize]
 }
 
 /// Whether a seat is the head of a queue word.
 pub fn leads(word: u64, seat: u32) -> bool
     ensures { result ≡ leads word seat }
 {
-    is_first(seat, &QueueWord::unpack(word).seats)
+    match head(word) {
+        Some(head) => u32::from(head) == seat,
+        None => false,
+    }
 }
 
 /// Whether the call of a record in this phase isn't completed.
@@ -66,8 +60,9 @@ fn first_out(word: u64, at: u32, seats: u32) -> u32
     ensures out { result < seats → holds word result ≡ false }
     ensures passed { (seat : ℕ) → at ≤ seat → seat < result → holds word seat ≡ true }
 {
+    let held = members(word);
     for seat in at..seats {
-        if !holds(word, seat) {
+        if !held[seat as usize] {
             return seat;
         }
     }

@@ -3,16 +3,14 @@ ghost use Rattle.std.specs.Prelude.{◌≡◌, ◌<◌, ◌≤◌, Some, None};
 ghost use Rattle.help_queue.specs.Heads.{head_of, is_other, record_met};
 
 use crate::Remove;
-use word_fields::{Phase, QueueWord, RecordWord};
+use word_fields::queues::head;
+use word_fields::{Phase, RecordWord};
 
 /// The head of a queue word.
 pub fn head_of(word: u64) -> Option<u32>
     ensures { result ≡ head_of word }
 {
-    match QueueWord::unpack(word).seats.first() {
-        Some(head) => Some(u32::from(*head)),
-        None => None,
-    }
+    head(word).map(u32::from)
 }
 
 /// Whether a record is of another call than the known one.

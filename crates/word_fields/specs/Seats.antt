@@ -1,6 +1,6 @@
 -- The seats of a queue word. Its place p has the bits 4p to 4p + 3: 0 where it is empty, else one more
 -- than a seat. Place 0 is the head of the queue.
-use Rattle.std.specs.Prelude.{◌≡◌, ◌≢◌, ℕ, ◌+◌, ◌-◌, ◌*◌, ◌<◌, ◌≤◌, ◌==◌, nat_lt, nat_le, ◌&&◌, not, if◌then◌else◌, Bool, List, [], ◌∷◌, ◌++◌, map, length, take, slice_index, ◌⊎◌, All, AllPairs, Contains}
+use Rattle.std.specs.Prelude.{◌≡◌, ◌≢◌, ℕ, ◌+◌, ◌-◌, ◌*◌, ◌<◌, ◌≤◌, ◌==◌, nat_lt, nat_le, ◌&&◌, not, if◌then◌else◌, Bool, false, get_or, List, [], ◌∷◌, ◌++◌, map, length, take, slice_index, ◌⊎◌, All, AllPairs, Contains}
 use Rattle.std.specs.List.{list_any}
 use Rattle.word_fields.specs.Fields.{field_of}
 
@@ -9,6 +9,10 @@ pub record AreSeats (seats : List ℕ) : Type 0 where
   pub real : All (λ s. s < 8) seats
   pub differ : AllPairs (λ s t. s ≢ t) seats
   pub fit : length seats ≤ 8
+
+-- for each seat below 8 whether it is among some
+abbrev pub AreMembers : List Bool → List ℕ → Type 0
+AreMembers members seats = (seat : ℕ) → seat < 8 → get_or members seat false ≡ list_any (λ s. s == seat) seats
 
 -- the eight places of a word
 unfoldable pub places_of : ℕ → List ℕ

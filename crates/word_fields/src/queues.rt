@@ -1,6 +1,7 @@
 //! Queue words: the seats whose published calls are to be helped.
-ghost use Rattle.std.specs.Prelude.{◌≡◌, ℕ, ◌<◌, ◌^◌, slice_index};
-ghost use Rattle.word_fields.specs.Seats.{AreSeats, places_of, names_another, queue_seats, seats_word};
+ghost use Rattle.std.specs.Prelude.{◌≡◌, ℕ, ◌-◌, ◌<◌, ◌^◌, ◌&&◌, nat_le, nat_lt, not, false, get_or, slice_index, take};
+ghost use Rattle.std.specs.Option.{option_to_list};
+ghost use Rattle.word_fields.specs.Seats.{AreMembers, AreSeats, places_of, queue_seats, seats_word};
 
 use crate::field::Field;
 use arrayvec::ArrayVec;
@@ -33,27 +34,48 @@ fn place_at(word: u64, place: u32) -> u8
     QueuePlace::get(word >> (PLACE_BITS * place)) as u8
 }
 
-/// Whether what stands at a place names a seat that isn't among these.
-fn is_another(seats: &[u8], named: u8) -> bool
-    ensures { result ≡ names_another seats.now named }
+/// Whether what stands at a place names a seat that is no member yet.
+fn is_another(members: &[bool; 8], named: u8) -> bool
+    ensures { result ≡ nat_lt 0 named && nat_le named 8 && not (get_or members.now (named - 1) false) }
 {
-    named > 0 && u32::from(named) <= PLACES && !seats.contains(&(named - 1))
+    named > 0 && u32::from(named) <= PLACES && !members[named as usize - 1]
 }
 
-/// The seats that a word's places name, up to the first that is empty, above 8, or a repeat.
-#[tactic(auto, using(crate::proofs::QueueLemmas::reading))]
-fn read_seats(word: u64) -> ArrayVec<u8, 8>
-    ensures { result.items ≡ queue_seats word }
+/// The seats that a word's places name, up to the first that is empty, above 8, or a repeat; and for each seat
+/// whether it is one of them.
+fn read_seats(word: u64) -> (ArrayVec<u8, 8>, [bool; 8])
+    ensures seats { result.0.items ≡ queue_seats word }
+    ensures members { AreMembers result.1 (queue_seats word) }
 {
     let mut seats = ArrayVec::new();
+    let mut members = [false; 8];
     for place in 0..PLACES {
         let named = place_at(word, place);
-        if !is_another(&seats, named) {
+        if !is_another(&members, named) {
             break;
         }
+        members[named as usize - 1] = true;
         seats.push(named - 1);
     }
-    seats
+    (seats, members)
+}
+
+/// For each seat below 8 whether a queue word holds it.
+pub fn members(word: u64) -> [bool; 8]
+    ensures { AreMembers result (queue_seats word) }
+{
+    read_seats(word).1
+}
+
+/// The head of a queue word: the seat that its first place names, if it names one.
+pub fn head(word: u64) -> Option<u8>
+    ensures { option_to_list result ≡ take 1 (queue_seats word) }
+{
+    let named = place_at(word, 0);
+    if is_another(&[false; 8], named) {
+        return Some(named - 1);
+    }
+    None
 }
 
 /// The bits of seats in their places.
@@ -81,7 +103,7 @@ impl QueueWord {
         ensures seats { ReadsSeats (places_of word) result.seats.items }
     {
         QueueWord {
-            seats: read_seats(word),
+            seats: read_seats(word).0,
             version: QueueVersion::get(word) as u32,
         }
     }
