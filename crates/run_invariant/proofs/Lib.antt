@@ -1,7 +1,3 @@
-pub mod Premises
-pub mod Mover
-pub mod Others
-pub mod Counted
 pub mod Records
 pub mod Tells
 pub mod Kept

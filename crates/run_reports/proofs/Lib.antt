@@ -1,9 +1,3 @@
-pub mod Moves
-pub mod Changes
-pub mod Records
-pub mod Exhausted
-pub mod Journals
-pub mod Exchanges
 pub mod Counts
 pub mod Endings
 pub mod Placed

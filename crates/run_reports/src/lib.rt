@@ -3,7 +3,6 @@
 //! published and helped, or not.
 #![tactic(auto)]
 
-pub mod exchange_laws;
 pub mod headline;
 pub mod history_laws;
 pub mod report_laws;

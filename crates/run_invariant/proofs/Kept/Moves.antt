@@ -14,16 +14,16 @@ use Rattle.run_world.proofs.Words.Moved.{seat_after}
 use Rattle.run_world.proofs.Words.Seats.{machine_after, seats_moved}
 use Rattle.run_knowledge.specs.Kept.{IsKept, KnowsWell, callers_in}
 use Rattle.run_knowledge.proofs.InRuns.Leaves.{holds_after}
-use Rattle.run_invariant.proofs.Counted.Announced.{announced_after, others_announced_after}
-use Rattle.run_invariant.proofs.Counted.ChangesBelow.{changes_below_after, changes_below_mover}
-use Rattle.run_invariant.proofs.Counted.Contents.{contents_after}
-use Rattle.run_invariant.proofs.Counted.Searches.{counts_after, early_after, others_early_after}
-use Rattle.run_invariant.proofs.Counted.Versions.{versions_after}
-use Rattle.run_invariant.proofs.Mover.Commands.{command_moved}
-use Rattle.run_invariant.proofs.Mover.Fresh.{used_after}
-use Rattle.run_invariant.proofs.Mover.Knows.{knows_after}
-use Rattle.run_invariant.proofs.Others.Know.{others_know_after}
-use Rattle.run_invariant.proofs.Premises.Moves.{leaves_claims, leaves_queue, leaves_ticks, queue_after}
+use Rattle.kept_knowledge.proofs.Counted.Announced.{announced_after, others_announced_after}
+use Rattle.kept_knowledge.proofs.Counted.ChangesBelow.{changes_below_after, changes_below_mover}
+use Rattle.kept_knowledge.proofs.Counted.Contents.{contents_after}
+use Rattle.kept_knowledge.proofs.Counted.Searches.{counts_after, early_after, others_early_after}
+use Rattle.kept_knowledge.proofs.Counted.Versions.{versions_after}
+use Rattle.kept_knowledge.proofs.Mover.Commands.{command_moved}
+use Rattle.kept_knowledge.proofs.Mover.Fresh.{used_after}
+use Rattle.kept_knowledge.proofs.Mover.Knows.{knows_after}
+use Rattle.kept_knowledge.proofs.Others.Know.{others_know_after}
+use Rattle.kept_knowledge.proofs.Premises.Moves.{leaves_claims, leaves_queue, leaves_ticks, queue_after}
 use Rattle.run_invariant.proofs.Records.Followed.{followed_after}
 use Rattle.run_invariant.proofs.Records.Owned.{owned_after}
 use Rattle.run_invariant.proofs.Records.RecordTells.{other_record_tells_after, own_record_tells_after}

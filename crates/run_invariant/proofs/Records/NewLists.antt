@@ -26,12 +26,7 @@ use Rattle.run_world.proofs.Words.Wins.{move_wins}
 use Rattle.run_knowledge.specs.Kept.{IsKept}
 use Rattle.run_knowledge.proofs.InRuns.Leaves.{kind}
 use Rattle.run_invariant.proofs.Tells.NewChanges.{won_held}
-
-beside_by : {A : Type 0} (list : Listed) (j : ℕ) → By list j ≡ Beside → A
-beside_by list j same = absurd cc
-
-same_list : (list other : Listed) (j k : ℕ) → By list j ≡ By other k → list ≡ other
-same_list list other j k same = cc
+use Rattle.run_invariant.proofs.Tells.Values.{beside_by, same_list}
 
 -- what a list is that takes effect with a move, of a seat that holds this
 pub data NewList {S : Type 0} (world : World) (held : Option (Held S)) (list : Listed) : Type 0 where
@@ -104,7 +99,7 @@ module _ {S W : Type 0} (form : NormalForm S W) (laws : Laws form) (setup : Setu
   kind_items (completes head word outcome from won o) = put_items _ _ won.after_is
   kind_items (restarts head word offer wrapping of gone won o) = put_items _ _ won.after_is
   kind_items (executes block offer stands is o) = helps_item block offer stands is
-  kind_items (beside entry is uses o) = new_item _ is.journal (λ list j e. beside_by list j e)
+  kind_items (beside entry is uses o) = new_item _ is.journal (λ list j e. beside_by list j (sym e))
   kind_items (enters other j entry fast is uses o) =
       let mine = won_held form laws setup older move mech are at kept other j _ refl is.journal (λ block offer stands. is.beside block offer stands j) (move_wins form setup older move mech at) in
       new_item _ is.journal (λ list k e. held_item list other (same_list list other k j e) mine)

@@ -25,8 +25,8 @@ use Rattle.run_queue.specs.Premises.{KeepsQueue}
 use Rattle.run_world.specs.Ghosts.{SeatGhost}
 use Rattle.run_world.specs.Lists.{HoldsIn}
 use Rattle.run_world.specs.RunGhosts.{ghost_of, world_of}
+use Rattle.step_knowledge.specs.Moves.{is_unannounced}
 use Rattle.run_knowledge.specs.Kept.{IsKept, held_in_seats}
-use Rattle.run_knowledge.specs.Moves.{is_unannounced}
 use Rattle.run_knowledge.specs.Tells.{IsFollowed}
 use Rattle.run_knowledge.specs.Tells.IsFollowed.{with_seat, dead as is_dead, changed as has_changed}
 use Rattle.run_knowledge.proofs.InRuns.Leaves.{kind}

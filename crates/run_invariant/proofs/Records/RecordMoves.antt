@@ -48,10 +48,10 @@ use Rattle.run_queue.proofs.Runs.RunMoves.{runs_queued}
 use Rattle.run_world.specs.Ghosts.{SeatGhost}
 use Rattle.run_world.specs.RunGhosts.{ghost_of, world_of}
 use Rattle.run_world.proofs.Words.Moved.{seen_by}
+use Rattle.step_knowledge.specs.Known.{KnowsHelp}
+use Rattle.step_knowledge.specs.Moves.{Advances, HelpSteps, MeetsHead, MeetsWork, RestsHelp, RestsMove, StepsIn}
+use Rattle.step_knowledge.specs.Moves.Advances.{lost, won as has_won}
 use Rattle.run_knowledge.specs.Kept.{IsKept, callers_in}
-use Rattle.run_knowledge.specs.Known.{KnowsHelp}
-use Rattle.run_knowledge.specs.Moves.{Advances, HelpSteps, MeetsHead, MeetsWork, RestsHelp, RestsMove, StepsIn}
-use Rattle.run_knowledge.specs.Moves.Advances.{lost, won as has_won}
 use Rattle.run_knowledge.proofs.Bounds.InKept.{keeps_queue}
 use Rattle.run_knowledge.proofs.InRuns.MoveSteps.{moves_step}
 use Rattle.run_knowledge.proofs.InRuns.MovesKinds.{is_inside}

@@ -31,8 +31,8 @@ use Rattle.run_world.specs.RunGhosts.{ghost_of, world_of}
 use Rattle.run_world.specs.SeatSteps.{begun_after}
 use Rattle.run_world.proofs.Words.Moved.{seat_after, seen_by}
 use Rattle.run_world.proofs.Words.Seats.{machine_after}
+use Rattle.step_knowledge.specs.Moves.{is_unannounced}
 use Rattle.run_knowledge.specs.Kept.{IsKept, caller_at, callers_in}
-use Rattle.run_knowledge.specs.Moves.{is_unannounced}
 use Rattle.run_knowledge.specs.Tells.{TellsIn}
 use Rattle.run_knowledge.proofs.Bounds.InKept.{keeps_queue}
 use Rattle.run_knowledge.proofs.InRuns.Leaves.{kind}

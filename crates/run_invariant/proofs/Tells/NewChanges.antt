@@ -26,12 +26,10 @@ use Rattle.run_world.proofs.Words.Wins.{Wins, move_wins}
 use Rattle.run_world.proofs.Words.Wins.Wins.{nothing, beside as besides, takes, installed}
 use Rattle.run_knowledge.specs.Kept.{IsKept}
 use Rattle.run_knowledge.proofs.InRuns.Leaves.{kind}
+use Rattle.run_invariant.proofs.Tells.Values.{beside_by}
 
 no_longer : {A X : Type 0} (x : X) (xs : List X) → xs ≡ x ∷ xs → A
 no_longer x xs same = (let long = ap length same in absurd (omega (arith, long)))
-
-beside_by : {A : Type 0} (list : Listed) (j : ℕ) → Beside ≡ By list j → A
-beside_by list j same = absurd cc
 
 first_same : {X : Type 0} (x y : X) (xs ys : List X) → x ∷ xs ≡ y ∷ ys → x ≡ y
 first_same x y xs ys same = cc

@@ -15,10 +15,10 @@ use Rattle.move_kinds.specs.Moves.{Leaves}
 use Rattle.helper_knowledge.specs.Callers.{Caller}
 use Rattle.run_world.specs.Ghosts.{Held}
 use Rattle.run_world.specs.Lists.{IsOffering}
-use Rattle.run_knowledge.specs.Known.{IsStillOffered, KnowsRun, KnowsWrap}
-use Rattle.run_knowledge.specs.Moves.{Enters}
-use Rattle.run_knowledge.proofs.Goes.Runs.{has_run, run_stopped}
-use Rattle.run_knowledge.proofs.Goes.Wraps.{wrap_begins}
+use Rattle.step_knowledge.specs.Known.{IsStillOffered, KnowsRun, KnowsWrap}
+use Rattle.step_knowledge.specs.Moves.{Enters}
+use Rattle.step_knowledge.proofs.Goes.Runs.{has_run, run_stopped}
+use Rattle.step_knowledge.proofs.Goes.Wraps.{wrap_begins}
 
 module _ {S W : Type 0} (form : NormalForm S W) (laws : Laws form) (world after : World) (offers offers' : ℕ → Option (Offer S)) (callers : ℕ → Caller) (seen : Seen) (leaves : Leaves form world after offers offers' None)
     (shape : form.shape world) (shape' : form.shape after) where

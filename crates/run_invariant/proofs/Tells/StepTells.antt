@@ -49,8 +49,8 @@ use Rattle.run_queue.specs.QueueLaws.{finished_with, outcome_in}
 use Rattle.run_world.specs.Ghosts.{Held, SeatGhost, stopped_at, stopped_in}
 use Rattle.run_world.specs.Lists.{IsHeld, IsOffering}
 use Rattle.run_world.specs.SeatSteps.{begun_after, held_in, list_after, newly_held}
-use Rattle.run_knowledge.specs.Known.{KnowsRun, KnowsWrap}
-use Rattle.run_knowledge.specs.Moves.{Enters, RestsMove, StepsIn}
+use Rattle.step_knowledge.specs.Known.{KnowsRun, KnowsWrap}
+use Rattle.step_knowledge.specs.Moves.{Enters, RestsMove, StepsIn}
 use Rattle.run_knowledge.specs.Tells.{CountsIn, TellsIn}
 use Rattle.run_invariant.proofs.Tells.NewChanges.{not_both}
 use Rattle.run_invariant.proofs.Tells.OwnLists.{run_ends, wrap_goes}

@@ -1,0 +1,5 @@
+pub mod Premises
+pub mod Others
+pub mod Mover
+pub mod Counted
+pub mod PartLaws

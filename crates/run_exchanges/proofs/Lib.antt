@@ -1,0 +1,4 @@
+pub mod Moves
+pub mod Changes
+pub mod Journals
+pub mod Exchanges
