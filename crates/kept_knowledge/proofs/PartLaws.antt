@@ -3,10 +3,10 @@ use Rattle.std.proofs.Common.{◌∷◌}
 use Rattle.normal_traits.specs.NormalForm.{NormalForm}
 use Rattle.normal_traits.specs.Laws.{Laws}
 use Rattle.fast_slow_engine.specs.Runs.{run_of}
-use Rattle.run_world.specs.RunGhosts.{ghost_of, world_of}
-use Rattle.run_world.proofs.Words.Seats.{seats_moved}
-use Rattle.step_knowledge.specs.Known.{KnowsIn}
+use Rattle.run_knowledge.specs.RunGhosts.{ghost_of, world_of}
+use Rattle.run_knowledge.specs.Known.{KnowsIn}
 use Rattle.run_knowledge.specs.Kept.{KnowsWell, callers_in}
+use Rattle.run_knowledge.proofs.Words.Seats.{seats_moved}
 use Rattle.kept_knowledge.specs.Afterwards.{ContentsKept, MachinesKnow, OpeningsKept, PremisesKept, VersionsKept}
 use Rattle.kept_knowledge.proofs.Counted.Contents.{contents_after}
 use Rattle.kept_knowledge.proofs.Counted.Opening.{opening_kept}

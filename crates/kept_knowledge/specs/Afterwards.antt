@@ -7,8 +7,8 @@ use Rattle.run_laws.specs.Claims.{KeepsClaims}
 use Rattle.run_laws.specs.Seats.{EachMech}
 use Rattle.run_laws.specs.Ticks.{KeepsTicks}
 use Rattle.run_queue.specs.Premises.{KeepsQueue}
-use Rattle.run_world.specs.RunGhosts.{ghost_of, world_of}
-use Rattle.step_knowledge.specs.Known.{KnowsIn}
+use Rattle.run_knowledge.specs.RunGhosts.{ghost_of, world_of}
+use Rattle.run_knowledge.specs.Known.{KnowsIn}
 use Rattle.run_knowledge.specs.Kept.{AllContents, IsKept, VersionsCount, callers_in}
 
 module _ {S W : Type 0} (form : NormalForm S W) where

@@ -1,3 +1,3 @@
--- A move with what holds before and after it, and whose the lists are that it may serve.
+-- Whose the lists are that a move may serve.
 pub mod Seats
 pub mod Served

@@ -23,7 +23,7 @@ use Rattle.fast_slow_engine.specs.Runs.{Move, RunState, AreMoves, begun, run_of}
 use Rattle.offered_blocks.specs.Blocks.{IsExecuting}
 use Rattle.helper_knowledge.specs.Callers.{called}
 use Rattle.run_queue.specs.QueueLaws.{Publishes}
-use Rattle.run_world.specs.RunGhosts.{world_of}
+use Rattle.run_invariant.specs.RunGhosts.{world_of}
 
 -- an exchange that was won: its place, and the words before and after it, the latter without its modified bit; what a run
 -- is said to have done at most once is one of these

@@ -6,7 +6,7 @@ use Rattle.normal_traits.specs.World.Maker.{By}
 use Rattle.normal_traits.specs.NormalForm.{NormalForm}
 use Rattle.fast_slow_engine.specs.declared.setup.Setup.{Setup}
 use Rattle.fast_slow_engine.specs.Runs.{Move, AreMoves}
-use Rattle.run_world.specs.RunGhosts.{world_of}
+use Rattle.run_invariant.specs.RunGhosts.{world_of}
 
 -- what the won exchanges of a run obey: at one place no word before is another's word before, a won exchange
 -- raises the version by one, and no two have one cause, which is of a block of the run and of one of eight kinds; so

@@ -1,6 +1,6 @@
 -- Of what all agree that work on one call, in every run: what an offered block holds and where its list stops, and the outcome
 -- that a completed record tells.
-use Rattle.std.specs.Prelude.{◌≡◌, ℕ, ◌<◌, List, ◌++◌, Option, Some}
+use Rattle.std.specs.Prelude.{◌≡◌, ℕ, ◌<◌, List, ◌++◌, Some}
 use Rattle.word_fields.specs.declared.records.Phase.TheVariants.{Completed}
 use Rattle.word_fields.specs.Records.{record_number, record_phase}
 use Rattle.normal_traits.specs.World.{World}
@@ -11,7 +11,7 @@ use Rattle.fast_slow_engine.specs.Runs.{Move, AreMoves, run_of}
 use Rattle.offered_blocks.specs.Blocks.{Offer}
 use Rattle.offered_blocks.specs.HelperSteps.{HasStopped}
 use Rattle.move_kinds.specs.Contents.{HasContents}
-use Rattle.run_world.specs.RunGhosts.{ghost_of, world_of}
+use Rattle.kept_knowledge.specs.RunGhosts.{ghost_of, world_of}
 
 -- all who look at an offered block agree on it: what any of them reads there is the operation and the list that were offered,
 -- and where any two of them find that the list has stopped, it is the same place

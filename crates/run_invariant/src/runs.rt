@@ -1,5 +1,5 @@
 //! What holds of every run of the whole phase table, with calls that are published and helped or without.
-ghost use Rattle.run_knowledge.specs.Kept.{MovesKeep, RunsAreKept};
+ghost use Rattle.kept_knowledge.specs.Kept.{MovesKeep, RunsAreKept};
 ghost use Rattle.run_invariant.specs.Agreed.{BlocksAgreed, OutcomesFixed};
 ghost use Rattle.run_invariant.specs.Runs.{CountersKept, MovesAllowed, MovesOfKinds, QueuesKept};
 

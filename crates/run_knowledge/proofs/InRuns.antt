@@ -1,4 +1,4 @@
--- Each move of a run is a step of its phase.
+-- Each move of a run is a step of its phase; a move with what holds before it and after it.
 pub mod Asked
 pub mod OwnMade
 pub mod HelpMade

@@ -16,7 +16,7 @@ use Rattle.fast_slow_engine.specs.Reports.{report_of_run}
 use Rattle.overtaking_law.specs.Overtaking.{overtaken}
 use Rattle.run_laws.specs.Files.{FilesFit}
 use Rattle.run_overtaking.specs.Accounts.{most_overtaken}
-use Rattle.run_world.specs.RunGhosts.{world_of}
+use Rattle.run_exchanges.specs.RunGhosts.{world_of}
 use Rattle.run_exchanges.specs.Exchanges.{AreAtMostOnce, TellsExchanges, won_exchanges}
 use Rattle.run_exchanges.specs.Journals.{JournalLaws}
 use Rattle.run_reports.specs.Endings.{WasRefused, WonNone}

@@ -21,11 +21,11 @@ use Rattle.offered_blocks.specs.HelperSteps.{Helps}
 use Rattle.offered_blocks.specs.HelperSteps.Helps.{looks, installs_first, installs_second, succeeds, fails, clears_bit}
 use Rattle.run_laws.proofs.SeatLemmas.{seats_stay}
 use Rattle.run_queue.proofs.Runs.RunMoves.{runs_queued}
-use Rattle.run_world.specs.RunGhosts.{ghost_of, world_of}
-use Rattle.run_world.proofs.Words.Moved.{seat_after, seen_by}
-use Rattle.run_world.proofs.Words.Seats.{machine_after}
+use Rattle.run_knowledge.specs.RunGhosts.{ghost_of, world_of}
 use Rattle.run_knowledge.specs.Kept.{IsKept}
 use Rattle.run_knowledge.specs.Tells.{IsAnnounced}
+use Rattle.run_knowledge.proofs.Words.Moved.{seat_after, seen_by}
+use Rattle.run_knowledge.proofs.Words.Seats.{machine_after}
 use Rattle.run_knowledge.proofs.Bounds.InKept.{keeps_queue}
 use Rattle.run_knowledge.proofs.Bounds.Words.{word_may}
 use Rattle.run_knowledge.proofs.InRuns.Rests.{known}

@@ -40,19 +40,19 @@ use Rattle.helper_knowledge.proofs.Queue.CallsBelow.{numbers_below}
 use Rattle.run_laws.proofs.SeatLemmas.{begun_number, begun_own, seats_stay}
 use Rattle.run_laws.proofs.Steps.{some_same}
 use Rattle.run_queue.proofs.QueueLaws.{owners_hold}
-use Rattle.run_world.specs.Ghosts.{Held}
-use Rattle.run_world.specs.Identities.{Keeper, kept_list}
-use Rattle.run_world.specs.Identities.Keeper.{holder, named as at_block}
-use Rattle.run_world.specs.Lists.{HoldsIn}
-use Rattle.run_world.specs.RunGhosts.{ghost_of, world_of}
-use Rattle.run_world.proofs.Holding.HeldLists.{lists_held}
-use Rattle.run_world.proofs.Names.Comes.{held_listed, offered_listed}
-use Rattle.run_world.proofs.Names.Journal.{won_came}
-use Rattle.run_world.proofs.Words.Moved.{seen_by}
-use Rattle.run_world.proofs.Words.Seats.{machine_after}
+use Rattle.run_knowledge.specs.Ghosts.{Held}
+use Rattle.run_knowledge.specs.Identities.{Keeper, kept_list}
+use Rattle.run_knowledge.specs.Identities.Keeper.{holder, named as at_block}
+use Rattle.run_knowledge.specs.Lists.{HoldsIn}
+use Rattle.run_knowledge.specs.RunGhosts.{ghost_of, world_of}
 use Rattle.run_knowledge.specs.Kept.{IsKept}
 use Rattle.run_knowledge.specs.Tells.{ChangesBelow, IsFollowed}
 use Rattle.run_knowledge.specs.Tells.IsFollowed.{with_seat, dead as gone_dead, changed as has_changed}
+use Rattle.run_knowledge.proofs.Holding.HeldLists.{lists_held}
+use Rattle.run_knowledge.proofs.Names.Comes.{held_listed, offered_listed}
+use Rattle.run_knowledge.proofs.Names.Journal.{won_came}
+use Rattle.run_knowledge.proofs.Words.Moved.{seen_by}
+use Rattle.run_knowledge.proofs.Words.Seats.{machine_after}
 use Rattle.run_knowledge.proofs.Bounds.InKept.{keeps_queue}
 use Rattle.run_knowledge.proofs.InRuns.Leaves.{kind}
 

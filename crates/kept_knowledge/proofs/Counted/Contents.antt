@@ -37,11 +37,11 @@ use Rattle.helper_knowledge.specs.Meetings.{offers_if, won_world}
 use Rattle.helper_knowledge.specs.WorkKnown.{KnowsWork, MayAdvance}
 use Rattle.helper_knowledge.specs.WorkKnown.MayAdvance.{offers_it, answers, exhausts, settles, completes, restarts}
 use Rattle.helper_knowledge.proofs.LawLemmas.{filled_holds}
-use Rattle.run_world.specs.Ghosts.{SeatGhost}
-use Rattle.run_world.specs.RunGhosts.{ghost_of, world_of}
-use Rattle.step_knowledge.specs.Known.{KnowsHelp, KnowsIn}
-use Rattle.step_knowledge.specs.Moves.{Advances, HelpSteps, StepsIn, WorkSteps}
-use Rattle.step_knowledge.specs.Moves.Advances.{lost, won}
+use Rattle.run_knowledge.specs.Ghosts.{SeatGhost}
+use Rattle.run_knowledge.specs.RunGhosts.{ghost_of, world_of}
+use Rattle.run_knowledge.specs.Known.{KnowsHelp, KnowsIn}
+use Rattle.run_knowledge.specs.Moves.{Advances, HelpSteps, StepsIn, WorkSteps}
+use Rattle.run_knowledge.specs.Moves.Advances.{lost, won}
 use Rattle.run_knowledge.specs.InMemory.{PhaseInside}
 use Rattle.run_knowledge.specs.Kept.{AllContents, IsKept, callers_in}
 use Rattle.run_knowledge.proofs.Bounds.InKept.{words_small}

@@ -46,17 +46,17 @@ use Rattle.helper_knowledge.specs.HelperStep.{Steps}
 use Rattle.helper_knowledge.specs.Knowing.{KnowsOffer}
 use Rattle.helper_knowledge.specs.WorkKnown.{KnowsWork}
 use Rattle.helper_knowledge.proofs.Own.OwnKinds.{search_kind, wrap_kind}
-use Rattle.run_world.specs.Ghosts.{Held, SeatGhost, uses_block}
-use Rattle.run_world.specs.Lists.{IsOffering}
-use Rattle.run_world.specs.RunGhosts.{ghost_of, world_of}
-use Rattle.run_hands.proofs.Blocks.Spare.{hands_spare}
-use Rattle.step_knowledge.specs.Known.{KnowsFill, KnowsHelp, KnowsRun, KnowsWrap}
-use Rattle.step_knowledge.specs.Moves.{Advances, Announces, Enters, HelpSteps, Puts, RestsMove, StepsIn, WorkSteps}
-use Rattle.step_knowledge.specs.Moves.Advances.{lost, won}
-use Rattle.step_knowledge.specs.Moves.Enters.{misses, wins as wins_entry}
-use Rattle.step_knowledge.proofs.OfKinds.OwnStores.{filling, held_offer}
+use Rattle.run_knowledge.specs.Ghosts.{Held, SeatGhost, uses_block}
+use Rattle.run_knowledge.specs.Lists.{IsOffering}
+use Rattle.run_knowledge.specs.RunGhosts.{ghost_of, world_of}
+use Rattle.run_knowledge.specs.Known.{KnowsFill, KnowsHelp, KnowsRun, KnowsWrap}
+use Rattle.run_knowledge.specs.Moves.{Advances, Announces, Enters, HelpSteps, Puts, RestsMove, StepsIn, WorkSteps}
+use Rattle.run_knowledge.specs.Moves.Advances.{lost, won}
+use Rattle.run_knowledge.specs.Moves.Enters.{misses, wins as wins_entry}
 use Rattle.run_knowledge.specs.InMemory.{PhaseInside}
 use Rattle.run_knowledge.specs.Kept.{IsKept, callers_in}
+use Rattle.run_knowledge.proofs.Blocks.Spare.{hands_spare}
+use Rattle.run_knowledge.proofs.OfKinds.OwnStores.{filling, held_offer}
 use Rattle.run_knowledge.proofs.Bounds.InKept.{keeps_claims}
 use Rattle.run_knowledge.proofs.InRuns.MoveSteps.{moves_step}
 use Rattle.run_knowledge.proofs.InRuns.MovesKinds.{is_inside}

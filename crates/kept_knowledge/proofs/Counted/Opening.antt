@@ -25,11 +25,11 @@ use Rattle.offered_blocks.specs.Records.{RecordIsRight, RecordTells}
 use Rattle.offered_blocks.proofs.LawLemmas.{opens_holding}
 use Rattle.helper_knowledge.specs.Callers.{Caller, called}
 use Rattle.run_laws.proofs.SeatLemmas.{new_mech, seats_stay}
-use Rattle.run_world.specs.Ghosts.{opening_seat}
-use Rattle.run_world.specs.RunGhosts.{ghost_of, world_of}
-use Rattle.run_world.proofs.Words.Opens.{world_opens}
+use Rattle.run_knowledge.specs.Ghosts.{opening_seat}
+use Rattle.run_knowledge.specs.RunGhosts.{ghost_of, world_of}
 use Rattle.run_knowledge.specs.Kept.{IsKept, KnowsWell, VersionsCount, callers_in}
 use Rattle.run_knowledge.specs.Tells.{IsAnnounced}
+use Rattle.run_knowledge.proofs.Words.Opens.{world_opens}
 use Rattle.kept_knowledge.proofs.Counted.Stored.{small_version}
 
 -- ---- the opening words

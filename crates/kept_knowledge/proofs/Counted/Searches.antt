@@ -21,15 +21,15 @@ use Rattle.fast_slow_engine.specs.Mechs.{Mech}
 use Rattle.fast_slow_engine.specs.PhaseTable.{stepped}
 use Rattle.fast_slow_engine.specs.Runs.{AreMoves, Move, begun, run_of}
 use Rattle.offered_blocks.specs.Blocks.{Offer}
-use Rattle.run_world.specs.Ghosts.{Held, SeatGhost}
-use Rattle.run_world.specs.RunGhosts.{ghost_of, world_of}
-use Rattle.run_world.specs.SeatSteps.{begun_after, searches_on}
-use Rattle.run_world.specs.Worlds.{world_stepped}
-use Rattle.run_world.proofs.Words.Grow.{world_grows}
-use Rattle.run_world.proofs.Words.Moved.{made_moved, seat_after, seen_by}
-use Rattle.run_world.proofs.Words.Seats.{machine_after}
+use Rattle.run_knowledge.specs.Ghosts.{Held, SeatGhost}
+use Rattle.run_knowledge.specs.RunGhosts.{ghost_of, world_of}
+use Rattle.run_knowledge.specs.SeatSteps.{begun_after, searches_on}
+use Rattle.run_knowledge.specs.Worlds.{world_stepped}
 use Rattle.run_knowledge.specs.Kept.{IsKept}
 use Rattle.run_knowledge.specs.Tells.{CountsIn}
+use Rattle.run_knowledge.proofs.Words.Grow.{world_grows}
+use Rattle.run_knowledge.proofs.Words.Moved.{made_moved, seat_after, seen_by}
+use Rattle.run_knowledge.proofs.Words.Seats.{machine_after}
 
 -- it is so in every phase where it is so of the numbers
 any_counts : {S W : Type 0} (at : Phase S W) (own : SeatGhost S) → own.begun ≤ own.carried.since → CountsIn at own

@@ -19,7 +19,7 @@ use Rattle.offered_blocks.specs.Blocks.{Offer}
 use Rattle.offered_blocks.specs.Holds.{HasOffers}
 use Rattle.offered_blocks.specs.HelperSteps.{Helps}
 use Rattle.offered_blocks.specs.HelperSteps.Helps.{looks, installs_first, installs_second, succeeds, fails, clears_bit}
-use Rattle.run_world.specs.RunGhosts.{ghost_of, world_of}
+use Rattle.run_knowledge.specs.RunGhosts.{ghost_of, world_of}
 use Rattle.run_knowledge.specs.Kept.{IsKept, MayBeClients, VersionsCount}
 use Rattle.run_knowledge.proofs.InRuns.Rests.{known}
 use Rattle.kept_knowledge.proofs.Counted.MoveTouches.{move_touches}

@@ -11,11 +11,11 @@ use Rattle.fast_slow_engine.specs.Mechs.{Mech}
 use Rattle.fast_slow_engine.specs.Runs.{AreMoves, Move, begun, run_of}
 use Rattle.helper_knowledge.specs.Callers.{Caller, called, caller_of}
 use Rattle.helper_knowledge.proofs.Kept.CallersFollow.{goes_on}
-use Rattle.run_world.specs.RunGhosts.{ghost_of}
-use Rattle.run_world.specs.SeatSteps.{begun_after}
-use Rattle.run_world.proofs.Words.Moved.{seat_after, seen_by}
-use Rattle.run_world.proofs.Words.Seats.{machine_after}
+use Rattle.run_knowledge.specs.RunGhosts.{ghost_of}
+use Rattle.run_knowledge.specs.SeatSteps.{begun_after}
 use Rattle.run_knowledge.specs.Kept.{IsKept, caller_at, callers_in}
+use Rattle.run_knowledge.proofs.Words.Moved.{seat_after, seen_by}
+use Rattle.run_knowledge.proofs.Words.Seats.{machine_after}
 use Rattle.kept_knowledge.proofs.Others.Callers.{mover_called, other_called}
 
 -- a phase is that in which the begin tick is drawn, or a step in it leaves how many changes there were at the begin

@@ -7,8 +7,8 @@ use Rattle.fast_slow_engine.specs.declared.setup.Setup.{Setup}
 use Rattle.fast_slow_engine.specs.Mechs.{Mech}
 use Rattle.fast_slow_engine.specs.Runs.{CanMove, Move, begun}
 use Rattle.fast_slow_engine.proofs.SameCalls.{same_fed}
-use Rattle.run_world.proofs.Words.Moved.{seen_by}
-use Rattle.run_world.proofs.Words.Seats.{machine_after}
+use Rattle.run_knowledge.proofs.Words.Moved.{seen_by}
+use Rattle.run_knowledge.proofs.Words.Seats.{machine_after}
 
 -- of a machine that has begun a call
 abbrev pub MadeCommand : {S W : Type 0} → NormalForm S W → Mech S W → Type 0

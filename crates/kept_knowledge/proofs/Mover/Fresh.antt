@@ -6,12 +6,12 @@ use Rattle.fast_slow_engine.specs.declared.setup.Setup.{Setup}
 use Rattle.fast_slow_engine.specs.Mechs.{Mech}
 use Rattle.fast_slow_engine.specs.Runs.{AreMoves, Move, begun, run_of}
 use Rattle.helper_knowledge.specs.HelperStep.{UsedSmall}
-use Rattle.run_world.specs.RunGhosts.{ghost_of, world_of}
-use Rattle.run_world.proofs.Names.Journal.{journal_before}
-use Rattle.run_hands.proofs.Blocks.Used.{used_claimed}
-use Rattle.step_knowledge.specs.Known.{NoneFrom}
-use Rattle.step_knowledge.specs.Moves.{MoveLeaves}
+use Rattle.run_knowledge.specs.RunGhosts.{ghost_of, world_of}
+use Rattle.run_knowledge.specs.Known.{NoneFrom}
+use Rattle.run_knowledge.specs.Moves.{MoveLeaves}
 use Rattle.run_knowledge.specs.Kept.{IsKept}
+use Rattle.run_knowledge.proofs.Names.Journal.{journal_before}
+use Rattle.run_knowledge.proofs.Blocks.Used.{used_claimed}
 use Rattle.run_knowledge.proofs.InRuns.Leaves.{holds_after, leaves}
 use Rattle.run_knowledge.proofs.InRuns.MovesKinds.{is_inside}
 use Rattle.kept_knowledge.proofs.Premises.Moves.{claims_after}

@@ -10,15 +10,15 @@ use Rattle.fast_slow_engine.specs.PhaseTable.{stepped}
 use Rattle.fast_slow_engine.specs.Runs.{AreMoves, Move, begun, run_of}
 use Rattle.offered_blocks.specs.Blocks.{Offer}
 use Rattle.helper_knowledge.specs.Callers.{Caller}
-use Rattle.run_world.specs.Ghosts.{SeatGhost}
-use Rattle.run_world.specs.RunGhosts.{ghost_of, world_of}
-use Rattle.run_world.specs.SeatSteps.{seat_stepped}
-use Rattle.run_world.proofs.Words.Moved.{made_moved, made_seat, seat_after, seen_by}
-use Rattle.run_world.proofs.Words.Seats.{machine_after}
-use Rattle.step_knowledge.specs.Known.{KnowsIn}
-use Rattle.step_knowledge.specs.Moves.{StepsIn}
-use Rattle.step_knowledge.proofs.Goes.EachPhase.{steps_know}
+use Rattle.run_knowledge.specs.Ghosts.{SeatGhost}
+use Rattle.run_knowledge.specs.RunGhosts.{ghost_of, world_of}
+use Rattle.run_knowledge.specs.SeatSteps.{seat_stepped}
+use Rattle.run_knowledge.specs.Known.{KnowsIn}
+use Rattle.run_knowledge.specs.Moves.{StepsIn}
 use Rattle.run_knowledge.specs.Kept.{IsKept, callers_in}
+use Rattle.run_knowledge.proofs.Words.Moved.{made_moved, made_seat, seat_after, seen_by}
+use Rattle.run_knowledge.proofs.Words.Seats.{machine_after}
+use Rattle.run_knowledge.proofs.Goes.EachPhase.{steps_know}
 use Rattle.run_knowledge.proofs.InRuns.MoveSteps.{moves_step}
 use Rattle.run_knowledge.proofs.InRuns.MovesKinds.{is_inside}
 use Rattle.run_knowledge.proofs.InRuns.Rests.{rests_move}

@@ -34,16 +34,16 @@ use Rattle.run_laws.proofs.Steps.{at_set, beside_set, move_steps}
 use Rattle.run_queue.specs.QueueGhosts.{queue_ghosts}
 use Rattle.run_queue.specs.QueueViews.{helping_view, next_number, phase_view}
 use Rattle.run_queue.proofs.Runs.RunMoves.{runs_queued}
-use Rattle.run_world.specs.Ghosts.{SeatGhost}
-use Rattle.run_world.specs.RunGhosts.{ghost_of, world_of}
-use Rattle.run_world.specs.SeatSteps.{begun_after}
-use Rattle.run_world.specs.Worlds.{world_stepped}
-use Rattle.run_world.proofs.Words.Grow.{others_stay}
-use Rattle.run_world.proofs.Words.Moved.{made_seat, seat_after, seen_by}
-use Rattle.run_world.proofs.Words.Seats.{machine_after}
-use Rattle.step_knowledge.specs.Moves.{is_unannounced}
-use Rattle.step_knowledge.specs.Others.{FollowsHelp, FollowsIn}
+use Rattle.run_knowledge.specs.Ghosts.{SeatGhost}
+use Rattle.run_knowledge.specs.RunGhosts.{ghost_of, world_of}
+use Rattle.run_knowledge.specs.SeatSteps.{begun_after}
+use Rattle.run_knowledge.specs.Worlds.{world_stepped}
+use Rattle.run_knowledge.specs.Moves.{is_unannounced}
+use Rattle.run_knowledge.specs.Others.{FollowsHelp, FollowsIn}
 use Rattle.run_knowledge.specs.Kept.{IsKept, caller_at, callers_in}
+use Rattle.run_knowledge.proofs.Words.Grow.{others_stay}
+use Rattle.run_knowledge.proofs.Words.Moved.{made_seat, seat_after, seen_by}
+use Rattle.run_knowledge.proofs.Words.Seats.{machine_after}
 use Rattle.run_knowledge.proofs.Bounds.InKept.{keeps_queue}
 use Rattle.run_knowledge.proofs.InRuns.Helped.{head_few, head_seated}
 use Rattle.run_knowledge.proofs.InRuns.Unannounced.{movers_before}

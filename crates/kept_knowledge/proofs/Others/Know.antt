@@ -11,17 +11,17 @@ use Rattle.fast_slow_engine.specs.Mechs.{Mech}
 use Rattle.fast_slow_engine.specs.PhaseTable.{rests}
 use Rattle.fast_slow_engine.specs.Runs.{AreMoves, Move, run_of}
 use Rattle.offered_blocks.specs.Blocks.{Offer}
-use Rattle.run_world.specs.Ghosts.{Held, SeatGhost}
-use Rattle.run_world.specs.Identities.{Keeper, kept_list, list_held}
-use Rattle.run_world.specs.Identities.Keeper.{holder, named}
-use Rattle.run_world.specs.RunGhosts.{ghost_of, world_of}
-use Rattle.run_world.proofs.Names.Journal.{won_came}
-use Rattle.run_world.proofs.Names.Kept.{identities_differ}
-use Rattle.run_hands.proofs.Blocks.Spare.{hands_spare}
-use Rattle.step_knowledge.specs.Known.{KnowsIn, NoneFrom}
-use Rattle.step_knowledge.specs.Others.{StaysBeside}
-use Rattle.step_knowledge.proofs.Stays.OtherSeats.{others_know}
+use Rattle.run_knowledge.specs.Ghosts.{Held, SeatGhost}
+use Rattle.run_knowledge.specs.Identities.{Keeper, kept_list, list_held}
+use Rattle.run_knowledge.specs.Identities.Keeper.{holder, named}
+use Rattle.run_knowledge.specs.RunGhosts.{ghost_of, world_of}
+use Rattle.run_knowledge.specs.Known.{KnowsIn, NoneFrom}
+use Rattle.run_knowledge.specs.Others.{StaysBeside}
 use Rattle.run_knowledge.specs.Kept.{IsKept, callers_in}
+use Rattle.run_knowledge.proofs.Names.Journal.{won_came}
+use Rattle.run_knowledge.proofs.Names.Kept.{identities_differ}
+use Rattle.run_knowledge.proofs.Blocks.Spare.{hands_spare}
+use Rattle.run_knowledge.proofs.Stays.OtherSeats.{others_know}
 use Rattle.run_knowledge.proofs.Bounds.InKept.{keeps_claims}
 use Rattle.run_knowledge.proofs.InRuns.Leaves.{kind}
 use Rattle.run_knowledge.proofs.InRuns.Mover.{KnowsMover, mover_knows}

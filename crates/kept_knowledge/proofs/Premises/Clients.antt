@@ -29,11 +29,11 @@ use Rattle.helper_knowledge.specs.Carried.{Carried, OfSome}
 use Rattle.helper_knowledge.specs.Knowing.{KnowsOffer}
 use Rattle.helper_knowledge.specs.WorkKnown.{KnowsWork}
 use Rattle.run_queue.specs.Premises.{helps_for_client, is_for_client, works_for_client}
-use Rattle.run_world.specs.Ghosts.{Held, SeatGhost}
-use Rattle.run_world.specs.InHand.{BlockIn}
-use Rattle.run_world.specs.Lists.{HoldsIn, IsOffering}
-use Rattle.step_knowledge.specs.Known.{KnowsFill, KnowsHelp, KnowsIn, KnowsRun, KnowsWrap, MakesCommand}
-use Rattle.step_knowledge.proofs.OfKinds.OwnStores.{IsOwnStore, filling, held_offer, own_stored}
+use Rattle.run_knowledge.specs.Ghosts.{Held, SeatGhost}
+use Rattle.run_knowledge.specs.InHand.{BlockIn}
+use Rattle.run_knowledge.specs.Lists.{HoldsIn, IsOffering}
+use Rattle.run_knowledge.specs.Known.{KnowsFill, KnowsHelp, KnowsIn, KnowsRun, KnowsWrap, MakesCommand}
+use Rattle.run_knowledge.proofs.OfKinds.OwnStores.{IsOwnStore, filling, held_offer, own_stored}
 use Rattle.kept_knowledge.proofs.Premises.Requests.{LeavesOthers, asks_leaves, run_leaves, slow_leaves, stores_leave}
 
 module _ {S W : Type 0} (form : NormalForm S W) (laws : Laws form) (world : World) (offers : ℕ → Option (Offer S)) (holds : HasOffers form world offers) where

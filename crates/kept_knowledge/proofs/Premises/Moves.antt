@@ -22,9 +22,9 @@ use Rattle.run_laws.specs.Ticks.{KeepsTicks, LeavesWord}
 use Rattle.run_laws.proofs.PremiseLemmas.{client_keeps_claims, client_keeps_ticks}
 use Rattle.run_laws.proofs.Steps.{some_same}
 use Rattle.run_queue.specs.Premises as queue
-use Rattle.run_world.specs.RunGhosts.{ghost_of, world_of}
-use Rattle.run_hands.proofs.Blocks.Counts.{queue_kept}
+use Rattle.run_knowledge.specs.RunGhosts.{ghost_of, world_of}
 use Rattle.run_knowledge.specs.Kept.{IsKept, MayBeClients, callers_in}
+use Rattle.run_knowledge.proofs.Blocks.Counts.{queue_kept}
 use Rattle.run_knowledge.proofs.InRuns.MovesKinds.{hand_begun, hand_within}
 use Rattle.run_knowledge.proofs.InRuns.Rests.{known}
 use Rattle.kept_knowledge.proofs.Premises.Clients.{phase_leaves}

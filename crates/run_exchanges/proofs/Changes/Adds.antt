@@ -19,14 +19,14 @@ use Rattle.offered_blocks.proofs.Blocks.Items.{both}
 use Rattle.offered_blocks.proofs.Helpers.Allowed.{taken_any}
 use Rattle.move_kinds.specs.Owned.{IsOwned}
 use Rattle.move_kinds.specs.Owned.IsOwned.{unannounced as is_unannounced, named as is_named, dead as is_dead, changed as has_changed}
-use Rattle.run_world.specs.Identities.{Keeper, holder, named, kept_list}
-use Rattle.run_world.specs.RunGhosts.{ghost_of, world_of}
-use Rattle.run_world.proofs.Names.Comes.{held_listed, offered_listed}
-use Rattle.run_world.proofs.Names.Journal.{won_came}
-use Rattle.run_knowledge.specs.Kept.{held_in_seats}
-use Rattle.run_knowledge.specs.Tells.{IsFollowed}
-use Rattle.run_knowledge.specs.Tells.IsFollowed.{with_seat, dead, changed}
-use Rattle.run_knowledge.proofs.InRuns.Moved.{Moved, after, offers, step, world}
+use Rattle.run_invariant.specs.Identities.{Keeper, holder, named, kept_list}
+use Rattle.run_invariant.specs.RunGhosts.{ghost_of, world_of}
+use Rattle.run_invariant.specs.Kept.{held_in_seats}
+use Rattle.run_invariant.specs.Tells.{IsFollowed}
+use Rattle.run_invariant.specs.Tells.IsFollowed.{with_seat, dead, changed}
+use Rattle.run_invariant.proofs.Names.Comes.{held_listed, offered_listed}
+use Rattle.run_invariant.proofs.Names.Journal.{won_came}
+use Rattle.run_invariant.proofs.InRuns.Moved.{Moved, after, offers, step, world}
 use Rattle.run_exchanges.proofs.Changes.Items.{Does, nothing, beside, listed, item_of, step_does}
 use Rattle.run_exchanges.proofs.Moves.Served.{IsServed, executing_named, held_served, named_served}
 

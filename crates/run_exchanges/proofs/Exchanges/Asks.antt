@@ -46,22 +46,22 @@ use Rattle.offered_blocks.specs.RunWorlds.{ran_by}
 use Rattle.helper_knowledge.specs.Callers.{Caller}
 use Rattle.helper_knowledge.specs.Carried.{Carried, OfSome}
 use Rattle.helper_knowledge.specs.WorkKnown.{KnowsWork}
-use Rattle.run_world.specs.Ghosts.{Held, SeatGhost, uses_block}
-use Rattle.run_world.specs.Lists.{HoldsIn, IsOffering}
-use Rattle.run_world.specs.RunGhosts.{ghost_of}
-use Rattle.run_world.specs.Worlds.{won_entry, world_stepped}
-use Rattle.run_world.proofs.Words.Moved.{made_moved}
-use Rattle.step_knowledge.specs.Known.{KnowsHelp, KnowsIn, KnowsRun, KnowsWrap, MakesCommand}
-use Rattle.step_knowledge.specs.Moves.{Enters, HelpSteps, StepsIn, WorkSteps, Advances, Puts}
-use Rattle.step_knowledge.specs.Moves.Enters.{misses as entry_misses, wins as entry_won}
-use Rattle.step_knowledge.specs.Moves.Advances.{lost as exchange_lost, won as exchange_won}
-use Rattle.run_knowledge.specs.Kept.{callers_in, MayBeClients}
-use Rattle.run_knowledge.specs.InMemory.{PhaseInside}
-use Rattle.run_knowledge.proofs.Bounds.InKept.{has_room}
-use Rattle.run_knowledge.proofs.InRuns.MovesKinds.{is_inside}
-use Rattle.run_knowledge.proofs.InRuns.OwnMade.{enter_at, remove_at}
-use Rattle.run_knowledge.proofs.Bounds.Words.{word_may}
-use Rattle.run_knowledge.proofs.InRuns.Moved.{Moved, after, does, known, mech, mover, offers, own, seated, seen, world}
+use Rattle.run_invariant.specs.Ghosts.{Held, SeatGhost, uses_block}
+use Rattle.run_invariant.specs.Lists.{HoldsIn, IsOffering}
+use Rattle.run_invariant.specs.RunGhosts.{ghost_of}
+use Rattle.run_invariant.specs.Worlds.{won_entry, world_stepped}
+use Rattle.run_invariant.specs.Known.{KnowsHelp, KnowsIn, KnowsRun, KnowsWrap, MakesCommand}
+use Rattle.run_invariant.specs.Moves.{Enters, HelpSteps, StepsIn, WorkSteps, Advances, Puts}
+use Rattle.run_invariant.specs.Moves.Enters.{misses as entry_misses, wins as entry_won}
+use Rattle.run_invariant.specs.Moves.Advances.{lost as exchange_lost, won as exchange_won}
+use Rattle.run_invariant.specs.Kept.{callers_in, MayBeClients}
+use Rattle.run_invariant.specs.InMemory.{PhaseInside}
+use Rattle.run_invariant.proofs.Words.Moved.{made_moved}
+use Rattle.run_invariant.proofs.Bounds.InKept.{has_room}
+use Rattle.run_invariant.proofs.InRuns.MovesKinds.{is_inside}
+use Rattle.run_invariant.proofs.InRuns.OwnMade.{enter_at, remove_at}
+use Rattle.run_invariant.proofs.Bounds.Words.{word_may}
+use Rattle.run_invariant.proofs.InRuns.Moved.{Moved, after, does, known, mech, mover, offers, own, seated, seen, world}
 use Rattle.run_exchanges.proofs.Exchanges.Requests.{Asked, none, lost, elsewhere, clears, wins}
 
 module _ {S W : Type 0} (form : NormalForm S W) where

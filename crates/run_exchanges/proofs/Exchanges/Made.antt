@@ -24,14 +24,14 @@ use Rattle.fast_slow_engine.specs.PhaseTable.{request_in}
 use Rattle.fast_slow_engine.specs.Runs.{AreMoves, Move, run_of}
 use Rattle.offered_blocks.specs.Blocks.{Offer, IsExecuting}
 use Rattle.run_laws.proofs.Pairs.{all_map, pairs_map}
-use Rattle.run_world.specs.Ghosts.{Held}
-use Rattle.run_world.specs.Lists.{HoldsIn, IsOffering}
-use Rattle.run_world.specs.RunGhosts.{ghost_of, world_of}
-use Rattle.run_world.proofs.Words.Wins.{nothing, beside, takes, installed, move_wins, won_by}
-use Rattle.step_knowledge.specs.Known.{KnowsIn}
-use Rattle.run_knowledge.specs.Kept.{RunsAreKept, callers_in}
-use Rattle.run_knowledge.proofs.InRuns.Moved.{Moved, after, known, mech, mover, offers, seated, seen, step, world, moved}
-use Rattle.run_knowledge.proofs.InRuns.Moved as moves_of
+use Rattle.run_invariant.specs.Ghosts.{Held}
+use Rattle.run_invariant.specs.Lists.{HoldsIn, IsOffering}
+use Rattle.run_invariant.specs.RunGhosts.{ghost_of, world_of}
+use Rattle.run_invariant.specs.Known.{KnowsIn}
+use Rattle.run_invariant.specs.Kept.{RunsAreKept, callers_in}
+use Rattle.run_invariant.proofs.Words.Wins.{nothing, beside, takes, installed, move_wins, won_by}
+use Rattle.run_invariant.proofs.InRuns.Moved.{Moved, after, known, mech, mover, offers, seated, seen, step, world, moved}
+use Rattle.run_invariant.proofs.InRuns.Moved as moves_of
 use Rattle.run_exchanges.specs.Exchanges.{AreAtMostOnce, ExchangesOnce, IsMadeFor, IsWonBy, JournalsTell, WonExchange, block_executed, told_exchange}
 use Rattle.run_exchanges.specs.Exchanges.IsMadeFor.{own, helped}
 use Rattle.run_exchanges.proofs.Changes.Adds.{now_executing}

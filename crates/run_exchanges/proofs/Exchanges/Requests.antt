@@ -6,7 +6,7 @@ use Rattle.step_memory.specs.declared.steps.Request.TheVariants.{Load, Store, Ex
 use Rattle.word_fields.specs.Versioned.{cleared_word, versioned_version}
 use Rattle.normal_traits.specs.declared.lists.Entry.{Entry}
 use Rattle.normal_traits.specs.World.{Cause, Maker, World}
-use Rattle.run_knowledge.specs.Kept.{MayBeClients}
+use Rattle.run_invariant.specs.Kept.{MayBeClients}
 use Rattle.run_exchanges.specs.Exchanges.{IsCleared, WonExchange, changes_version, exchanged_by, is_clients_place, told_exchange}
 use Rattle.run_exchanges.proofs.Changes.Items.{item_of}
 

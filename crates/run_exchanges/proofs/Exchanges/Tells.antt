@@ -8,9 +8,9 @@ use Rattle.fast_slow_engine.specs.Mechs.{Mech}
 use Rattle.fast_slow_engine.specs.PhaseTable.{mech_request}
 use Rattle.fast_slow_engine.specs.Runs.{AreMoves, Move, begun, run_of}
 use Rattle.run_laws.proofs.Steps.{some_same}
-use Rattle.run_world.specs.RunGhosts.{world_of}
-use Rattle.run_knowledge.specs.Kept.{RunsAreKept}
-use Rattle.run_knowledge.proofs.InRuns.Moved.{Moved, after, mech, mover, moved, seated, seen, world}
+use Rattle.run_invariant.specs.RunGhosts.{world_of}
+use Rattle.run_invariant.specs.Kept.{RunsAreKept}
+use Rattle.run_invariant.proofs.InRuns.Moved.{Moved, after, mech, mover, moved, seated, seen, world}
 use Rattle.run_exchanges.specs.Exchanges.{OnlyClears, WonExchange, moved_exchanges, told_exchange, won_exchanges}
 use Rattle.run_exchanges.proofs.Exchanges.Asks.{move_asked}
 use Rattle.run_exchanges.proofs.Exchanges.Requests as requests

@@ -20,13 +20,13 @@ use Rattle.normal_traits.proofs.Stays.{entry_good, passed_stays, word_put}
 use Rattle.fast_slow_engine.specs.declared.setup.Setup.{Setup}
 use Rattle.fast_slow_engine.specs.Runs.{Move, AreMoves}
 use Rattle.run_laws.proofs.Pairs.{pairs_nil}
-use Rattle.run_world.specs.RunGhosts.{world_of}
-use Rattle.run_world.proofs.Words.Grow.{world_grows}
-use Rattle.run_knowledge.specs.Kept.{RunsAreKept}
-use Rattle.run_knowledge.proofs.Bounds.Causes.{journal_few}
-use Rattle.run_knowledge.proofs.Bounds.InKept.{used_within}
-use Rattle.run_knowledge.proofs.InRuns.Moved as moves_of
-use Rattle.run_knowledge.proofs.InRuns.Moved.{moved}
+use Rattle.run_invariant.specs.RunGhosts.{world_of}
+use Rattle.run_invariant.specs.Kept.{RunsAreKept}
+use Rattle.run_invariant.proofs.Words.Grow.{world_grows}
+use Rattle.run_invariant.proofs.Bounds.Causes.{journal_few}
+use Rattle.run_invariant.proofs.Bounds.InKept.{used_within}
+use Rattle.run_invariant.proofs.InRuns.Moved as moves_of
+use Rattle.run_invariant.proofs.InRuns.Moved.{moved}
 use Rattle.run_exchanges.specs.Journals.{JournalsObey}
 
 -- a won exchange at a word of the client: its version is one higher, and the place is past the word before

@@ -9,10 +9,10 @@ use Rattle.normal_traits.specs.Laws.{Laws}
 use Rattle.fast_slow_engine.specs.declared.setup.Setup.{Setup}
 use Rattle.fast_slow_engine.specs.Runs.{Move, AreMoves}
 use Rattle.run_laws.proofs.Pairs.{pairs_cons, pairs_nil}
-use Rattle.run_world.specs.RunGhosts.{world_of}
-use Rattle.run_world.proofs.Names.Journal.{journal_identities}
-use Rattle.run_knowledge.specs.Kept.{RunsAreKept}
-use Rattle.run_knowledge.proofs.InRuns.Moved.{moved}
+use Rattle.run_invariant.specs.RunGhosts.{world_of}
+use Rattle.run_invariant.specs.Kept.{RunsAreKept}
+use Rattle.run_invariant.proofs.Names.Journal.{journal_identities}
+use Rattle.run_invariant.proofs.InRuns.Moved.{moved}
 use Rattle.run_exchanges.specs.Exchanges.{IsOfItsEntry}
 use Rattle.run_exchanges.specs.Journals.{AreApart, WinsOnce}
 use Rattle.run_exchanges.proofs.Changes.Adds.{Adds, none, aside, serves, adds, all_of}

@@ -17,9 +17,9 @@ use Rattle.run_queue.specs.QueueLaws.{OwnsRecord}
 use Rattle.run_queue.proofs.QueueLaws.{owners_hold}
 use Rattle.run_queue.proofs.Runs.Openings.{opens_free}
 use Rattle.run_queue.proofs.Runs.RunMoves.{runs_later}
-use Rattle.run_world.specs.Ghosts.{Held}
-use Rattle.run_world.specs.RunGhosts.{ghost_of}
-use Rattle.run_world.proofs.Words.Grow.{others_stay}
+use Rattle.run_invariant.specs.Ghosts.{Held}
+use Rattle.run_invariant.specs.RunGhosts.{ghost_of}
+use Rattle.run_invariant.proofs.Words.Grow.{others_stay}
 
 not_some : {X A : Type 0} (x : X) → None ≡ Some x → A
 not_some x e = absurd cc

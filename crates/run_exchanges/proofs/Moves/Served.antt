@@ -26,13 +26,13 @@ use Rattle.helper_knowledge.specs.Callers.{called}
 use Rattle.helper_knowledge.specs.Carried.{OfSome}
 use Rattle.run_laws.proofs.SeatLemmas.{seats_stay}
 use Rattle.run_queue.specs.QueueLaws.{Publishes}
-use Rattle.run_world.specs.Ghosts.{Held, SeatGhost}
-use Rattle.run_world.specs.Lists.{HoldsIn, IsHeld, IsOffering}
-use Rattle.run_world.specs.RunGhosts.{ghost_of, world_of}
-use Rattle.run_world.proofs.Holding.HeldLists.{lists_held}
-use Rattle.run_knowledge.specs.Kept.{IsKept}
-use Rattle.run_knowledge.specs.Tells.{TellsIn}
-use Rattle.run_knowledge.proofs.Bounds.InKept.{keeps_queue}
+use Rattle.run_invariant.specs.Ghosts.{Held, SeatGhost}
+use Rattle.run_invariant.specs.Lists.{HoldsIn, IsHeld, IsOffering}
+use Rattle.run_invariant.specs.RunGhosts.{ghost_of, world_of}
+use Rattle.run_invariant.specs.Kept.{IsKept}
+use Rattle.run_invariant.specs.Tells.{TellsIn}
+use Rattle.run_invariant.proofs.Holding.HeldLists.{lists_held}
+use Rattle.run_invariant.proofs.Bounds.InKept.{keeps_queue}
 use Rattle.run_exchanges.proofs.Moves.Seats.{holder_seated, opened_seated}
 
 pub none_held : {X A : Type 0} (held : Option X) (x : X) → held ≡ None → held ≡ Some x → A

@@ -15,8 +15,8 @@ use Rattle.offered_blocks.proofs.LawLemmas.{stops_agree}
 use Rattle.run_queue.specs.Premises.{KeepsQueue}
 use Rattle.run_queue.specs.QueueGhosts.{queue_ghosts}
 use Rattle.run_queue.proofs.Runs.RunMoves.{runs_later}
-use Rattle.run_world.specs.RunGhosts.{ghost_of, world_of}
-use Rattle.run_knowledge.specs.Kept.{RunsAreKept}
+use Rattle.kept_knowledge.specs.RunGhosts.{ghost_of, world_of}
+use Rattle.kept_knowledge.specs.Kept.{RunsAreKept}
 use Rattle.run_invariant.specs.Agreed.{BlocksAgreed, OutcomesFixed, record_after}
 use Rattle.run_invariant.proofs.Kept.Runs.{queues_kept}
 

@@ -36,21 +36,21 @@ use Rattle.helper_knowledge.specs.Carried.{OfSome}
 use Rattle.run_queue.specs.Premises.{KeepsQueue}
 use Rattle.run_queue.specs.QueueGhosts.{queue_ghosts}
 use Rattle.run_queue.proofs.Runs.RunMoves.{runs_later}
-use Rattle.run_world.specs.Ghosts.{Held, SeatGhost, stopped_at, stopped_in}
-use Rattle.run_world.specs.Lists.{HoldsIn, IsOffering}
-use Rattle.run_world.specs.RunGhosts.{ghost_of, world_of}
-use Rattle.run_world.specs.SeatSteps.{held_in, list_after}
-use Rattle.run_world.proofs.Words.Grow.{others_stay}
-use Rattle.run_world.proofs.Words.Moved.{made_seat, seen_by}
-use Rattle.step_knowledge.specs.Known.{KnowsRun, KnowsWrap}
-use Rattle.step_knowledge.specs.Moves.{Enters, RestsMove, StepsIn}
-use Rattle.run_knowledge.specs.Kept.{IsKept, callers_in, held_in_seats}
-use Rattle.run_knowledge.specs.Tells.{AllFollowed, IsFollowed}
-use Rattle.run_knowledge.specs.Tells.IsFollowed.{with_seat, dead as is_dead, changed as has_changed}
-use Rattle.run_knowledge.proofs.InRuns.Leaves.{allowed, holds_after, leaves}
-use Rattle.run_knowledge.proofs.InRuns.MoveSteps.{moves_step}
-use Rattle.run_knowledge.proofs.InRuns.MovesKinds.{is_inside}
-use Rattle.run_knowledge.proofs.InRuns.Rests.{known, rests_move}
+use Rattle.kept_knowledge.specs.Ghosts.{Held, SeatGhost, stopped_at, stopped_in}
+use Rattle.kept_knowledge.specs.Lists.{HoldsIn, IsOffering}
+use Rattle.kept_knowledge.specs.RunGhosts.{ghost_of, world_of}
+use Rattle.kept_knowledge.specs.SeatSteps.{held_in, list_after}
+use Rattle.kept_knowledge.specs.Known.{KnowsRun, KnowsWrap}
+use Rattle.kept_knowledge.specs.Moves.{Enters, RestsMove, StepsIn}
+use Rattle.kept_knowledge.specs.Kept.{IsKept, callers_in, held_in_seats}
+use Rattle.kept_knowledge.specs.Tells.{AllFollowed, IsFollowed}
+use Rattle.kept_knowledge.specs.Tells.IsFollowed.{with_seat, dead as is_dead, changed as has_changed}
+use Rattle.kept_knowledge.proofs.Words.Grow.{others_stay}
+use Rattle.kept_knowledge.proofs.Words.Moved.{made_seat, seen_by}
+use Rattle.kept_knowledge.proofs.InRuns.Leaves.{allowed, holds_after, leaves}
+use Rattle.kept_knowledge.proofs.InRuns.MoveSteps.{moves_step}
+use Rattle.kept_knowledge.proofs.InRuns.MovesKinds.{is_inside}
+use Rattle.kept_knowledge.proofs.InRuns.Rests.{known, rests_move}
 use Rattle.kept_knowledge.proofs.Counted.ChangesBelow.{held_call}
 use Rattle.run_invariant.proofs.Tells.ClosedRecords.{none_some, open_not}
 use Rattle.run_invariant.proofs.Tells.OwnLists.{run_ends, wrap_goes}

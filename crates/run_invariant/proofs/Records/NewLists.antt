@@ -2,7 +2,7 @@
 use Rattle.std.proofs.Common.{◌≡◌, refl, sym, subst, ap, ℕ, ◌⊎◌, inl, inr, List, ◌∷◌, slice_get, Option, Some}
 use Rattle.step_memory.specs.declared.steps.Seen.{Seen}
 use Rattle.normal_traits.specs.World.{Among, Listed, Took, Won, World}
-use Rattle.normal_traits.specs.World.Maker.{By, Beside}
+use Rattle.normal_traits.specs.World.Maker.{By}
 use Rattle.normal_traits.specs.NormalForm.{NormalForm}
 use Rattle.normal_traits.specs.Laws.{Laws}
 use Rattle.normal_traits.specs.Steps.{put_word}
@@ -20,11 +20,11 @@ use Rattle.offered_blocks.proofs.Helpers.Helping.{helps_did}
 use Rattle.offered_blocks.proofs.Helpers.OwnDeeds.{installs_named}
 use Rattle.move_kinds.specs.Kinds.{Kind}
 use Rattle.move_kinds.specs.Kinds.Kind.{quiet, counts, fills, announces, publishes, queues, names, settles, completes, restarts, executes, beside, enters}
-use Rattle.run_world.specs.Ghosts.{Held, SeatGhost}
-use Rattle.run_world.specs.RunGhosts.{ghost_of, world_of}
-use Rattle.run_world.proofs.Words.Wins.{move_wins}
-use Rattle.run_knowledge.specs.Kept.{IsKept}
-use Rattle.run_knowledge.proofs.InRuns.Leaves.{kind}
+use Rattle.kept_knowledge.specs.Ghosts.{Held, SeatGhost}
+use Rattle.kept_knowledge.specs.RunGhosts.{ghost_of, world_of}
+use Rattle.kept_knowledge.specs.Kept.{IsKept}
+use Rattle.kept_knowledge.proofs.Words.Wins.{move_wins}
+use Rattle.kept_knowledge.proofs.InRuns.Leaves.{kind}
 use Rattle.run_invariant.proofs.Tells.NewChanges.{won_held}
 use Rattle.run_invariant.proofs.Tells.Values.{beside_by, same_list}
 

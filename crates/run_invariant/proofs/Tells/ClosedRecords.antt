@@ -1,5 +1,5 @@
 -- While the record of a seat is closed, a move makes no change of a call of the seat but by the list that the seat holds.
-use Rattle.std.proofs.Common.{◌≡◌, ◌≢◌, ◌∙◌, sym, subst, ap, ℕ, suc, ◌<◌, false, ◌⊎◌, inl, inr, List, [], ◌∷◌, slice_get, Option, Some, None, All, AllPairs, arith}
+use Rattle.std.proofs.Common.{◌≡◌, ◌∙◌, sym, subst, ap, ℕ, ◌<◌, false, ◌⊎◌, inl, inr, List, ◌∷◌, slice_get, Option, Some, None, AllPairs}
 use Rattle.std.proofs.lemmas.Bool.{cases_eq}
 use Rattle.word_fields.specs.declared.records.Phase.{Phase as Mark}
 use Rattle.word_fields.specs.declared.records.Phase.TheVariants.{Executing, Wrapping}
@@ -15,14 +15,14 @@ use Rattle.fast_slow_engine.specs.Runs.{AreMoves, Move, begun, run_of}
 use Rattle.offered_blocks.specs.Blocks.{record_for}
 use Rattle.move_kinds.specs.Owned.{IsOwned}
 use Rattle.move_kinds.specs.Owned.IsOwned.{unannounced, named, dead, changed}
-use Rattle.run_world.specs.Ghosts.{Held}
-use Rattle.run_world.specs.Lists.{HoldsIn}
-use Rattle.run_world.specs.RunGhosts.{ghost_of, world_of}
-use Rattle.run_knowledge.specs.Kept.{IsKept, held_in_seats}
-use Rattle.run_knowledge.specs.Tells.{IsFollowed}
-use Rattle.run_knowledge.specs.Tells.IsFollowed.{with_seat, dead as is_dead, changed as has_changed}
-use Rattle.run_knowledge.proofs.InRuns.Leaves.{allowed}
-use Rattle.run_knowledge.proofs.InRuns.Rests.{known}
+use Rattle.kept_knowledge.specs.Ghosts.{Held}
+use Rattle.kept_knowledge.specs.Lists.{HoldsIn}
+use Rattle.kept_knowledge.specs.RunGhosts.{ghost_of, world_of}
+use Rattle.kept_knowledge.specs.Kept.{IsKept, held_in_seats}
+use Rattle.kept_knowledge.specs.Tells.{IsFollowed}
+use Rattle.kept_knowledge.specs.Tells.IsFollowed.{with_seat, dead as is_dead, changed as has_changed}
+use Rattle.kept_knowledge.proofs.InRuns.Leaves.{allowed}
+use Rattle.kept_knowledge.proofs.InRuns.Rests.{known}
 use Rattle.kept_knowledge.proofs.Counted.ChangesBelow.{DifferentLists, first_differs, held_call}
 use Rattle.run_invariant.proofs.Tells.NewChanges.{NewOf, new_changes}
 use Rattle.run_invariant.proofs.Tells.NewChanges.NewOf.{of_mover, executed, took}

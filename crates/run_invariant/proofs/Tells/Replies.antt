@@ -1,5 +1,5 @@
 -- In every run the changes are of commands and have the replies of the object, so no right outcome is Exhausted.
-use Rattle.std.proofs.Common.{◌≡◌, ◌∙◌, refl, ℕ, sym, List, [], ◌∷◌, inl, inr}
+use Rattle.std.proofs.Common.{◌≡◌, ◌∙◌, ℕ, sym, List, [], ◌∷◌}
 use Rattle.lin_report.specs.declared.calls.Client.{Client}
 use Rattle.lin_report.specs.declared.calls.Op.{Op}
 use Rattle.lin_report.specs.declared.calls.Outcome.TheVariants.{Plain}
@@ -12,8 +12,8 @@ use Rattle.normal_traits.specs.NormalForm.{NormalForm}
 use Rattle.normal_traits.specs.Laws.{Laws}
 use Rattle.fast_slow_engine.specs.declared.setup.Setup.{Setup}
 use Rattle.fast_slow_engine.specs.Runs.{Move, AreMoves}
-use Rattle.run_world.specs.RunGhosts.{world_of}
-use Rattle.run_knowledge.specs.Kept.{RunsAreKept}
+use Rattle.kept_knowledge.specs.RunGhosts.{world_of}
+use Rattle.kept_knowledge.specs.Kept.{RunsAreKept}
 use Rattle.run_invariant.proofs.Tells.RunAnswers.{answers_after, run_answers_open}
 use Rattle.run_invariant.proofs.Tells.Values.{AnswersWell, AreCommandsOf, AreReplied, among_split}
 

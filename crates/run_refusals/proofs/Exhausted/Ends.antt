@@ -43,14 +43,14 @@ use Rattle.move_kinds.specs.Moves.{Leaves}
 use Rattle.helper_knowledge.specs.Carried.{OfSome}
 use Rattle.run_queue.specs.QueueLaws.{EndsCompleted, finished_with, outcome_in}
 use Rattle.run_queue.proofs.OutcomeLaws.{outcomes_hold}
-use Rattle.run_world.specs.Ghosts.{Held, SeatGhost}
-use Rattle.run_world.specs.Lists.{HoldsIn, IsOffering}
-use Rattle.run_world.specs.RunGhosts.{ghost_of}
-use Rattle.step_knowledge.specs.Known.{KnowsIn, KnowsRun, KnowsWrap, MakesCommand}
-use Rattle.step_knowledge.specs.Moves.{Enters, StepsIn}
-use Rattle.run_knowledge.specs.Kept.{callers_in}
-use Rattle.run_knowledge.proofs.InRuns.Leaves.{leaves}
-use Rattle.run_knowledge.proofs.InRuns.Moved.{Moved, after, does, known, mech, mover, of_seat, offers, own, queued, seated, seen, world}
+use Rattle.run_invariant.specs.Ghosts.{Held, SeatGhost}
+use Rattle.run_invariant.specs.Lists.{HoldsIn, IsOffering}
+use Rattle.run_invariant.specs.RunGhosts.{ghost_of}
+use Rattle.run_invariant.specs.Known.{KnowsIn, KnowsRun, KnowsWrap, MakesCommand}
+use Rattle.run_invariant.specs.Moves.{Enters, StepsIn}
+use Rattle.run_invariant.specs.Kept.{callers_in}
+use Rattle.run_invariant.proofs.InRuns.Leaves.{leaves}
+use Rattle.run_invariant.proofs.InRuns.Moved.{Moved, after, does, known, mech, mover, of_seat, offers, own, queued, seated, seen, world}
 use Rattle.run_invariant.proofs.Tells.OwnLists.{run_ends, wrap_goes}
 use Rattle.run_invariant.proofs.Tells.Values.{AreReplied}
 use Rattle.run_invariant.proofs.Tells.Replies.{changed_not, right_not}

@@ -44,11 +44,11 @@ use Rattle.helper_knowledge.specs.WorkKnown.{KnowsWork}
 use Rattle.helper_knowledge.proofs.LawLemmas.{numbers_below, work_goes_on}
 use Rattle.run_laws.proofs.ClaimLemmas.{claims_rise}
 use Rattle.run_laws.proofs.Steps.{beside_set, move_steps, some_same}
-use Rattle.run_world.specs.RunGhosts.{ghost_of}
-use Rattle.step_knowledge.specs.Moves.{WorkSteps}
-use Rattle.run_knowledge.specs.Kept.{caller_at, callers_in}
-use Rattle.run_knowledge.proofs.Bounds.InKept.{used_small}
-use Rattle.run_knowledge.proofs.InRuns.Moved.{Moved, after, claims, mech, mover, new, new_seated, of_seat, offers, own, queued, seated, seen, world}
+use Rattle.run_invariant.specs.RunGhosts.{ghost_of}
+use Rattle.run_invariant.specs.Moves.{WorkSteps}
+use Rattle.run_invariant.specs.Kept.{caller_at, callers_in}
+use Rattle.run_invariant.proofs.Bounds.InKept.{used_small}
+use Rattle.run_invariant.proofs.InRuns.Moved.{Moved, after, claims, mech, mover, new, new_seated, of_seat, offers, own, queued, seated, seen, world}
 use Rattle.run_invariant.proofs.Tells.Values.{AreReplied}
 use Rattle.run_invariant.proofs.Tells.Replies.{right_not}
 use Rattle.run_refusals.specs.NoneLeft.{LeftFor, LeftHelp, LeftWork, NoneLeft}

@@ -43,15 +43,15 @@ use Rattle.run_queue.specs.Fits.{PhaseFits}
 use Rattle.run_queue.proofs.Moves.RecordExchanges.{goes_number}
 use Rattle.run_queue.proofs.Runs.Openings.{opens_zero}
 use Rattle.run_queue.proofs.Runs.RunMoves.{runs_queued}
-use Rattle.run_world.specs.Ghosts.{SeatGhost}
-use Rattle.run_world.specs.InHand.{IsUnspent}
-use Rattle.run_world.specs.RunGhosts.{ghost_of}
-use Rattle.run_world.proofs.Holding.PlainSteps.{HoldsPlain, either_plain, failed_plain, help_plain, leads_plain, told_plain}
-use Rattle.step_knowledge.specs.Known.{KnowsHelp, KnowsIn}
-use Rattle.step_knowledge.specs.Moves.{HelpSteps, RestsHelp, RestsIn, StepsIn}
-use Rattle.run_knowledge.specs.Kept.{RunsAreKept, callers_in}
-use Rattle.run_knowledge.proofs.InRuns.Rests.{rests_move}
-use Rattle.run_knowledge.proofs.InRuns.Moved.{Moved, after, does, known, mech, mover, new, offers, own, queued, seated, seen, world, moved}
+use Rattle.run_invariant.specs.Ghosts.{SeatGhost}
+use Rattle.run_invariant.specs.InHand.{IsUnspent}
+use Rattle.run_invariant.specs.RunGhosts.{ghost_of}
+use Rattle.run_invariant.specs.Known.{KnowsHelp, KnowsIn}
+use Rattle.run_invariant.specs.Moves.{HelpSteps, RestsHelp, RestsIn, StepsIn}
+use Rattle.run_invariant.specs.Kept.{RunsAreKept, callers_in}
+use Rattle.run_invariant.proofs.Holding.PlainSteps.{HoldsPlain, either_plain, failed_plain, help_plain, leads_plain, told_plain}
+use Rattle.run_invariant.proofs.InRuns.Rests.{rests_move}
+use Rattle.run_invariant.proofs.InRuns.Moved.{Moved, after, does, known, mech, mover, new, offers, own, queued, seated, seen, world, moved}
 use Rattle.run_invariant.proofs.Tells.Values.{AreReplied}
 use Rattle.run_invariant.proofs.Tells.Replies.{replies_right}
 use Rattle.run_refusals.specs.NoneLeft.{EachLeft, LeftFor, LeftHelp, LeftHelping, LeftWell, NoneLeft, NoneLeftHolds, TellsNone}

@@ -31,11 +31,11 @@ use Rattle.run_queue.specs.Premises.{LeavesQueue, is_for_client, works_for_clien
 use Rattle.run_queue.proofs.Moves.FastMoves.{apply_leaves, generate_leaves}
 use Rattle.run_queue.proofs.Moves.WorkMoves.{IsQuietWork, work_leaves}
 use Rattle.run_queue.proofs.Runs.RunMoves.{runs_queued}
-use Rattle.run_world.specs.Ghosts.{SeatGhost}
-use Rattle.run_world.specs.RunGhosts.{ghost_of}
-use Rattle.step_knowledge.specs.Moves.{Advances, Announces, HelpSteps, Puts, StepsIn, WorkSteps}
-use Rattle.step_knowledge.specs.Moves.Advances.{lost, won}
-use Rattle.run_knowledge.proofs.InRuns.Moved.{Moved, after, does, known, mech, mover, offers, own, queued, seated, seen, world}
+use Rattle.run_invariant.specs.Ghosts.{SeatGhost}
+use Rattle.run_invariant.specs.RunGhosts.{ghost_of}
+use Rattle.run_invariant.specs.Moves.{Advances, Announces, HelpSteps, Puts, StepsIn, WorkSteps}
+use Rattle.run_invariant.specs.Moves.Advances.{lost, won}
+use Rattle.run_invariant.proofs.InRuns.Moved.{Moved, after, does, known, mech, mover, offers, own, queued, seated, seen, world}
 
 -- a record goes on to this word where a helper in this phase has won its exchange
 pub record IsAdvanced {S W : Type 0} (at : Phase S W) (seat before now : ℕ) : Type 0 where

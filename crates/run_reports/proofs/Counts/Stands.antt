@@ -2,7 +2,7 @@
 use Rattle.std.proofs.Common.{◌≡◌, ◌∙◌, refl, sym, subst, ap, ℕ, suc, ◌-◌, ◌<◌, ◌≤◌, ◌⊎◌, List, [], ◌∷◌, ◌++◌, drop, length, length-append, inl, inr, arith}
 use Rattle.std.proofs.lemmas.List.{append_assoc}
 use Rattle.normal_traits.specs.World.{Change, Among, first_changes}
-use Rattle.run_invariant.proofs.Tells.Values.{among_split}
+use Rattle.run_exchanges.proofs.Tells.Values.{among_split}
 use Rattle.run_reports.specs.Endings.{StandsOver}
 
 -- what is behind some is among them

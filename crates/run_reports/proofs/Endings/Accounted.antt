@@ -27,9 +27,9 @@ use Rattle.run_laws.proofs.CallLemmas as calls
 use Rattle.run_laws.proofs.StepKinds.{rests_none}
 use Rattle.run_laws.proofs.Steps.{beside_set, move_steps, some_same}
 use Rattle.run_laws.proofs.Summaries.{tick_of}
-use Rattle.run_world.specs.RunGhosts.{world_of}
-use Rattle.run_knowledge.specs.Kept.{RunsAreKept}
-use Rattle.run_knowledge.proofs.InRuns.Moved.{Moved, can, mech, mover, new, new_seated, own, seated, seen, ticks, moved}
+use Rattle.run_exchanges.specs.RunGhosts.{world_of}
+use Rattle.run_exchanges.specs.Kept.{RunsAreKept}
+use Rattle.run_exchanges.proofs.InRuns.Moved.{Moved, can, mech, mover, new, new_seated, own, seated, seen, ticks, moved}
 use Rattle.run_exchanges.proofs.Changes.Adds.{Adds, none, aside, serves, adds, DifferentLists, first_differs}
 use Rattle.run_exchanges.proofs.Moves.Served.{IsServed}
 use Rattle.run_refusals.specs.NoneLeft.{EachLeft}

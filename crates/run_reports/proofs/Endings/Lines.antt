@@ -30,9 +30,9 @@ use Rattle.run_laws.proofs.Steps.{move_steps}
 use Rattle.run_laws.proofs.StepKinds.{begins, returns, goes}
 use Rattle.run_laws.proofs.TickLemmas.{counts_ticks, move_kind}
 use Rattle.run_laws.proofs.Summaries.{tick_of}
-use Rattle.run_world.specs.RunGhosts.{ghost_of, world_of}
-use Rattle.run_knowledge.specs.Tells.{TellsIn}
-use Rattle.run_knowledge.proofs.InRuns.Moved.{Moved, mech, mover, own, seated, seen, ticks, world}
+use Rattle.run_exchanges.specs.RunGhosts.{ghost_of, world_of}
+use Rattle.run_exchanges.specs.Tells.{TellsIn}
+use Rattle.run_exchanges.proofs.InRuns.Moved.{Moved, mech, mover, own, seated, seen, ticks, world}
 use Rattle.run_refusals.specs.NoneLeft.{EachLeft, NoneLeft}
 use Rattle.run_reports.specs.Changes.{changes_at}
 use Rattle.run_reports.specs.Endings.{ChangedNone, HasEnded, HasSeen, MadeChange, StandsOver, WasRefused}

@@ -10,8 +10,8 @@ use Rattle.run_laws.specs.Drawn.{IsDrawnAt}
 use Rattle.run_laws.specs.Ticks.{KeepsTicks}
 use Rattle.run_laws.proofs.CallLemmas.{HasEnded}
 use Rattle.run_laws.proofs.Summaries.{tick_of}
-use Rattle.run_world.specs.RunGhosts.{ghost_of}
-use Rattle.run_world.proofs.Words.Grow.{world_grows}
+use Rattle.run_exchanges.specs.RunGhosts.{ghost_of}
+use Rattle.run_exchanges.proofs.Words.Grow.{world_grows}
 use Rattle.run_exchanges.proofs.Changes.Adds.{DifferentLists, first_differs}
 use Rattle.run_reports.specs.Endings.{ChangedNone, HasSeen, MadeChange, StandsOver, WasRefused, WonInVain}
 use Rattle.run_reports.specs.Endings as endings
