@@ -35,13 +35,13 @@ module _ {S W : Type 0} (form : NormalForm S W) where
     pub claimed : Contains claims block
     pub alone : EachMech (λ other mate. mate.hand ≡ Some block → seat ≡ other) state.mechs
     pub unnamed : IsUnnamed offers block
-    pub unused : IsUnspent mech.op mech.phase → world.used block ≡ false
+    pub unused : IsUnspent form mech.op mech.phase → world.used block ≡ false
 
   -- so it is with the hand of each machine and its list
   abbrev pub BlocksHeld : Type 0
   BlocksHeld =
       (setup : Setup) (moves : List Move) → AreMoves form setup moves
-      → EachMech (λ seat mech. BlockIn mech.phase mech ((ghost_of form setup moves).seats seat).held) (run_of form setup moves).mechs
+      → EachMech (λ seat mech. BlockIn form mech.phase mech ((ghost_of form setup moves).seats seat).held) (run_of form setup moves).mechs
 
   -- the used blocks were claimed
   abbrev pub UsedClaimed : Type 0
