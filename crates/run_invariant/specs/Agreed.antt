@@ -13,19 +13,19 @@ use Rattle.offered_blocks.specs.HelperSteps.{HasStopped}
 use Rattle.move_kinds.specs.Contents.{HasContents}
 use Rattle.kept_knowledge.specs.RunGhosts.{ghost_of, world_of}
 
--- all who look at an offered block agree on it: what any of them reads there is the operation and the list that were offered,
--- and where any two of them find that the list has stopped, it is the same place
-pub record IsAgreed {S : Type 0} (world : World) (offer : Offer S) : Type 0 where
-  pub contents : HasContents world offer
-  pub stops : (stop other : ℕ) → HasStopped world offer stop → HasStopped world offer other → stop ≡ other
+-- any two who look at an offered block agree on it, one early and one late: what they read there is the operation and the list
+-- that were offered, and where both find that the list has stopped, it is the same place
+pub record IsAgreed {S : Type 0} (early late : World) (offer : Offer S) : Type 0 where
+  pub contents : HasContents early offer × HasContents late offer
+  pub stops : (stop other : ℕ) → HasStopped early offer stop → HasStopped late offer other → stop ≡ other
 
 module _ {S W : Type 0} (form : NormalForm S W) where
-  -- so it is with each block that a record has named, at each moment of every run, whoever looks: its owner or a helper,
-  -- early or late
+  -- so it is with each block that a record has named, at any two moments of every run from then on, or at one: whoever looks,
+  -- its owner or a helper
   abbrev pub BlocksAgreed : Type 0
   BlocksAgreed =
-      (setup : Setup) (moves : List Move) (block : ℕ) (offer : Offer S) → AreMoves form setup moves → (ghost_of form setup moves).offers block ≡ Some offer
-      → IsAgreed (world_of form setup moves) offer
+      (setup : Setup) (newer older : List Move) (block : ℕ) (offer : Offer S) → AreMoves form setup (newer ++ older) → (ghost_of form setup older).offers block ≡ Some offer
+      → IsAgreed (world_of form setup older) (world_of form setup (newer ++ older)) offer
 
   -- the word of the record of a seat after moves
   abbrev pub record_after : Setup → List Move → ℕ → ℕ

@@ -10,7 +10,7 @@ use Rattle.fast_slow_engine.specs.Runs.{AreMoves, Move, begun, run_of}
 use Rattle.run_laws.proofs.Steps.{some_same}
 use Rattle.run_invariant.specs.RunGhosts.{world_of}
 use Rattle.run_invariant.specs.Kept.{RunsAreKept}
-use Rattle.run_invariant.proofs.InRuns.Moved.{Moved, after, mech, mover, moved, seated, seen, world}
+use Rattle.run_invariant.proofs.InRuns.Moved.{Moved, after, mech, mover, moved, moves_before, seated, seen, world}
 use Rattle.run_exchanges.specs.Exchanges.{OnlyClears, WonExchange, moved_exchanges, told_exchange, won_exchanges}
 use Rattle.run_exchanges.proofs.Exchanges.Asks.{move_asked}
 use Rattle.run_exchanges.proofs.Exchanges.Requests as requests
@@ -30,13 +30,9 @@ module _ {S W : Type 0} (form : NormalForm S W) where
         move_tells (moved form laws kept setup older move are)
         ∙ ap (λ (l : List WonExchange). moved_exchanges form (slice_get (run_of form setup older).mechs move.seat) move (run_of form setup older) ++ l) (journal_same setup older are.0)
 
-    moves_before : (setup : Setup) (newer older : List Move) → AreMoves form setup (newer ++ older) → AreMoves form setup older
-    moves_before setup [] older are = are
-    moves_before setup (move ∷ newer) older are = moves_before setup newer older are.0
-
     pub only_clears : (setup : Setup) (moves : List Move) → AreMoves form setup moves → OnlyClears form setup moves
     only_clears setup moves are newer older move one at from to made at' asks on here versioned same =
-        let are' : AreMoves form setup (move ∷ older) = moves_before setup newer (move ∷ older) (subst (AreMoves form setup) made are) in
+        let are' : AreMoves form setup (move ∷ older) = moves_before form setup newer (move ∷ older) (subst (AreMoves form setup) made are) in
         let m = moved form laws kept setup older move are' in
         let is : mech form m ≡ one = some_same (mech form m) one (sym (seated form m) ∙ at') in
         requests.only_clears form.is_versioned (mech_request form (mover form m)) (seen form m).won (world form m) (after form m) (move_asked form m) at from to

@@ -1,5 +1,5 @@
 -- A move of a run of which the invariant holds, before the move and after it.
-use Rattle.std.proofs.Common.{◌≡◌, ◌∙◌, ap, ℕ, List, ◌∷◌, length, slice_get, Option, Some}
+use Rattle.std.proofs.Common.{◌≡◌, ◌∙◌, ap, ℕ, List, [], ◌∷◌, ◌++◌, length, slice_get, Option, Some}
 use Rattle.std.proofs.lemmas.Option.{slice_get_within}
 use Rattle.step_memory.specs.declared.steps.Seen.{Seen}
 use Rattle.normal_traits.specs.World.{World}
@@ -32,6 +32,11 @@ use Rattle.run_knowledge.proofs.InRuns.MovesKinds.{is_inside}
 use Rattle.run_knowledge.proofs.InRuns.Rests as resting
 
 module _ {S W : Type 0} (form : NormalForm S W) where
+  -- moves that can follow each other could do so before the newest of them were made
+  pub moves_before : (setup : Setup) (newer older : List Move) → AreMoves form setup (newer ++ older) → AreMoves form setup older
+  moves_before setup [] older are = are
+  moves_before setup (move ∷ newer) older are = moves_before setup newer older are.0
+
   pub record Moved (setup : Setup) (older : List Move) (move : Move) : Type 0 where
     pub laws : Laws form
     pub are : AreMoves form setup (move ∷ older)
