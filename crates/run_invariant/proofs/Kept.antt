@@ -2,3 +2,4 @@
 pub mod Moves
 pub mod Induction
 pub mod Runs
+pub mod Agreed

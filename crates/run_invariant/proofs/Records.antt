@@ -4,4 +4,3 @@ pub mod RecordTells
 pub mod NewLists
 pub mod Followed
 pub mod Owned
-pub mod Opens

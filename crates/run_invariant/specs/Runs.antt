@@ -9,7 +9,7 @@ use Rattle.move_kinds.specs.Kinds.{Kind}
 use Rattle.run_laws.specs.Claims.{KeepsClaims}
 use Rattle.run_laws.specs.Ticks.{KeepsTicks}
 use Rattle.run_queue.specs.Premises.{KeepsQueue}
-use Rattle.run_world.specs.RunGhosts.{ghost_of, world_of}
+use Rattle.kept_knowledge.specs.RunGhosts.{ghost_of, world_of}
 
 module _ {S W : Type 0} (form : NormalForm S W) where
   -- each move is an allowed step of the client's world

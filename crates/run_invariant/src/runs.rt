@@ -1,5 +1,6 @@
 //! What holds of every run of the whole phase table, with calls that are published and helped or without.
-ghost use Rattle.run_knowledge.specs.Kept.{MovesKeep, RunsAreKept};
+ghost use Rattle.kept_knowledge.specs.Kept.{MovesKeep, RunsAreKept};
+ghost use Rattle.run_invariant.specs.Agreed.{BlocksAgreed, OutcomesFixed};
 ghost use Rattle.run_invariant.specs.Runs.{CountersKept, MovesAllowed, MovesOfKinds, QueuesKept};
 
 use normal_traits::Normalized;
@@ -35,4 +36,15 @@ pub fn counters_kept<C: Normalized>()
 /// every run, without a premise.
 pub fn queues_kept<C: Normalized>()
     ensures { QueuesKept C.form }
+{}
+
+/// Of an offered block all helpers and its owner agree, however late they come: what they read of it is the operation and
+/// the list that were offered, and the list has stopped at one place.
+pub fn blocks_agreed<C: Normalized>()
+    ensures { BlocksAgreed C.form }
+{}
+
+/// A record's outcome is fixed once the record is completed: it is that one word until the next call of its seat.
+pub fn outcomes_fixed<C: Normalized>()
+    ensures { OutcomesFixed C.form }
 {}

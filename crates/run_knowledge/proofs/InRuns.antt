@@ -1,4 +1,4 @@
--- Each move of a run is a step of its phase.
+-- Each move of a run is a step of its phase; a move with what holds before it and after it.
 pub mod Asked
 pub mod OwnMade
 pub mod HelpMade
@@ -11,3 +11,4 @@ pub mod Inside
 pub mod MoverInside
 pub mod MovesKinds
 pub mod Leaves
+pub mod Moved

@@ -24,7 +24,7 @@ use Rattle.fast_slow_engine.specs.Runs.{Move, begun, run_of}
 use Rattle.run_world.specs.Ghosts.{Held}
 use Rattle.run_world.specs.Lists.{HoldsIn}
 use Rattle.run_world.specs.RunGhosts.{ghost_of, world_of}
-use Rattle.run_knowledge.specs.Moves.{StepsIn}
+use Rattle.step_knowledge.specs.Moves.{StepsIn}
 
 -- the request is a load, or an exchange of a word whose version the exchange raises by one, inside the memory
 abbrev pub AsksInside : Request → List ℕ → Type 0

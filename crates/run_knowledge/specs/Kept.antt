@@ -20,7 +20,7 @@ use Rattle.run_laws.specs.Seats.{EachMech}
 use Rattle.run_queue.specs.Premises.{ClientLeavesQueue}
 use Rattle.run_world.specs.Ghosts.{Ghost, Held, SeatGhost}
 use Rattle.run_world.specs.RunGhosts.{ghost_of, world_of}
-use Rattle.run_knowledge.specs.Known.{KnowsIn}
+use Rattle.step_knowledge.specs.Known.{KnowsIn}
 use Rattle.run_knowledge.specs.Tells.{AllFollowed, ChangesBelow, CountsIn, IsAnnounced, TellsIn}
 
 -- the place is one of those at which a client may have words: head, tail, or behind the first words

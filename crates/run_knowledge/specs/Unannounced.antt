@@ -8,7 +8,7 @@ use Rattle.fast_slow_engine.specs.declared.setup.Setup.{Setup}
 use Rattle.fast_slow_engine.specs.Mechs.{Mech}
 use Rattle.fast_slow_engine.specs.Runs.{Move, AreMoves, begun, run_of}
 use Rattle.run_queue.specs.Premises.{KeepsQueue}
-use Rattle.run_knowledge.specs.Moves.{is_unannounced}
+use Rattle.step_knowledge.specs.Moves.{is_unannounced}
 
 -- of the record of a seat, against the call of this number
 pub record IsBefore (words : List ℕ) (seat number : ℕ) : Type 0 where

@@ -2,4 +2,3 @@
 #![tactic(auto)]
 
 pub mod move_laws;
-pub mod step_laws;

@@ -1,9 +1,5 @@
-pub mod Moves
-pub mod Changes
-pub mod Records
-pub mod Exhausted
-pub mod Journals
-pub mod Exchanges
 pub mod Counts
 pub mod Endings
 pub mod Placed
+-- of the crates below, for those above
+pub use Rattle.run_exchanges.proofs.Kept

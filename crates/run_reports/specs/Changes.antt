@@ -4,7 +4,7 @@ use Rattle.node_arena.specs.declared.places.TheConstants.{TICKS}
 use Rattle.normal_traits.specs.NormalForm.{NormalForm}
 use Rattle.fast_slow_engine.specs.declared.setup.Setup.{Setup}
 use Rattle.fast_slow_engine.specs.Runs.{Move, run_of}
-use Rattle.run_world.specs.RunGhosts.{ghost_of}
+use Rattle.run_exchanges.specs.RunGhosts.{ghost_of}
 
 module _ {S W : Type 0} (form : NormalForm S W) where
   -- how many changes there were when a tick was drawn, or are now where it wasn't drawn yet

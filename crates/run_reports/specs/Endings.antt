@@ -14,7 +14,7 @@ use Rattle.fast_slow_engine.specs.PhaseTable.{ticks_left}
 use Rattle.fast_slow_engine.specs.Runs.{Move, run_of}
 use Rattle.helper_knowledge.specs.Callers.{called}
 use Rattle.run_laws.specs.Drawn.{IsDrawnAt}
-use Rattle.run_world.specs.RunGhosts.{ghost_of, world_of}
+use Rattle.run_exchanges.specs.RunGhosts.{ghost_of, world_of}
 use Rattle.run_reports.specs.Changes.{changes_at}
 
 -- the call of a line

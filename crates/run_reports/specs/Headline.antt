@@ -16,11 +16,11 @@ use Rattle.fast_slow_engine.specs.Reports.{report_of_run}
 use Rattle.overtaking_law.specs.Overtaking.{overtaken}
 use Rattle.run_laws.specs.Files.{FilesFit}
 use Rattle.run_overtaking.specs.Accounts.{most_overtaken}
-use Rattle.run_world.specs.RunGhosts.{world_of}
+use Rattle.run_exchanges.specs.RunGhosts.{world_of}
+use Rattle.run_exchanges.specs.Exchanges.{AreAtMostOnce, TellsExchanges, won_exchanges}
+use Rattle.run_exchanges.specs.Journals.{JournalLaws}
 use Rattle.run_reports.specs.Endings.{WasRefused, WonNone}
-use Rattle.run_reports.specs.Exchanges.{AreAtMostOnce, TellsExchanges, won_exchanges}
 use Rattle.run_reports.specs.History.{HasHistory}
-use Rattle.run_reports.specs.Journals.{JournalLaws}
 
 -- of the run of these files in this order: its lines with the calls that run are a report over the files, which
 -- is linearizable; each call made one change while it ran, or observed while it ran, or was left no block before it

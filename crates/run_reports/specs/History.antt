@@ -10,7 +10,7 @@ use Rattle.fast_slow_engine.specs.Reports.{report_of_run}
 use Rattle.move_kinds.specs.Moves.{Grows}
 use Rattle.placing_law.specs.Placing.{IsPlaced}
 use Rattle.run_laws.specs.Drawn.{IsDrawnAt}
-use Rattle.run_world.specs.RunGhosts.{ghost_of, world_of}
+use Rattle.run_exchanges.specs.RunGhosts.{ghost_of, world_of}
 use Rattle.run_reports.specs.Changes.{changes_at}
 use Rattle.run_reports.specs.Endings.{HasEnded}
 use Rattle.run_reports.specs.Placed.{history_of}

@@ -1,7 +1,4 @@
 pub mod Changes
-pub mod Exchanges
-pub mod Journals
-pub mod NoneLeft
 pub mod Endings
 pub mod Placed
 pub mod History

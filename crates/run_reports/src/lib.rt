@@ -1,9 +1,7 @@
-//! What every run of the whole phase table comes to, for any client with its laws: which exchanges were won and for whom, how
-//! each call ended, in which history the calls are placed, and what the report over command files tells of it. Calls may be
-//! published and helped, or not.
+//! What every run of the whole phase table comes to, for any client with its laws: how each call ended, in which history the
+//! calls are placed, and what the report over command files tells of it. Calls may be published and helped, or not.
 #![tactic(auto)]
 
-pub mod exchange_laws;
 pub mod headline;
 pub mod history_laws;
 pub mod report_laws;

@@ -1,7 +1,6 @@
 //! The reports of the runs of a client with its laws, and what their calls are told.
 ghost use Rattle.run_reports.specs.Files.{FilesReport};
 ghost use Rattle.run_reports.specs.Linearized.{FilesLinearizable, RepliesFit, ExhaustedOnlyWhere, ExhaustedWonNone};
-ghost use Rattle.run_reports.specs.NoneLeft.{NoneLeftHolds};
 
 use normal_traits::Normalized;
 
@@ -18,12 +17,6 @@ pub fn files_linearizable<C: Normalized>()
 /// In any order of the seats each reply is one that its command may be given, with its value in range.
 pub fn replies_fit<C: Normalized>()
     ensures { RepliesFit C.form }
-{}
-
-/// Whoever tells that no block is left, a call, a record or a helper that is to exchange a record, knows that the claim
-/// counter has reached the capacity, and that the operation may be told so.
-pub fn none_left_holds<C: Normalized>()
-    ensures { NoneLeftHolds C.form }
 {}
 
 /// A call is told that it found no block only where none was left before it drew its end tick. It made no change,

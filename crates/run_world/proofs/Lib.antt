@@ -1,4 +1,3 @@
 pub mod Words
 pub mod Holding
 pub mod Names
-pub mod Blocks

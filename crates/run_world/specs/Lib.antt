@@ -4,5 +4,5 @@ pub mod SeatSteps
 pub mod RunGhosts
 pub mod Moves
 pub mod Lists
+pub mod InHand
 pub mod Identities
-pub mod Hands

@@ -2,7 +2,6 @@
 //! seats hold and carry, and the lists that records have named; and what holds of them before any law of the client.
 #![tactic(auto)]
 
-pub mod hands;
 pub mod identities;
 pub mod lists;
 pub mod moves;

@@ -13,7 +13,7 @@ use Rattle.fast_slow_engine.specs.Runs.{RunState, moves_over, pending_of, run_of
 use Rattle.fast_slow_engine.proofs.LineLemmas.{rest_pends_nothing}
 use Rattle.run_laws.specs.Seats.{EachMech}
 use Rattle.run_laws.proofs.SeatLemmas.{seats_stay}
-use Rattle.run_invariant.proofs.Kept.Induction.{runs_are_kept}
+use Rattle.run_reports.proofs.Kept.Induction.{runs_are_kept}
 use Rattle.run_reports.proofs.Placed.Headline.{files_meet_headline}
 use Rattle.move_orders.specs.Orders.{AreOver, begun_at, begun_files, seats_of}
 use Rattle.move_orders.proofs.OverFiles.{moves_over_files}

@@ -5,9 +5,9 @@ use Rattle.normal_traits.specs.NormalForm.{NormalForm}
 use Rattle.normal_traits.specs.Laws.{Laws}
 use Rattle.fast_slow_engine.specs.declared.setup.Setup.{Setup}
 use Rattle.fast_slow_engine.specs.Runs.{AreMoves, Move}
-use Rattle.run_world.specs.RunGhosts.{world_of}
-use Rattle.run_knowledge.specs.Kept.{IsKept, MovesKeep, RunsAreKept}
-use Rattle.run_invariant.proofs.Counted.Opening.{opening_kept}
+use Rattle.kept_knowledge.specs.RunGhosts.{world_of}
+use Rattle.kept_knowledge.specs.Kept.{IsKept, MovesKeep, RunsAreKept}
+use Rattle.kept_knowledge.proofs.Counted.Opening.{opening_kept}
 use Rattle.run_invariant.proofs.Kept.Moves.{move_keeps}
 use Rattle.run_invariant.proofs.Tells.RunAnswers.{answers_after, run_answers_open}
 use Rattle.run_invariant.proofs.Tells.Values.{AnswersWell}

@@ -8,22 +8,22 @@ use Rattle.fast_slow_engine.specs.Mechs.{Mech}
 use Rattle.fast_slow_engine.specs.Runs.{AreMoves, Move, run_of}
 use Rattle.helper_knowledge.specs.Callers.{Caller}
 use Rattle.run_queue.specs.Premises.{KeepsQueue}
-use Rattle.run_world.specs.Ghosts.{SeatGhost}
-use Rattle.run_world.specs.RunGhosts.{ghost_of, world_of}
-use Rattle.run_world.proofs.Words.Moved.{seat_after}
-use Rattle.run_world.proofs.Words.Seats.{machine_after, seats_moved}
-use Rattle.run_knowledge.specs.Kept.{IsKept, KnowsWell, callers_in}
-use Rattle.run_knowledge.proofs.InRuns.Leaves.{holds_after}
-use Rattle.run_invariant.proofs.Counted.Announced.{announced_after, others_announced_after}
-use Rattle.run_invariant.proofs.Counted.ChangesBelow.{changes_below_after, changes_below_mover}
-use Rattle.run_invariant.proofs.Counted.Contents.{contents_after}
-use Rattle.run_invariant.proofs.Counted.Searches.{counts_after, early_after, others_early_after}
-use Rattle.run_invariant.proofs.Counted.Versions.{versions_after}
-use Rattle.run_invariant.proofs.Mover.Commands.{command_moved}
-use Rattle.run_invariant.proofs.Mover.Fresh.{used_after}
-use Rattle.run_invariant.proofs.Mover.Knows.{knows_after}
-use Rattle.run_invariant.proofs.Others.Know.{others_know_after}
-use Rattle.run_invariant.proofs.Premises.Moves.{leaves_claims, leaves_queue, leaves_ticks, queue_after}
+use Rattle.kept_knowledge.specs.Ghosts.{SeatGhost}
+use Rattle.kept_knowledge.specs.RunGhosts.{ghost_of, world_of}
+use Rattle.kept_knowledge.specs.Kept.{IsKept, KnowsWell, callers_in}
+use Rattle.kept_knowledge.proofs.Words.Moved.{seat_after}
+use Rattle.kept_knowledge.proofs.Words.Seats.{machine_after, seats_moved}
+use Rattle.kept_knowledge.proofs.InRuns.Leaves.{holds_after}
+use Rattle.kept_knowledge.proofs.Counted.Announced.{announced_after, others_announced_after}
+use Rattle.kept_knowledge.proofs.Counted.ChangesBelow.{changes_below_after, changes_below_mover}
+use Rattle.kept_knowledge.proofs.Counted.Contents.{contents_after}
+use Rattle.kept_knowledge.proofs.Counted.Searches.{counts_after, early_after, others_early_after}
+use Rattle.kept_knowledge.proofs.Counted.Versions.{versions_after}
+use Rattle.kept_knowledge.proofs.Mover.Commands.{command_moved}
+use Rattle.kept_knowledge.proofs.Mover.Fresh.{used_after}
+use Rattle.kept_knowledge.proofs.Mover.Knows.{knows_after}
+use Rattle.kept_knowledge.proofs.Others.Know.{others_know_after}
+use Rattle.kept_knowledge.proofs.Premises.Moves.{leaves_claims, leaves_queue, leaves_ticks, queue_after}
 use Rattle.run_invariant.proofs.Records.Followed.{followed_after}
 use Rattle.run_invariant.proofs.Records.Owned.{owned_after}
 use Rattle.run_invariant.proofs.Records.RecordTells.{other_record_tells_after, own_record_tells_after}

@@ -2,9 +2,9 @@
 use Rattle.normal_traits.specs.NormalForm.{NormalForm}
 use Rattle.normal_traits.specs.Laws.{Laws}
 use Rattle.run_laws.proofs.PremiseLemmas.{client_keeps_ticks}
-use Rattle.run_knowledge.specs.Kept.{RunsAreKept}
-use Rattle.run_knowledge.proofs.Bounds.InKept.{keeps_claims, keeps_queue}
-use Rattle.run_knowledge.proofs.InRuns.Leaves.{kind, leaves}
+use Rattle.kept_knowledge.specs.Kept.{RunsAreKept}
+use Rattle.kept_knowledge.proofs.Bounds.InKept.{keeps_claims, keeps_queue}
+use Rattle.kept_knowledge.proofs.InRuns.Leaves.{kind, leaves}
 use Rattle.run_invariant.specs.Runs.{CountersKept, MovesAllowed, MovesOfKinds, QueuesKept}
 
 module _ {S W : Type 0} (form : NormalForm S W) (laws : Laws form) (runs : RunsAreKept form) where

@@ -36,22 +36,23 @@ use Rattle.helper_knowledge.specs.Carried.{OfSome}
 use Rattle.run_queue.specs.Premises.{KeepsQueue}
 use Rattle.run_queue.specs.QueueGhosts.{queue_ghosts}
 use Rattle.run_queue.proofs.Runs.RunMoves.{runs_later}
-use Rattle.run_world.specs.Ghosts.{Held, SeatGhost, stopped_at, stopped_in}
-use Rattle.run_world.specs.Lists.{IsOffering}
-use Rattle.run_world.specs.RunGhosts.{ghost_of, world_of}
-use Rattle.run_world.specs.SeatSteps.{held_in, list_after}
-use Rattle.run_world.proofs.Words.Grow.{others_stay}
-use Rattle.run_world.proofs.Words.Moved.{made_seat, seen_by}
-use Rattle.run_knowledge.specs.Kept.{IsKept, callers_in, held_in_seats}
-use Rattle.run_knowledge.specs.Known.{KnowsRun, KnowsWrap}
-use Rattle.run_knowledge.specs.Moves.{Enters, RestsMove, StepsIn}
-use Rattle.run_knowledge.specs.Tells.{AllFollowed, IsFollowed}
-use Rattle.run_knowledge.specs.Tells.IsFollowed.{with_seat, dead as is_dead, changed as has_changed}
-use Rattle.run_knowledge.proofs.InRuns.Leaves.{allowed, holds_after, leaves}
-use Rattle.run_knowledge.proofs.InRuns.MoveSteps.{moves_step}
-use Rattle.run_knowledge.proofs.InRuns.MovesKinds.{is_inside}
-use Rattle.run_knowledge.proofs.InRuns.Rests.{known, rests_move}
-use Rattle.run_invariant.proofs.Tells.ClosedRecords.{held_call, none_some, open_not}
+use Rattle.kept_knowledge.specs.Ghosts.{Held, SeatGhost, stopped_at, stopped_in}
+use Rattle.kept_knowledge.specs.Lists.{HoldsIn, IsOffering}
+use Rattle.kept_knowledge.specs.RunGhosts.{ghost_of, world_of}
+use Rattle.kept_knowledge.specs.SeatSteps.{held_in, list_after}
+use Rattle.kept_knowledge.specs.Known.{KnowsRun, KnowsWrap}
+use Rattle.kept_knowledge.specs.Moves.{Enters, RestsMove, StepsIn}
+use Rattle.kept_knowledge.specs.Kept.{IsKept, callers_in, held_in_seats}
+use Rattle.kept_knowledge.specs.Tells.{AllFollowed, IsFollowed}
+use Rattle.kept_knowledge.specs.Tells.IsFollowed.{with_seat, dead as is_dead, changed as has_changed}
+use Rattle.kept_knowledge.proofs.Words.Grow.{others_stay}
+use Rattle.kept_knowledge.proofs.Words.Moved.{made_seat, seen_by}
+use Rattle.kept_knowledge.proofs.InRuns.Leaves.{allowed, holds_after, leaves}
+use Rattle.kept_knowledge.proofs.InRuns.MoveSteps.{moves_step}
+use Rattle.kept_knowledge.proofs.InRuns.MovesKinds.{is_inside}
+use Rattle.kept_knowledge.proofs.InRuns.Rests.{known, rests_move}
+use Rattle.kept_knowledge.proofs.Counted.ChangesBelow.{held_call}
+use Rattle.run_invariant.proofs.Tells.ClosedRecords.{none_some, open_not}
 use Rattle.run_invariant.proofs.Tells.OwnLists.{run_ends, wrap_goes}
 use Rattle.run_invariant.proofs.Records.NewLists.{NewList, new_lists}
 use Rattle.run_invariant.proofs.Records.NewLists.NewList.{of_mover, executed_now}
@@ -169,7 +170,7 @@ module _ {S W : Type 0} (form : NormalForm S W) (laws : Laws form) (setup : Setu
       let k = known form laws setup older move mech are at kept in
       let rests = rests_move form laws setup older move mech are at kept in
       phase_followed one.phase h refl rests (moves_step form setup older move mech at (is_inside form laws setup older move mech are at kept)) holds
-      (ap (λ (c : Called). c.seat) (held_call form one.phase one own.held h k.lists holds) ∙ k.seat_is)
+      (ap (λ (c : Called). c.seat) (held_call form one.phase one h (subst (HoldsIn form one.phase one) holds k.lists)) ∙ k.seat_is)
 
   -- ---- what was followed is followed still
 

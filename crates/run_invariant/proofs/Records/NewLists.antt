@@ -2,7 +2,7 @@
 use Rattle.std.proofs.Common.{◌≡◌, refl, sym, subst, ap, ℕ, ◌⊎◌, inl, inr, List, ◌∷◌, slice_get, Option, Some}
 use Rattle.step_memory.specs.declared.steps.Seen.{Seen}
 use Rattle.normal_traits.specs.World.{Among, Listed, Took, Won, World}
-use Rattle.normal_traits.specs.World.Maker.{By, Beside}
+use Rattle.normal_traits.specs.World.Maker.{By}
 use Rattle.normal_traits.specs.NormalForm.{NormalForm}
 use Rattle.normal_traits.specs.Laws.{Laws}
 use Rattle.normal_traits.specs.Steps.{put_word}
@@ -20,18 +20,13 @@ use Rattle.offered_blocks.proofs.Helpers.Helping.{helps_did}
 use Rattle.offered_blocks.proofs.Helpers.OwnDeeds.{installs_named}
 use Rattle.move_kinds.specs.Kinds.{Kind}
 use Rattle.move_kinds.specs.Kinds.Kind.{quiet, counts, fills, announces, publishes, queues, names, settles, completes, restarts, executes, beside, enters}
-use Rattle.run_world.specs.Ghosts.{Held, SeatGhost}
-use Rattle.run_world.specs.RunGhosts.{ghost_of, world_of}
-use Rattle.run_world.proofs.Words.Wins.{move_wins}
-use Rattle.run_knowledge.specs.Kept.{IsKept}
-use Rattle.run_knowledge.proofs.InRuns.Leaves.{kind}
+use Rattle.kept_knowledge.specs.Ghosts.{Held, SeatGhost}
+use Rattle.kept_knowledge.specs.RunGhosts.{ghost_of, world_of}
+use Rattle.kept_knowledge.specs.Kept.{IsKept}
+use Rattle.kept_knowledge.proofs.Words.Wins.{move_wins}
+use Rattle.kept_knowledge.proofs.InRuns.Leaves.{kind}
 use Rattle.run_invariant.proofs.Tells.NewChanges.{won_held}
-
-beside_by : {A : Type 0} (list : Listed) (j : ℕ) → By list j ≡ Beside → A
-beside_by list j same = absurd cc
-
-same_list : (list other : Listed) (j k : ℕ) → By list j ≡ By other k → list ≡ other
-same_list list other j k same = cc
+use Rattle.run_invariant.proofs.Tells.Values.{beside_by, same_list}
 
 -- what a list is that takes effect with a move, of a seat that holds this
 pub data NewList {S : Type 0} (world : World) (held : Option (Held S)) (list : Listed) : Type 0 where
@@ -104,7 +99,7 @@ module _ {S W : Type 0} (form : NormalForm S W) (laws : Laws form) (setup : Setu
   kind_items (completes head word outcome from won o) = put_items _ _ won.after_is
   kind_items (restarts head word offer wrapping of gone won o) = put_items _ _ won.after_is
   kind_items (executes block offer stands is o) = helps_item block offer stands is
-  kind_items (beside entry is uses o) = new_item _ is.journal (λ list j e. beside_by list j e)
+  kind_items (beside entry is uses o) = new_item _ is.journal (λ list j e. beside_by list j (sym e))
   kind_items (enters other j entry fast is uses o) =
       let mine = won_held form laws setup older move mech are at kept other j _ refl is.journal (λ block offer stands. is.beside block offer stands j) (move_wins form setup older move mech at) in
       new_item _ is.journal (λ list k e. held_item list other (same_list list other k j e) mine)

@@ -22,15 +22,15 @@ use Rattle.move_kinds.specs.Kinds.Kind.{quiet, counts, fills, announces, publish
 use Rattle.move_kinds.specs.Owned.{AllOwned, AnnouncesNone, LeavesNone}
 use Rattle.move_kinds.proofs.LawLemmas.{owners_kept}
 use Rattle.run_queue.specs.Premises.{KeepsQueue}
-use Rattle.run_world.specs.Ghosts.{SeatGhost}
-use Rattle.run_world.specs.Lists.{HoldsIn}
-use Rattle.run_world.specs.RunGhosts.{ghost_of, world_of}
-use Rattle.run_knowledge.specs.Kept.{IsKept, held_in_seats}
-use Rattle.run_knowledge.specs.Moves.{is_unannounced}
-use Rattle.run_knowledge.specs.Tells.{IsFollowed}
-use Rattle.run_knowledge.specs.Tells.IsFollowed.{with_seat, dead as is_dead, changed as has_changed}
-use Rattle.run_knowledge.proofs.InRuns.Leaves.{kind}
-use Rattle.run_knowledge.proofs.InRuns.Rests.{known, rests_move}
+use Rattle.kept_knowledge.specs.Ghosts.{SeatGhost}
+use Rattle.kept_knowledge.specs.Lists.{HoldsIn}
+use Rattle.kept_knowledge.specs.RunGhosts.{ghost_of, world_of}
+use Rattle.kept_knowledge.specs.Moves.{is_unannounced}
+use Rattle.kept_knowledge.specs.Kept.{IsKept, held_in_seats}
+use Rattle.kept_knowledge.specs.Tells.{IsFollowed}
+use Rattle.kept_knowledge.specs.Tells.IsFollowed.{with_seat, dead as is_dead, changed as has_changed}
+use Rattle.kept_knowledge.proofs.InRuns.Leaves.{kind}
+use Rattle.kept_knowledge.proofs.InRuns.Rests.{known, rests_move}
 use Rattle.run_invariant.proofs.Tells.ClosedRecords.{none_some}
 use Rattle.run_invariant.proofs.Tells.NewChanges.{not_both}
 use Rattle.run_invariant.proofs.Records.RecordMoves.{RecordMoves, record_moves}

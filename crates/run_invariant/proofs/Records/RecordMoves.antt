@@ -45,17 +45,17 @@ use Rattle.run_queue.specs.Premises.{KeepsQueue, LeavesQueue, helps_for_client, 
 use Rattle.run_queue.proofs.Moves.FastMoves.{apply_leaves}
 use Rattle.run_queue.proofs.Moves.WorkMoves.{IsQuietWork, work_leaves}
 use Rattle.run_queue.proofs.Runs.RunMoves.{runs_queued}
-use Rattle.run_world.specs.Ghosts.{SeatGhost}
-use Rattle.run_world.specs.RunGhosts.{ghost_of, world_of}
-use Rattle.run_world.proofs.Words.Moved.{seen_by}
-use Rattle.run_knowledge.specs.Kept.{IsKept, callers_in}
-use Rattle.run_knowledge.specs.Known.{KnowsHelp}
-use Rattle.run_knowledge.specs.Moves.{Advances, HelpSteps, MeetsHead, MeetsWork, RestsHelp, RestsMove, StepsIn}
-use Rattle.run_knowledge.specs.Moves.Advances.{lost, won as has_won}
-use Rattle.run_knowledge.proofs.Bounds.InKept.{keeps_queue}
-use Rattle.run_knowledge.proofs.InRuns.MoveSteps.{moves_step}
-use Rattle.run_knowledge.proofs.InRuns.MovesKinds.{is_inside}
-use Rattle.run_knowledge.proofs.InRuns.Rests.{rests_move}
+use Rattle.kept_knowledge.specs.Ghosts.{SeatGhost}
+use Rattle.kept_knowledge.specs.RunGhosts.{ghost_of, world_of}
+use Rattle.kept_knowledge.specs.Known.{KnowsHelp}
+use Rattle.kept_knowledge.specs.Moves.{Advances, HelpSteps, MeetsHead, MeetsWork, RestsHelp, RestsMove, StepsIn}
+use Rattle.kept_knowledge.specs.Moves.Advances.{lost, won as has_won}
+use Rattle.kept_knowledge.specs.Kept.{IsKept, callers_in}
+use Rattle.kept_knowledge.proofs.Words.Moved.{seen_by}
+use Rattle.kept_knowledge.proofs.Bounds.InKept.{keeps_queue}
+use Rattle.kept_knowledge.proofs.InRuns.MoveSteps.{moves_step}
+use Rattle.kept_knowledge.proofs.InRuns.MovesKinds.{is_inside}
+use Rattle.kept_knowledge.proofs.InRuns.Rests.{rests_move}
 
 module _ {S W : Type 0} (form : NormalForm S W) (laws : Laws form) (setup : Setup) (older : List Move) (move : Move) (mech : Mech S W) (are : AreMoves form setup (move ∷ older))
     (at : slice_get (run_of form setup older).mechs move.seat ≡ Some mech) (kept : IsKept form setup older) where

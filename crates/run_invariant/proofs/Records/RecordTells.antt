@@ -27,16 +27,16 @@ use Rattle.move_kinds.proofs.LawLemmas.{records_kept}
 use Rattle.helper_knowledge.specs.Callers.{Caller, called, caller_of}
 use Rattle.run_queue.specs.Premises.{KeepsQueue}
 use Rattle.run_queue.proofs.Runs.RunMoves.{runs_queued}
-use Rattle.run_world.specs.RunGhosts.{ghost_of, world_of}
-use Rattle.run_world.specs.SeatSteps.{begun_after}
-use Rattle.run_world.proofs.Words.Moved.{seat_after, seen_by}
-use Rattle.run_world.proofs.Words.Seats.{machine_after}
-use Rattle.run_knowledge.specs.Kept.{IsKept, caller_at, callers_in}
-use Rattle.run_knowledge.specs.Moves.{is_unannounced}
-use Rattle.run_knowledge.specs.Tells.{TellsIn}
-use Rattle.run_knowledge.proofs.Bounds.InKept.{keeps_queue}
-use Rattle.run_knowledge.proofs.InRuns.Leaves.{kind}
-use Rattle.run_knowledge.proofs.InRuns.Rests.{known, rests_move}
+use Rattle.kept_knowledge.specs.RunGhosts.{ghost_of, world_of}
+use Rattle.kept_knowledge.specs.SeatSteps.{begun_after}
+use Rattle.kept_knowledge.specs.Moves.{is_unannounced}
+use Rattle.kept_knowledge.specs.Kept.{IsKept, caller_at, callers_in}
+use Rattle.kept_knowledge.specs.Tells.{TellsIn}
+use Rattle.kept_knowledge.proofs.Words.Moved.{seat_after, seen_by}
+use Rattle.kept_knowledge.proofs.Words.Seats.{machine_after}
+use Rattle.kept_knowledge.proofs.Bounds.InKept.{keeps_queue}
+use Rattle.kept_knowledge.proofs.InRuns.Leaves.{kind}
+use Rattle.kept_knowledge.proofs.InRuns.Rests.{known, rests_move}
 use Rattle.run_invariant.proofs.Records.RecordMoves.{RecordMoves, record_moves}
 use Rattle.run_invariant.proofs.Records.RecordMoves.RecordMoves.{stays, won, announced}
 use Rattle.run_invariant.proofs.Tells.Stays.{few_seats, mover_tells}

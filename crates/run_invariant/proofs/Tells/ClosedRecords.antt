@@ -1,8 +1,6 @@
 -- While the record of a seat is closed, a move makes no change of a call of the seat but by the list that the seat holds.
-use Rattle.std.proofs.Common.{◌≡◌, ◌≢◌, ◌∙◌, sym, subst, ap, ℕ, suc, ◌<◌, false, ◌⊎◌, inl, inr, List, [], ◌∷◌, slice_get, Option, Some, None, All, AllPairs, arith}
+use Rattle.std.proofs.Common.{◌≡◌, ◌∙◌, sym, subst, ap, ℕ, ◌<◌, false, ◌⊎◌, inl, inr, List, ◌∷◌, slice_get, Option, Some, None, AllPairs}
 use Rattle.std.proofs.lemmas.Bool.{cases_eq}
-use Rattle.std.proofs.lemmas.List.Elements.{All-head, All-tail}
-use Rattle.arrayvec.specs.ArrayVec.{ArrayVec}
 use Rattle.word_fields.specs.declared.records.Phase.{Phase as Mark}
 use Rattle.word_fields.specs.declared.records.Phase.TheVariants.{Executing, Wrapping}
 use Rattle.word_fields.specs.Records.{record_number, record_phase}
@@ -11,39 +9,23 @@ use Rattle.help_queue.specs.Gathers.{is_open}
 use Rattle.normal_traits.specs.World.{Among, Called, Change, Listed, Took, World}
 use Rattle.normal_traits.specs.NormalForm.{NormalForm}
 use Rattle.normal_traits.specs.Laws.{Laws}
-use Rattle.cas_executor.specs.FastRuns.{FastWalk}
-use Rattle.fast_slow_engine.specs.declared.phases.Phase.{Phase}
-use Rattle.fast_slow_engine.specs.declared.phases.Phase.TheVariants as phase
 use Rattle.fast_slow_engine.specs.declared.setup.Setup.{Setup}
 use Rattle.fast_slow_engine.specs.Mechs.{Mech}
 use Rattle.fast_slow_engine.specs.Runs.{AreMoves, Move, begun, run_of}
 use Rattle.offered_blocks.specs.Blocks.{record_for}
 use Rattle.move_kinds.specs.Owned.{IsOwned}
 use Rattle.move_kinds.specs.Owned.IsOwned.{unannounced, named, dead, changed}
-use Rattle.helper_knowledge.specs.Callers.{called}
-use Rattle.helper_knowledge.specs.Carried.{OfSome}
-use Rattle.run_world.specs.Ghosts.{Held}
-use Rattle.run_world.specs.Lists.{HoldsIn, IsHeld, IsOffering}
-use Rattle.run_world.specs.RunGhosts.{ghost_of, world_of}
-use Rattle.run_knowledge.specs.Kept.{IsKept, held_in_seats}
-use Rattle.run_knowledge.specs.Tells.{IsFollowed}
-use Rattle.run_knowledge.specs.Tells.IsFollowed.{with_seat, dead as is_dead, changed as has_changed}
-use Rattle.run_knowledge.proofs.InRuns.Leaves.{allowed}
-use Rattle.run_knowledge.proofs.InRuns.Rests.{known}
+use Rattle.kept_knowledge.specs.Ghosts.{Held}
+use Rattle.kept_knowledge.specs.Lists.{HoldsIn}
+use Rattle.kept_knowledge.specs.RunGhosts.{ghost_of, world_of}
+use Rattle.kept_knowledge.specs.Kept.{IsKept, held_in_seats}
+use Rattle.kept_knowledge.specs.Tells.{IsFollowed}
+use Rattle.kept_knowledge.specs.Tells.IsFollowed.{with_seat, dead as is_dead, changed as has_changed}
+use Rattle.kept_knowledge.proofs.InRuns.Leaves.{allowed}
+use Rattle.kept_knowledge.proofs.InRuns.Rests.{known}
+use Rattle.kept_knowledge.proofs.Counted.ChangesBelow.{DifferentLists, first_differs, held_call}
 use Rattle.run_invariant.proofs.Tells.NewChanges.{NewOf, new_changes}
 use Rattle.run_invariant.proofs.Tells.NewChanges.NewOf.{of_mover, executed, took}
-
-abbrev DifferentLists : Change → Change → Type 0
-DifferentLists a b = a.list.identity ≢ b.list.identity
-
-all_of : (P : Change → Type 0) (changes : List Change) (change : Change) → All P changes → Among change changes → P change
-all_of P [] change each among = absurd among
-all_of P (x ∷ xs) change each (inl same) = subst P (sym same) (All-head P x xs each)
-all_of P (x ∷ xs) change each (inr among) = all_of P xs change (All-tail P x xs each) among
-
--- the first differs from each other
-first_differs : (x : Change) (xs : List Change) (change : Change) → AllPairs DifferentLists (x ∷ xs) → Among change xs → DifferentLists x change
-first_differs x xs change pairs among = all_of (DifferentLists x) xs change (λ k d inside. pairs 0 (suc k) d (omega arith) (omega arith)) among
 
 pub none_some : {A X : Type 0} (list : Option X) (x : X) → list ≡ None → list ≡ Some x → A
 none_some list x empty some = absurd cc
@@ -51,31 +33,6 @@ none_some list x empty some = absurd cc
 pub open_not : {A : Type 0} (mark : Mark) → is_open mark ≡ false → (mark ≡ Executing) ⊎ (mark ≡ Wrapping) → A
 open_not mark closed (inl executing) = absurd (let e = ap is_open (sym executing) ∙ closed in cc)
 open_not mark closed (inr wrapping) = absurd (let e = ap is_open (sym wrapping) ∙ closed in cc)
-
-module _ {S W : Type 0} (form : NormalForm S W) where
-  offering_call : (run : FastWalk) (stores : ArrayVec (ℕ × ℕ)) (mech : Mech S W) (held : Option (Held S)) (h : Held S) → OfSome (IsOffering form run stores mech) held → held ≡ Some h → h.list.call ≡ called mech
-  offering_call run stores mech None h is holds = absurd is
-  offering_call run stores mech (Some k) h is holds = (let same : k ≡ h = cc in subst (λ (l : Held S). l.list.call ≡ called mech) same is.held_by.call)
-
-  wrapping_call : (mech : Mech S W) (held : Option (Held S)) (h : Held S) → OfSome (IsHeld form mech) held → held ≡ Some h → h.list.call ≡ called mech
-  wrapping_call mech None h is holds = absurd is
-  wrapping_call mech (Some k) h is holds = (let same : k ≡ h = cc in subst (λ (l : Held S). l.list.call ≡ called mech) same is.call)
-
-  -- a list that a machine holds is of its call
-  pub held_call : (at : Phase S W) (mech : Mech S W) (held : Option (Held S)) (h : Held S) → HoldsIn form at mech held → held ≡ Some h → h.list.call ≡ called mech
-  held_call (phase.Apply run stores step) mech held h is holds = offering_call run stores mech held h is holds
-  held_call (phase.Wrap w) mech held h is holds = wrapping_call mech held h is holds
-  held_call phase.Idle mech held h is holds = none_some held h is holds
-  held_call phase.Begin mech held h is holds = none_some held h is holds
-  held_call phase.Look mech held h is holds = none_some held h is holds
-  held_call (phase.Generate s step) mech held h is holds = none_some held h is holds
-  held_call (phase.Announce step) mech held h is holds = none_some held h is holds
-  held_call (phase.Enter owner) mech held h is holds = none_some held h is holds
-  held_call phase.Drive mech held h is holds = none_some held h is holds
-  held_call (phase.Help drives help) mech held h is holds = none_some held h is holds
-  held_call phase.Collect mech held h is holds = none_some held h is holds
-  held_call (phase.Value reference) mech held h is holds = none_some held h is holds
-  held_call (phase.End reply) mech held h is holds = none_some held h is holds
 
 module _ {S W : Type 0} (form : NormalForm S W) (laws : Laws form) (setup : Setup) (older : List Move) (move : Move) (mech : Mech S W) (are : AreMoves form setup (move ∷ older))
     (at : slice_get (run_of form setup older).mechs move.seat ≡ Some mech) (kept : IsKept form setup older) where
@@ -129,7 +86,7 @@ module _ {S W : Type 0} (form : NormalForm S W) (laws : Laws form) (setup : Setu
       → NewOf world after ((ghost_of form setup older).seats move.seat).held change → With change.list
   list_new change among few closed (of_mover own holds same) =
       let k = known form laws setup older move mech are at kept in
-      let call = held_call form (begun move.begins mech).phase (begun move.begins mech) _ own k.lists holds in
+      let call = held_call form (begun move.begins mech).phase (begun move.begins mech) own (subst (HoldsIn form (begun move.begins mech).phase (begun move.begins mech)) holds k.lists) in
       let seat : change.list.call.seat ≡ move.seat = ap (λ (l : Listed). l.call.seat) (sym same) ∙ ap (λ (c : Called). c.seat) call ∙ k.seat_is in
       (own, subst (λ s. held_by s ≡ Some own) (sym seat) holds, same)
   list_new change among few closed (executed is) = open_not _ closed (inl is.phase)

@@ -4,7 +4,7 @@ use Rattle.std.proofs.Common.{◌≡◌, ◌∙◌, refl, sym, subst, ap, ℕ, �
 use Rattle.std.proofs.lemmas.Bool.{eq-eqb}
 use Rattle.normal_traits.specs.declared.lists.Entry.{Entry}
 use Rattle.normal_traits.specs.World.{Among, Change, Listed, Took, Won, World}
-use Rattle.normal_traits.specs.World.Maker.{By, Beside}
+use Rattle.normal_traits.specs.World.Maker.{By}
 use Rattle.normal_traits.specs.NormalForm.{NormalForm}
 use Rattle.normal_traits.specs.Laws.{Laws}
 use Rattle.normal_traits.specs.Steps.{listed_if, object, with_change}
@@ -18,20 +18,18 @@ use Rattle.offered_blocks.proofs.Helpers.Helping.{helps_did}
 use Rattle.move_kinds.specs.Kinds.{Kind}
 use Rattle.move_kinds.specs.Kinds.Kind.{quiet, counts, fills, announces, publishes, queues, names, settles, completes, restarts, executes, beside, enters}
 use Rattle.move_kinds.proofs.HelperChanges.{new_change}
-use Rattle.run_world.specs.Ghosts.{Held, SeatGhost}
-use Rattle.run_world.specs.RunGhosts.{ghost_of, world_of}
-use Rattle.run_world.proofs.Names.Journal.{same_maker}
-use Rattle.run_world.proofs.Words.Moved.{seen_by}
-use Rattle.run_world.proofs.Words.Wins.{Wins, move_wins}
-use Rattle.run_world.proofs.Words.Wins.Wins.{nothing, beside as besides, takes, installed}
-use Rattle.run_knowledge.specs.Kept.{IsKept}
-use Rattle.run_knowledge.proofs.InRuns.Leaves.{kind}
+use Rattle.kept_knowledge.specs.Ghosts.{Held, SeatGhost}
+use Rattle.kept_knowledge.specs.RunGhosts.{ghost_of, world_of}
+use Rattle.kept_knowledge.specs.Kept.{IsKept}
+use Rattle.kept_knowledge.proofs.Names.Journal.{same_maker}
+use Rattle.kept_knowledge.proofs.Words.Moved.{seen_by}
+use Rattle.kept_knowledge.proofs.Words.Wins.{Wins, move_wins}
+use Rattle.kept_knowledge.proofs.Words.Wins.Wins.{nothing, beside as besides, takes, installed}
+use Rattle.kept_knowledge.proofs.InRuns.Leaves.{kind}
+use Rattle.run_invariant.proofs.Tells.Values.{beside_by}
 
 no_longer : {A X : Type 0} (x : X) (xs : List X) → xs ≡ x ∷ xs → A
 no_longer x xs same = (let long = ap length same in absurd (omega (arith, long)))
-
-beside_by : {A : Type 0} (list : Listed) (j : ℕ) → Beside ≡ By list j → A
-beside_by list j same = absurd cc
 
 first_same : {X : Type 0} (x y : X) (xs ys : List X) → x ∷ xs ≡ y ∷ ys → x ≡ y
 first_same x y xs ys same = cc

@@ -13,12 +13,12 @@ use Rattle.fast_slow_engine.specs.Mechs.{Mech}
 use Rattle.offered_blocks.specs.Blocks.{Offer}
 use Rattle.move_kinds.specs.Moves.{Leaves}
 use Rattle.helper_knowledge.specs.Callers.{Caller}
-use Rattle.run_world.specs.Ghosts.{Held}
-use Rattle.run_world.specs.Lists.{IsOffering}
-use Rattle.run_knowledge.specs.Known.{IsStillOffered, KnowsRun, KnowsWrap}
-use Rattle.run_knowledge.specs.Moves.{Enters}
-use Rattle.run_knowledge.proofs.Goes.Runs.{has_run, run_stopped}
-use Rattle.run_knowledge.proofs.Goes.Wraps.{wrap_begins}
+use Rattle.kept_knowledge.specs.Ghosts.{Held}
+use Rattle.kept_knowledge.specs.Lists.{IsOffering}
+use Rattle.kept_knowledge.specs.Known.{IsStillOffered, KnowsRun, KnowsWrap}
+use Rattle.kept_knowledge.specs.Moves.{Enters}
+use Rattle.kept_knowledge.proofs.Goes.Runs.{has_run, run_stopped}
+use Rattle.kept_knowledge.proofs.Goes.Wraps.{wrap_begins}
 
 module _ {S W : Type 0} (form : NormalForm S W) (laws : Laws form) (world after : World) (offers offers' : ℕ → Option (Offer S)) (callers : ℕ → Caller) (seen : Seen) (leaves : Leaves form world after offers offers' None)
     (shape : form.shape world) (shape' : form.shape after) where

@@ -36,20 +36,20 @@ use Rattle.run_laws.proofs.Steps.{move_steps}
 use Rattle.run_queue.specs.QueueLaws.{EndsCompleted, outcome_in}
 use Rattle.run_queue.proofs.OutcomeLaws.{outcomes_hold}
 use Rattle.run_queue.proofs.Runs.RunMoves.{runs_queued}
-use Rattle.run_world.specs.Ghosts.{SeatGhost}
-use Rattle.run_world.specs.Lists.{HoldsIn}
-use Rattle.run_world.specs.RunGhosts.{ghost_of, world_of}
-use Rattle.run_world.specs.Worlds.{world_stepped}
-use Rattle.run_world.proofs.Holding.HeldLists.{lists_held}
-use Rattle.run_world.proofs.Words.Moved.{seat_after, seen_by}
-use Rattle.run_world.proofs.Words.Seats.{machine_after}
-use Rattle.run_knowledge.specs.Kept.{IsKept, callers_in}
-use Rattle.run_knowledge.specs.Tells.{CountsIn, TellsIn}
-use Rattle.run_knowledge.proofs.Bounds.InKept.{keeps_queue}
-use Rattle.run_knowledge.proofs.InRuns.Leaves.{allowed, holds_after, leaves}
-use Rattle.run_knowledge.proofs.InRuns.MoveSteps.{moves_step}
-use Rattle.run_knowledge.proofs.InRuns.MovesKinds.{is_inside}
-use Rattle.run_knowledge.proofs.InRuns.Rests.{can, rests_move}
+use Rattle.kept_knowledge.specs.Ghosts.{SeatGhost}
+use Rattle.kept_knowledge.specs.Lists.{HoldsIn}
+use Rattle.kept_knowledge.specs.RunGhosts.{ghost_of, world_of}
+use Rattle.kept_knowledge.specs.Worlds.{world_stepped}
+use Rattle.kept_knowledge.specs.Kept.{IsKept, callers_in}
+use Rattle.kept_knowledge.specs.Tells.{CountsIn, TellsIn}
+use Rattle.kept_knowledge.proofs.Holding.HeldLists.{lists_held}
+use Rattle.kept_knowledge.proofs.Words.Moved.{seat_after, seen_by}
+use Rattle.kept_knowledge.proofs.Words.Seats.{machine_after}
+use Rattle.kept_knowledge.proofs.Bounds.InKept.{keeps_queue}
+use Rattle.kept_knowledge.proofs.InRuns.Leaves.{allowed, holds_after, leaves}
+use Rattle.kept_knowledge.proofs.InRuns.MoveSteps.{moves_step}
+use Rattle.kept_knowledge.proofs.InRuns.MovesKinds.{is_inside}
+use Rattle.kept_knowledge.proofs.InRuns.Rests.{can, rests_move}
 use Rattle.run_invariant.proofs.Tells.Stays.{few_seats, mover_tells, right_still}
 use Rattle.run_invariant.proofs.Tells.StepTells.{step_tells}
 use Rattle.run_invariant.proofs.Tells.Values.{AnswersWell, answers_kept}

@@ -5,10 +5,10 @@ use Rattle.normal_traits.specs.Laws.{Laws}
 use Rattle.fast_slow_engine.specs.declared.setup.Setup.{Setup}
 use Rattle.fast_slow_engine.specs.Mechs.{Mech}
 use Rattle.fast_slow_engine.specs.Runs.{AreMoves, Move, run_of}
-use Rattle.run_world.specs.RunGhosts.{world_of}
-use Rattle.run_world.proofs.Words.Opens.{world_opens}
-use Rattle.run_knowledge.specs.Kept.{IsKept}
-use Rattle.run_knowledge.proofs.InRuns.Leaves.{allowed}
+use Rattle.kept_knowledge.specs.RunGhosts.{world_of}
+use Rattle.kept_knowledge.specs.Kept.{IsKept}
+use Rattle.kept_knowledge.proofs.Words.Opens.{world_opens}
+use Rattle.kept_knowledge.proofs.InRuns.Leaves.{allowed}
 use Rattle.run_invariant.proofs.Tells.Values.{AnswersWell, answers_kept, answers_open}
 
 module _ {S W : Type 0} (form : NormalForm S W) where

@@ -25,15 +25,15 @@ use Rattle.run_laws.proofs.Steps.{some_same}
 use Rattle.run_queue.specs.QueueLaws.{Publishes}
 use Rattle.run_queue.proofs.QueueLaws.{owners_hold}
 use Rattle.run_queue.proofs.Runs.RunMoves.{runs_queued}
-use Rattle.run_world.specs.Ghosts.{Held, SeatGhost}
-use Rattle.run_world.specs.Lists.{HoldsIn}
-use Rattle.run_world.specs.RunGhosts.{ghost_of, world_of}
-use Rattle.run_world.proofs.Holding.HeldLists.{lists_held}
-use Rattle.run_knowledge.specs.Kept.{IsKept}
-use Rattle.run_knowledge.specs.Tells.{TellsIn}
-use Rattle.run_knowledge.proofs.Bounds.InKept.{keeps_queue}
-use Rattle.run_knowledge.proofs.InRuns.Leaves.{leaves}
-use Rattle.run_knowledge.proofs.InRuns.Rests.{can, known}
+use Rattle.kept_knowledge.specs.Ghosts.{Held, SeatGhost}
+use Rattle.kept_knowledge.specs.Lists.{HoldsIn}
+use Rattle.kept_knowledge.specs.RunGhosts.{ghost_of, world_of}
+use Rattle.kept_knowledge.specs.Kept.{IsKept}
+use Rattle.kept_knowledge.specs.Tells.{TellsIn}
+use Rattle.kept_knowledge.proofs.Holding.HeldLists.{lists_held}
+use Rattle.kept_knowledge.proofs.Bounds.InKept.{keeps_queue}
+use Rattle.kept_knowledge.proofs.InRuns.Leaves.{leaves}
+use Rattle.kept_knowledge.proofs.InRuns.Rests.{can, known}
 use Rattle.run_invariant.proofs.Tells.ClosedRecords.{closed_new, none_some}
 
 closed_by : {P : Type 0} (opened : Bool) → (opened ≡ true → P) → ¬ P → opened ≡ false

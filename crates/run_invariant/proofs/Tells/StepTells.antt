@@ -46,12 +46,12 @@ use Rattle.helper_knowledge.specs.Callers.{Caller, called}
 use Rattle.helper_knowledge.specs.Carried.{Carried, OfSome}
 use Rattle.helper_knowledge.specs.HelperStep.{UsedSmall}
 use Rattle.run_queue.specs.QueueLaws.{finished_with, outcome_in}
-use Rattle.run_world.specs.Ghosts.{Held, SeatGhost, stopped_at, stopped_in}
-use Rattle.run_world.specs.Lists.{IsHeld, IsOffering}
-use Rattle.run_world.specs.SeatSteps.{begun_after, held_in, list_after, newly_held}
-use Rattle.run_knowledge.specs.Known.{KnowsRun, KnowsWrap}
-use Rattle.run_knowledge.specs.Moves.{Enters, RestsMove, StepsIn}
-use Rattle.run_knowledge.specs.Tells.{CountsIn, TellsIn}
+use Rattle.kept_knowledge.specs.Ghosts.{Held, SeatGhost, stopped_at, stopped_in}
+use Rattle.kept_knowledge.specs.Lists.{IsHeld, IsOffering}
+use Rattle.kept_knowledge.specs.SeatSteps.{begun_after, held_in, list_after, newly_held}
+use Rattle.kept_knowledge.specs.Known.{KnowsRun, KnowsWrap}
+use Rattle.kept_knowledge.specs.Moves.{Enters, RestsMove, StepsIn}
+use Rattle.kept_knowledge.specs.Tells.{CountsIn, TellsIn}
 use Rattle.run_invariant.proofs.Tells.NewChanges.{not_both}
 use Rattle.run_invariant.proofs.Tells.OwnLists.{run_ends, wrap_goes}
 use Rattle.run_invariant.proofs.Tells.Values.{AnswersWell, answer_small, change_small}

@@ -40,11 +40,11 @@ one_replied object list changes are (front ∷ newer) older change is = let rest
 
 -- ---- each value that is told is in range
 
-abbrev AreCommandsOf : Client → List Change → Type 0
+abbrev pub AreCommandsOf : Client → List Change → Type 0
 AreCommandsOf client changes = (change : Change) → Among change changes → IsCommandOf client change.list.call.op
 
 -- what is held after commands alone has values in range
-held_in_range : (client : Client) (changes : List Change) → AreCommandsOf client changes → HoldsInRange client (held_after (object_of client) changes)
+pub held_in_range : (client : Client) (changes : List Change) → AreCommandsOf client changes → HoldsInRange client (held_after (object_of client) changes)
 held_in_range client [] are = range_empty client
 held_in_range client (change ∷ older) are =
     range_kept client change.list.call.op (held_after (object_of client) older) (are change (inl refl)).value (held_in_range client older (λ other among. are other (inr among)))
@@ -66,15 +66,16 @@ older_among : {X : Type 0} (x y : X) (newer older : List X) → Among x older �
 older_among x y [] older among = inr among
 older_among x y (z ∷ newer) older among = inr (older_among x y newer older among)
 
-among_split : {X : Type 0} (x : X) (xs : List X) → Among x xs → (newer : List X) × (older : List X) × (xs ≡ newer ++ x ∷ older)
+-- and one among them stands in front of others
+pub among_split : {X : Type 0} (x : X) (xs : List X) → Among x xs → (newer : List X) × (older : List X) × (xs ≡ newer ++ x ∷ older)
 among_split x [] among = absurd among
 among_split x (y ∷ ys) (inl same) = ([], ys, ap (λ z. z ∷ ys) (sym same))
 among_split x (y ∷ ys) (inr among) = let rest = among_split x ys among in (y ∷ rest.0, rest.1, ap (λ zs. y ∷ zs) rest.2)
 
-same_list : (list other : Listed) (j k : ℕ) → By list j ≡ By other k → list ≡ other
+pub same_list : (list other : Listed) (j k : ℕ) → By list j ≡ By other k → list ≡ other
 same_list list other j k same = cc
 
-beside_by : {A : Type 0} (list : Listed) (j : ℕ) → Beside ≡ By list j → A
+pub beside_by : {A : Type 0} (list : Listed) (j : ℕ) → Beside ≡ By list j → A
 beside_by list j same = absurd cc
 
 module _ {S W : Type 0} (form : NormalForm S W) where

@@ -10,10 +10,10 @@ use Rattle.run_laws.specs.Claims.{KeepsClaims}
 use Rattle.run_laws.proofs.PremiseLemmas.{client_keeps_claims}
 use Rattle.run_queue.specs.Premises.{KeepsQueue}
 use Rattle.run_world.specs.RunGhosts.{world_of}
-use Rattle.run_world.proofs.Blocks.Counts.{queue_kept}
-use Rattle.run_world.proofs.Blocks.Used.{used_claimed}
+use Rattle.run_hands.proofs.Blocks.Counts.{queue_kept}
+use Rattle.run_hands.proofs.Blocks.Used.{used_claimed}
+use Rattle.step_knowledge.specs.Moves.{HasRoom}
 use Rattle.run_knowledge.specs.Kept.{IsKept}
-use Rattle.run_knowledge.specs.Moves.{HasRoom}
 use Rattle.run_knowledge.proofs.Bounds.Causes.{journal_few}
 use Rattle.run_knowledge.proofs.Bounds.Words.{word_inside, word_may, words_count}
 

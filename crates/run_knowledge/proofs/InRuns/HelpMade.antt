@@ -34,9 +34,9 @@ use Rattle.run_world.specs.SeatSteps.{filled_helped, filled_worked, helps_on, na
 use Rattle.run_world.specs.Worlds.{asked_named, world_helped, world_worked}
 use Rattle.run_world.proofs.Words.Moved.{with_list}
 use Rattle.run_world.proofs.Words.WordLemmas.{word_in}
+use Rattle.step_knowledge.specs.Moves.{Advances, HelpSteps, WorkSteps}
+use Rattle.step_knowledge.specs.Moves.Advances.{lost, won}
 use Rattle.run_knowledge.specs.InMemory.{HelpInside, WorkInside}
-use Rattle.run_knowledge.specs.Moves.{Advances, HelpSteps, WorkSteps}
-use Rattle.run_knowledge.specs.Moves.Advances.{lost, won}
 use Rattle.run_knowledge.proofs.InRuns.Asked.{add_made, exchange_made, here, load_made, made, requested, seen_inside, store_made}
 use Rattle.run_knowledge.proofs.InRuns.OwnMade.{queue_made, remove_at}
 

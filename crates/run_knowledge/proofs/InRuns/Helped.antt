@@ -37,16 +37,16 @@ use Rattle.run_queue.specs.QueueLaws.{Advances, HelpingAdvances, Publishes}
 use Rattle.run_queue.specs.QueueViews.{next_number, phase_view}
 use Rattle.run_queue.proofs.QueueLaws.{advances_hold, owners_hold}
 use Rattle.run_queue.proofs.Runs.RunMoves.{runs_queued}
-use Rattle.run_world.specs.Hands.{IsUnspent}
 use Rattle.run_world.specs.Identities.{list_offered}
 use Rattle.run_world.specs.Identities.Keeper.{carrier, named}
+use Rattle.run_world.specs.InHand.{IsUnspent}
 use Rattle.run_world.specs.RunGhosts.{ghost_of, world_of}
-use Rattle.run_world.proofs.Blocks.Spare.{hands_spare}
 use Rattle.run_world.proofs.Names.Fresh.{carried_fresh}
 use Rattle.run_world.proofs.Names.Kept.{identities_differ}
+use Rattle.run_hands.proofs.Blocks.Spare.{hands_spare}
+use Rattle.step_knowledge.specs.Known.{KnowsHelp, KnowsIn}
+use Rattle.step_knowledge.specs.Moves.{MeetsWork, RestsHelp}
 use Rattle.run_knowledge.specs.Kept.{IsKept, caller_at, callers_in}
-use Rattle.run_knowledge.specs.Known.{KnowsHelp, KnowsIn}
-use Rattle.run_knowledge.specs.Moves.{MeetsWork, RestsHelp}
 use Rattle.run_knowledge.proofs.Bounds.InKept.{has_room, keeps_claims, keeps_queue}
 
 -- a machine that publishes doesn't rest

@@ -25,12 +25,12 @@ use Rattle.helper_knowledge.specs.Carried.{OfSome}
 use Rattle.run_world.specs.Ghosts.{Held}
 use Rattle.run_world.specs.Lists.{IsOffering}
 use Rattle.run_world.specs.RunGhosts.{world_of}
+use Rattle.step_knowledge.specs.Known.{KnowsFill, KnowsRun, KnowsWrap}
+use Rattle.step_knowledge.proofs.OfKinds.OwnStores.{IsOwnStore, filling, held_offer, own_stored}
 use Rattle.run_knowledge.specs.InMemory.{AsksInside, StoresInside}
 use Rattle.run_knowledge.specs.Kept.{IsKept}
-use Rattle.run_knowledge.specs.Known.{KnowsFill, KnowsRun, KnowsWrap}
 use Rattle.run_knowledge.proofs.Bounds.InKept as bounds
 use Rattle.run_knowledge.proofs.Bounds.Words.{words_count}
-use Rattle.run_knowledge.proofs.OfKinds.OwnStores.{IsOwnStore, filling, held_offer, own_stored}
 
 module _ {S W : Type 0} (form : NormalForm S W) (laws : Laws form) (setup : Setup) (older : List Move) (are : AreMoves form setup older) (kept : IsKept form setup older) where
   abbrev world : World

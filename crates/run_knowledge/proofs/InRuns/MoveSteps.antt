@@ -15,8 +15,8 @@ use Rattle.run_world.specs.RunGhosts.{ghost_of, world_of}
 use Rattle.run_world.specs.SeatSteps.{begun_after, filled_after, held_in, list_after, offers_after, searches_on}
 use Rattle.run_world.specs.Worlds.{world_stepped}
 use Rattle.run_world.proofs.Words.Moved.{made_moved, made_offers, made_seat, seat_after, seen_by, with_list}
+use Rattle.step_knowledge.specs.Moves.{StepsIn}
 use Rattle.run_knowledge.specs.InMemory.{IsInside, MovesStep}
-use Rattle.run_knowledge.specs.Moves.{StepsIn}
 use Rattle.run_knowledge.proofs.InRuns.Asked.{here}
 use Rattle.run_knowledge.proofs.InRuns.HelpMade.{help_steps}
 use Rattle.run_knowledge.proofs.InRuns.OwnMade.{own_steps}

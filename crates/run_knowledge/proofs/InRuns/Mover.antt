@@ -15,17 +15,17 @@ use Rattle.offered_blocks.specs.Blocks.{Offer}
 use Rattle.offered_blocks.specs.OtherSteps.{IsSpare}
 use Rattle.run_queue.proofs.Runs.RunMoves.{runs_queued}
 use Rattle.run_world.specs.Ghosts.{Held}
-use Rattle.run_world.specs.Hands.{BlockIn, IsUnspent}
 use Rattle.run_world.specs.Identities.{list_held, list_offered}
 use Rattle.run_world.specs.Identities.Keeper.{holder, named}
+use Rattle.run_world.specs.InHand.{BlockIn, IsUnspent}
 use Rattle.run_world.specs.Lists.{HoldsIn}
 use Rattle.run_world.specs.RunGhosts.{ghost_of, world_of}
-use Rattle.run_world.proofs.Blocks.OwnBlocks.{blocks_held}
-use Rattle.run_world.proofs.Blocks.Spare.{hands_spare}
 use Rattle.run_world.proofs.Holding.HeldLists.{lists_held}
 use Rattle.run_world.proofs.Names.Kept.{identities_differ}
+use Rattle.run_hands.proofs.Blocks.OwnBlocks.{blocks_held}
+use Rattle.run_hands.proofs.Blocks.Spare.{hands_spare}
+use Rattle.step_knowledge.specs.Known.{KnowsIn, MakesCommand}
 use Rattle.run_knowledge.specs.Kept.{IsKept, callers_in}
-use Rattle.run_knowledge.specs.Known.{KnowsIn, MakesCommand}
 use Rattle.run_knowledge.proofs.Bounds.InKept.{keeps_claims, keeps_queue}
 
 -- a machine that rests holds no list, and has used no block of its hand

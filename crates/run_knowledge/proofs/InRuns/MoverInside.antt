@@ -19,7 +19,7 @@ use Rattle.helper_knowledge.specs.Knowing.{KnowsOffer}
 use Rattle.helper_knowledge.specs.WorkKnown.{KnowsWork}
 use Rattle.run_queue.specs.Fits.{WorkFits}
 use Rattle.run_world.specs.RunGhosts.{ghost_of, world_of}
-use Rattle.run_world.proofs.Blocks.Named.{offers_claimed}
+use Rattle.run_hands.proofs.Blocks.Named.{offers_claimed}
 use Rattle.run_knowledge.specs.InMemory.{StoresInside, WorkInside}
 use Rattle.run_knowledge.specs.Kept.{IsKept}
 use Rattle.run_knowledge.proofs.Bounds.InKept.{keeps_claims}

@@ -17,13 +17,13 @@ use Rattle.helper_knowledge.specs.Callers.{Caller}
 use Rattle.run_queue.specs.Fits.{HelpingFits, PhaseFits}
 use Rattle.run_queue.proofs.Runs.RunMoves.{runs_queued}
 use Rattle.run_world.specs.Ghosts.{SeatGhost}
-use Rattle.run_world.specs.Hands.{BlockIn}
+use Rattle.run_world.specs.InHand.{BlockIn}
 use Rattle.run_world.specs.Lists.{HoldsIn}
 use Rattle.run_world.specs.RunGhosts.{ghost_of, world_of}
-use Rattle.run_world.proofs.Blocks.Spare.{hands_spare}
+use Rattle.run_hands.proofs.Blocks.Spare.{hands_spare}
+use Rattle.step_knowledge.specs.Known.{KnowsHelp, KnowsIn, MakesCommand}
 use Rattle.run_knowledge.specs.InMemory.{HelpInside, IsInside, PhaseInside}
 use Rattle.run_knowledge.specs.Kept.{IsKept, MovesAreKinds, callers_in}
-use Rattle.run_knowledge.specs.Known.{KnowsHelp, KnowsIn, MakesCommand}
 use Rattle.run_knowledge.proofs.Bounds.InKept.{keeps_claims, keeps_queue}
 use Rattle.run_knowledge.proofs.InRuns.Helped.{head_few}
 use Rattle.run_knowledge.proofs.InRuns.Inside.{asks_inside, fill_inside, run_inside, wrap_inside}

@@ -34,9 +34,9 @@ use Rattle.run_world.specs.Ghosts.{Held, uses_block}
 use Rattle.run_world.specs.Worlds.{asked_listed, won_entry, world_stepped}
 use Rattle.run_world.proofs.Words.Moved.{with_list}
 use Rattle.run_world.proofs.Words.WordLemmas.{word_in}
+use Rattle.step_knowledge.specs.Moves.{Announces, Enters, OwnSteps, Puts}
+use Rattle.step_knowledge.specs.Moves.Enters.{misses, wins}
 use Rattle.run_knowledge.specs.InMemory.{IsInside}
-use Rattle.run_knowledge.specs.Moves.{Announces, Enters, OwnSteps, Puts}
-use Rattle.run_knowledge.specs.Moves.Enters.{misses, wins}
 use Rattle.run_knowledge.proofs.InRuns.Asked.{add_made, exchange_made, here, load_made, made, of_words, requested, store_made}
 
 -- a world keeps its words where a block comes to be used

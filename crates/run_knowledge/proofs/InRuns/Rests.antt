@@ -18,15 +18,15 @@ use Rattle.move_kinds.specs.Kinds.{Kind}
 use Rattle.run_laws.proofs.Steps.{some_same}
 use Rattle.run_world.specs.Ghosts.{SeatGhost}
 use Rattle.run_world.specs.RunGhosts.{ghost_of, world_of}
+use Rattle.step_knowledge.specs.Moves.{RestsIn, RestsMove}
+use Rattle.step_knowledge.proofs.OfKinds.EachPhase.{steps_are_kinds}
 use Rattle.run_knowledge.specs.InMemory.{IsInside}
 use Rattle.run_knowledge.specs.Kept.{IsKept, callers_in}
-use Rattle.run_knowledge.specs.Moves.{RestsIn, RestsMove}
 use Rattle.run_knowledge.proofs.Bounds.InKept.{has_room, keeps_queue}
 use Rattle.run_knowledge.proofs.InRuns.Helped.{help_rests}
 use Rattle.run_knowledge.proofs.InRuns.MoveSteps.{moves_step}
 use Rattle.run_knowledge.proofs.InRuns.Mover.{KnowsMover, apart, mover_knows}
 use Rattle.run_knowledge.proofs.InRuns.Unannounced.{movers_before}
-use Rattle.run_knowledge.proofs.OfKinds.EachPhase.{steps_are_kinds}
 
 module _ {S W : Type 0} (form : NormalForm S W) (laws : Laws form) (setup : Setup) (older : List Move) (move : Move) (mech : Mech S W) (are : AreMoves form setup (move ∷ older))
     (at : slice_get (run_of form setup older).mechs move.seat ≡ Some mech) (kept : IsKept form setup older) where

@@ -24,7 +24,7 @@ use Rattle.run_queue.specs.QueueViews.{next_number, phase_view}
 use Rattle.run_queue.proofs.QueueLaws.{owners_hold}
 use Rattle.run_queue.proofs.Runs.RunMoves.{runs_queued}
 use Rattle.helper_knowledge.proofs.Queue.CallsBelow.{numbers_below}
-use Rattle.run_knowledge.specs.Moves.{is_unannounced}
+use Rattle.step_knowledge.specs.Moves.{is_unannounced}
 use Rattle.run_knowledge.specs.Unannounced.{IsBefore, MoversBefore}
 
 -- the number of the record, by the phase

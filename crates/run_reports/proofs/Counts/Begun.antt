@@ -23,19 +23,19 @@ use Rattle.run_laws.proofs.Begins.{begin_stays}
 use Rattle.run_laws.proofs.CallLemmas.{ticks_go_on}
 use Rattle.run_laws.proofs.SeatLemmas.{new_mech}
 use Rattle.run_laws.proofs.Summaries.{tick_of}
-use Rattle.run_world.specs.Ghosts.{SeatGhost}
-use Rattle.run_world.specs.RunGhosts.{ghost_of, world_of}
-use Rattle.run_world.specs.SeatSteps.{begun_after}
-use Rattle.run_world.proofs.Words.Moved.{made_seat, made_moved}
-use Rattle.run_world.proofs.Words.Seats.{EachSeat, seats_moved}
-use Rattle.run_knowledge.specs.Kept.{RunsAreKept}
-use Rattle.run_knowledge.specs.Tells.{ChangesBelow, TellsIn}
+use Rattle.run_exchanges.specs.Ghosts.{SeatGhost}
+use Rattle.run_exchanges.specs.RunGhosts.{ghost_of, world_of}
+use Rattle.run_exchanges.specs.SeatSteps.{begun_after}
+use Rattle.run_exchanges.specs.Kept.{RunsAreKept}
+use Rattle.run_exchanges.specs.Tells.{ChangesBelow, TellsIn}
+use Rattle.run_exchanges.proofs.Words.Moved.{made_seat, made_moved}
+use Rattle.run_exchanges.proofs.Words.Seats.{EachSeat, seats_moved}
+use Rattle.run_exchanges.proofs.InRuns.Moved.{Moved, after, mech, mover, new, own, seated, seen, ticks, world, moved}
+use Rattle.run_exchanges.proofs.Changes.Adds.{Adds, none, aside, serves, adds}
 use Rattle.run_reports.specs.Changes.{changes_at}
 use Rattle.run_reports.specs.Endings.{StandsOver}
-use Rattle.run_reports.proofs.Changes.Adds.{Adds, none, aside, serves, adds}
 use Rattle.run_reports.proofs.Counts.Stands.{stands_among, stands_in}
 use Rattle.run_reports.proofs.Counts.Ticks.{at_drawn, at_stays, drawn_changes}
-use Rattle.run_reports.proofs.Moves.Moved.{Moved, after, mech, mover, new, own, seated, seen, ticks, world, moved}
 
 module _ {S W : Type 0} (form : NormalForm S W) where
   -- of a seat whose call runs

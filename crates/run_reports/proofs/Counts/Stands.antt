@@ -2,13 +2,8 @@
 use Rattle.std.proofs.Common.{◌≡◌, ◌∙◌, refl, sym, subst, ap, ℕ, suc, ◌-◌, ◌<◌, ◌≤◌, ◌⊎◌, List, [], ◌∷◌, ◌++◌, drop, length, length-append, inl, inr, arith}
 use Rattle.std.proofs.lemmas.List.{append_assoc}
 use Rattle.normal_traits.specs.World.{Change, Among, first_changes}
+use Rattle.run_exchanges.proofs.Tells.Values.{among_split}
 use Rattle.run_reports.specs.Endings.{StandsOver}
-
--- a change among others is behind some of them
-pub among_behind : {X : Type 0} (x : X) (xs : List X) → Among x xs → (front : List X) × (rest : List X) × (xs ≡ front ++ x ∷ rest)
-among_behind x [] among = absurd among
-among_behind x (y ∷ ys) (inl same) = ([], ys, ap (λ z. z ∷ ys) (sym same))
-among_behind x (y ∷ ys) (inr among) = let rest = among_behind x ys among in (y ∷ rest.0, rest.1, ap (λ zs. y ∷ zs) rest.2)
 
 -- what is behind some is among them
 pub among_front : {X : Type 0} (x : X) (front rest : List X) → Among x (front ++ x ∷ rest)
@@ -34,7 +29,7 @@ stands_among changes change older stands = subst (Among change) (sym stands.1) (
 
 -- and what is among all stands over others
 pub among_stands : (changes : List Change) (change : Change) → Among change changes → (older : List Change) × StandsOver changes change older
-among_stands changes change among = let at = among_behind change changes among in (at.1, (at.0, at.2))
+among_stands changes change among = let at = among_split change changes among in (at.1, (at.0, at.2))
 
 -- it stands there with more in front
 pub stands_more : (changes more before : List Change) (change : Change) (older : List Change) → changes ≡ more ++ before → StandsOver before change older → StandsOver changes change older

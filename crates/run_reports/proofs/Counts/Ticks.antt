@@ -14,11 +14,11 @@ use Rattle.offered_blocks.specs.Blocks.{Offer}
 use Rattle.run_laws.specs.Ticks.{KeepsTicks, draws_tick}
 use Rattle.run_laws.proofs.StepKinds.{begins, returns, goes}
 use Rattle.run_laws.proofs.Summaries.{Summary, summary, tick_of}
-use Rattle.run_world.specs.Ghosts.{Held}
-use Rattle.run_world.specs.RunGhosts.{ghost_of, world_of}
-use Rattle.run_world.specs.Worlds.{world_stepped}
-use Rattle.run_world.proofs.Words.Grow.{world_grows}
-use Rattle.run_world.proofs.Words.Moved.{made_moved}
+use Rattle.run_exchanges.specs.Ghosts.{Held}
+use Rattle.run_exchanges.specs.RunGhosts.{ghost_of, world_of}
+use Rattle.run_exchanges.specs.Worlds.{world_stepped}
+use Rattle.run_exchanges.proofs.Words.Grow.{world_grows}
+use Rattle.run_exchanges.proofs.Words.Moved.{made_moved}
 use Rattle.run_reports.specs.Changes.{changes_at}
 
 -- the counter after a step is no lower

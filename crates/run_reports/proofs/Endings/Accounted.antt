@@ -27,20 +27,20 @@ use Rattle.run_laws.proofs.CallLemmas as calls
 use Rattle.run_laws.proofs.StepKinds.{rests_none}
 use Rattle.run_laws.proofs.Steps.{beside_set, move_steps, some_same}
 use Rattle.run_laws.proofs.Summaries.{tick_of}
-use Rattle.run_world.specs.RunGhosts.{world_of}
-use Rattle.run_knowledge.specs.Kept.{RunsAreKept}
+use Rattle.run_exchanges.specs.RunGhosts.{world_of}
+use Rattle.run_exchanges.specs.Kept.{RunsAreKept}
+use Rattle.run_exchanges.proofs.InRuns.Moved.{Moved, can, mech, mover, new, new_seated, own, seated, seen, ticks, moved}
+use Rattle.run_exchanges.proofs.Changes.Adds.{Adds, none, aside, serves, adds, DifferentLists, first_differs}
+use Rattle.run_exchanges.proofs.Moves.Served.{IsServed}
+use Rattle.run_refusals.specs.NoneLeft.{EachLeft}
+use Rattle.run_refusals.proofs.Exhausted.Kept.{none_left_holds}
 use Rattle.run_reports.specs.Endings.{CallsAccounted, HasEnded, IsMadeBy, StandsOver}
 use Rattle.run_reports.specs.Endings.IsMadeBy.{runs, returned as has_line}
-use Rattle.run_reports.specs.NoneLeft.{EachLeft}
-use Rattle.run_reports.proofs.Changes.Adds.{Adds, none, aside, serves, adds, DifferentLists, first_differs}
 use Rattle.run_reports.proofs.Counts.Begun.{EachBegun, each_begun}
 use Rattle.run_reports.proofs.Counts.Stands.{none_made, stands_among, stands_in}
 use Rattle.run_reports.proofs.Endings.Lines.{all_lines, line_ends, line_of, made_by_line, of_call, tells_end}
 use Rattle.run_reports.proofs.Endings.Stays.{ending_stays, made_stays, same_change}
 use Rattle.run_reports.proofs.Endings.Vain.{AddsMade, FirstsTook, adds_made, firsts_took, held_of, quiet_stays, vain_stays}
-use Rattle.run_reports.proofs.Exhausted.Kept.{none_left_holds}
-use Rattle.run_reports.proofs.Moves.Moved.{Moved, can, mech, mover, new, new_seated, own, seated, seen, ticks, moved}
-use Rattle.run_reports.proofs.Moves.Served.{IsServed}
 
 module _ {S W : Type 0} (form : NormalForm S W) where
   -- a call that runs goes on, or returns

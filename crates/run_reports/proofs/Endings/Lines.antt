@@ -30,18 +30,18 @@ use Rattle.run_laws.proofs.Steps.{move_steps}
 use Rattle.run_laws.proofs.StepKinds.{begins, returns, goes}
 use Rattle.run_laws.proofs.TickLemmas.{counts_ticks, move_kind}
 use Rattle.run_laws.proofs.Summaries.{tick_of}
-use Rattle.run_world.specs.RunGhosts.{ghost_of, world_of}
-use Rattle.run_knowledge.specs.Tells.{TellsIn}
+use Rattle.run_exchanges.specs.RunGhosts.{ghost_of, world_of}
+use Rattle.run_exchanges.specs.Tells.{TellsIn}
+use Rattle.run_exchanges.proofs.InRuns.Moved.{Moved, mech, mover, own, seated, seen, ticks, world}
+use Rattle.run_refusals.specs.NoneLeft.{EachLeft, NoneLeft}
 use Rattle.run_reports.specs.Changes.{changes_at}
 use Rattle.run_reports.specs.Endings.{ChangedNone, HasEnded, HasSeen, MadeChange, StandsOver, WasRefused}
 use Rattle.run_reports.specs.Endings.HasEnded.{made, saw, refused}
-use Rattle.run_reports.specs.NoneLeft.{EachLeft, NoneLeft}
 use Rattle.run_reports.proofs.Counts.Begun.{EachBegun}
 use Rattle.run_reports.proofs.Counts.Stands.{among_stands, stands_below}
 use Rattle.run_reports.proofs.Counts.Ticks.{at_drawn, at_stays, count_rises, drawn_changes}
 use Rattle.run_reports.proofs.Endings.Stays.{first_still, stands_still}
 use Rattle.run_reports.proofs.Endings.Vain.{AddsMade, FirstsTook, vain_now}
-use Rattle.run_reports.proofs.Moves.Moved.{Moved, mech, mover, own, seated, seen, ticks, world}
 
 module _ {S W : Type 0} where
   -- a call that returns was begun before

@@ -10,12 +10,12 @@ use Rattle.run_laws.specs.Drawn.{IsDrawnAt}
 use Rattle.run_laws.specs.Ticks.{KeepsTicks}
 use Rattle.run_laws.proofs.CallLemmas.{HasEnded}
 use Rattle.run_laws.proofs.Summaries.{tick_of}
-use Rattle.run_world.specs.RunGhosts.{ghost_of}
-use Rattle.run_world.proofs.Words.Grow.{world_grows}
+use Rattle.run_exchanges.specs.RunGhosts.{ghost_of}
+use Rattle.run_exchanges.proofs.Words.Grow.{world_grows}
+use Rattle.run_exchanges.proofs.Changes.Adds.{DifferentLists, first_differs}
 use Rattle.run_reports.specs.Endings.{ChangedNone, HasSeen, MadeChange, StandsOver, WasRefused, WonInVain}
 use Rattle.run_reports.specs.Endings as endings
 use Rattle.run_reports.specs.Endings.HasEnded.{made, saw, refused}
-use Rattle.run_reports.proofs.Changes.Adds.{DifferentLists, first_differs}
 use Rattle.run_reports.proofs.Counts.Stands.{first_after, stands_more}
 use Rattle.run_reports.proofs.Counts.Ticks.{at_stays, at_within, count_of}
 

@@ -22,22 +22,22 @@ use Rattle.run_laws.specs.Ticks.{draws_tick}
 use Rattle.run_laws.proofs.CallLemmas.{numbers_go_on}
 use Rattle.run_laws.proofs.SeatLemmas.{seats_stay}
 use Rattle.run_laws.proofs.Steps.{some_same}
-use Rattle.run_world.specs.Ghosts.{Held}
-use Rattle.run_world.specs.Lists.{HoldsIn}
-use Rattle.run_world.specs.RunGhosts.{ghost_of, world_of}
-use Rattle.run_world.proofs.Holding.HeldLists.{lists_held}
-use Rattle.run_world.proofs.Words.Grow.{world_grows}
-use Rattle.run_knowledge.specs.Kept.{RunsAreKept, held_in_seats}
-use Rattle.run_knowledge.specs.Tells.{IsFollowed}
-use Rattle.run_knowledge.specs.Tells.IsFollowed.{with_seat, dead, changed}
-use Rattle.run_knowledge.proofs.Goes.Runs.{took_grows}
+use Rattle.run_exchanges.specs.Ghosts.{Held}
+use Rattle.run_exchanges.specs.Lists.{HoldsIn}
+use Rattle.run_exchanges.specs.RunGhosts.{ghost_of, world_of}
+use Rattle.run_exchanges.specs.Kept.{RunsAreKept, held_in_seats}
+use Rattle.run_exchanges.specs.Tells.{IsFollowed}
+use Rattle.run_exchanges.specs.Tells.IsFollowed.{with_seat, dead, changed}
+use Rattle.run_exchanges.proofs.Holding.HeldLists.{lists_held}
+use Rattle.run_exchanges.proofs.Words.Grow.{world_grows}
+use Rattle.run_exchanges.proofs.Goes.Runs.{took_grows}
+use Rattle.run_exchanges.proofs.InRuns.Moved.{Moved, after, mech, mover, offers, own, seated, step, ticks, world, moved}
+use Rattle.run_exchanges.proofs.Changes.Adds.{Adds, none, aside, serves, adds}
+use Rattle.run_exchanges.proofs.Changes.Items.{item_of}
+use Rattle.run_exchanges.proofs.Journals.Once.{no_maker, same_maker}
+use Rattle.run_exchanges.proofs.Moves.Served.{IsServed, named_served, none_held}
 use Rattle.run_reports.specs.Endings.{ChangedNone, WasRefused, WonInVain, WonNone, called_by}
-use Rattle.run_reports.proofs.Changes.Adds.{Adds, none, aside, serves, adds}
-use Rattle.run_reports.proofs.Changes.Items.{item_of}
 use Rattle.run_reports.proofs.Counts.Ticks.{drawn_changes}
-use Rattle.run_reports.proofs.Journals.Once.{no_maker, same_maker}
-use Rattle.run_reports.proofs.Moves.Moved.{Moved, after, mech, mover, offers, own, seated, step, ticks, world, moved}
-use Rattle.run_reports.proofs.Moves.Served.{IsServed, named_served, none_held}
 
 -- what is among changes is among them with another
 among_with : (object : Object) (list : Option Listed) (changes : List Change) (change : Change) → Among change changes → Among change (with_change object list changes)

@@ -3,12 +3,12 @@ use Rattle.normal_traits.specs.NormalForm.{NormalForm}
 use Rattle.normal_traits.specs.Laws.{Laws}
 use Rattle.fast_slow_engine.specs.Runs.{moves_over}
 use Rattle.run_laws.proofs.FileLemmas.{files_run}
-use Rattle.run_knowledge.specs.Kept.{RunsAreKept}
-use Rattle.run_invariant.proofs.Kept.Runs.{queues_kept}
+use Rattle.run_exchanges.specs.Kept.{RunsAreKept}
+use Rattle.run_exchanges.proofs.Kept.Runs.{queues_kept}
 use Rattle.run_overtaking.proofs.EventLaws.{overtaken_bounded}
+use Rattle.run_exchanges.proofs.Exchanges.Made.{exchanges_once, journals_tell}
+use Rattle.run_exchanges.proofs.Journals.Obey.{obeys}
 use Rattle.run_reports.specs.Headline.{FilesMeetHeadline}
-use Rattle.run_reports.proofs.Exchanges.Made.{exchanges_once, journals_tell}
-use Rattle.run_reports.proofs.Journals.Obey.{obeys}
 use Rattle.run_reports.proofs.Placed.Linearized.{exhausted_only_where, exhausted_won_none, files_linearizable}
 use Rattle.run_reports.proofs.Placed.Moments.{has_history}
 use Rattle.run_reports.proofs.Placed.Placeable.{files_report}

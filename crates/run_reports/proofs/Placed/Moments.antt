@@ -15,9 +15,10 @@ use Rattle.run_laws.proofs.StepKinds.{begins, returns, goes}
 use Rattle.run_laws.proofs.Summaries.{summary, tick_of}
 use Rattle.run_laws.proofs.TickLemmas.{opening_word_at}
 use Rattle.run_laws.proofs.PremiseLemmas.{client_keeps_ticks}
-use Rattle.run_world.specs.RunGhosts.{ghost_of, world_of}
-use Rattle.run_world.proofs.Words.Grow.{same_grows, world_grows}
-use Rattle.run_knowledge.specs.Kept.{RunsAreKept}
+use Rattle.run_exchanges.specs.RunGhosts.{ghost_of, world_of}
+use Rattle.run_exchanges.specs.Kept.{RunsAreKept}
+use Rattle.run_exchanges.proofs.Words.Grow.{same_grows, world_grows}
+use Rattle.run_exchanges.proofs.Journals.Once.{all_among}
 use Rattle.run_reports.specs.Changes.{changes_at}
 use Rattle.run_reports.specs.Endings.{StandsOver}
 use Rattle.run_reports.specs.History.{EachCallEnded, NoneChangedTwice, EachCallPlaced, EachTickDrawn, EachTickCounted, HasHistory, HistoryGrows}
@@ -25,7 +26,6 @@ use Rattle.run_reports.proofs.Endings.Accounted.{calls_accounted}
 use Rattle.run_reports.proofs.Counts.Ticks.{at_early, at_now, at_stays, tick_rises}
 use Rattle.run_reports.proofs.Counts.Stands.{among_stands}
 use Rattle.run_reports.proofs.Endings.Stays.{drawn_stays}
-use Rattle.run_reports.proofs.Journals.Once.{all_among}
 use Rattle.run_reports.proofs.Placed.Placeable.{each_placeable}
 use Rattle.run_reports.proofs.Placed.Reports.{is_placed}
 

@@ -8,9 +8,10 @@ use Rattle.fast_slow_engine.specs.Runs.{Move, AreMoves, moves_over}
 use Rattle.run_laws.proofs.FileLemmas.{files_run}
 use Rattle.run_laws.proofs.PremiseLemmas.{client_keeps_ticks}
 use Rattle.run_laws.proofs.ReportLemmas.{runs_report}
-use Rattle.run_knowledge.specs.Kept.{RunsAreKept}
+use Rattle.run_exchanges.specs.Kept.{RunsAreKept}
+use Rattle.run_exchanges.proofs.Tells.Replies.{changes_commands, replies_right}
+use Rattle.run_exchanges.proofs.Tells.Values.{held_in_range}
 use Rattle.run_reports.specs.Files.{FilesReport}
-use Rattle.run_reports.proofs.Changes.Replies.{changes_commands, held_in_range, replies_right}
 use Rattle.run_reports.proofs.Counts.Begun.{each_begun}
 use Rattle.run_reports.proofs.Counts.Ticks.{at_rises, at_within}
 use Rattle.run_reports.proofs.Endings.Accounted.{calls_accounted}

@@ -29,7 +29,7 @@ use Rattle.placing_law.specs.Placing as placing
 use Rattle.placing_law.proofs.Placed.{placed_is_linearizable}
 use Rattle.run_laws.proofs.StepKinds.{pending_open}
 use Rattle.run_laws.proofs.Steps.{some_same}
-use Rattle.run_world.specs.RunGhosts.{ghost_of}
+use Rattle.run_exchanges.specs.RunGhosts.{ghost_of}
 use Rattle.run_reports.specs.Changes.{changes_at}
 use Rattle.run_reports.specs.Endings.{StandsOver, HasSeen, WasRefused, HasEnded, made, saw, refused, IsMadeBy, runs, returned, CallsAccounted}
 use Rattle.run_reports.specs.Placed.{placed, history_of}

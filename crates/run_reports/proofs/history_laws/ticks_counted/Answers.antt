@@ -1,4 +1,4 @@
-use Rattle.run_invariant.proofs.Kept.Induction.{runs_are_kept}
+use Rattle.run_exchanges.proofs.Kept.Induction.{runs_are_kept}
 use Rattle.run_reports.proofs.Placed.Moments.{ticks_counted}
 use Rattle.run_reports.proofs.history_laws.ticks_counted.Goals as goal
 

@@ -1,4 +1,4 @@
-use Rattle.run_invariant.proofs.Kept.Induction.{runs_are_kept}
+use Rattle.run_exchanges.proofs.Kept.Induction.{runs_are_kept}
 use Rattle.run_reports.proofs.Placed.Linearized.{exhausted_only_where}
 use Rattle.run_reports.proofs.report_laws.exhausted_only.Goals as goal
 

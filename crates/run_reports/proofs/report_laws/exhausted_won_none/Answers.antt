@@ -1,4 +1,4 @@
-use Rattle.run_invariant.proofs.Kept.Induction.{runs_are_kept}
+use Rattle.run_exchanges.proofs.Kept.Induction.{runs_are_kept}
 use Rattle.run_reports.proofs.Placed.Linearized.{exhausted_won_none}
 use Rattle.run_reports.proofs.report_laws.exhausted_won_none.Goals as goal
 

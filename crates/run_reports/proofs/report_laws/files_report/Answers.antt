@@ -1,4 +1,4 @@
-use Rattle.run_invariant.proofs.Kept.Induction.{runs_are_kept}
+use Rattle.run_exchanges.proofs.Kept.Induction.{runs_are_kept}
 use Rattle.run_reports.proofs.Placed.Placeable.{files_report}
 use Rattle.run_reports.proofs.report_laws.files_report.Goals as goal
 

@@ -1,5 +1,0 @@
-use Rattle.run_knowledge.proofs.Stays.OtherSeats.{others_know}
-use Rattle.run_knowledge.proofs.step_laws.others_know.Goals as goal
-
-pub returns : goal.returns
-returns g c = others_know g.C.Normalized.form g.met.C.Normalized.laws

@@ -1,5 +1,0 @@
-use Rattle.run_world.proofs.Blocks.OwnBlocks.{blocks_held}
-use Rattle.run_world.proofs.hands.blocks_held.Goals as goal
-
-pub returns : goal.returns
-returns g c = blocks_held g.C.Normalized.form

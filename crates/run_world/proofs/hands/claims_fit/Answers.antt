@@ -1,5 +1,0 @@
-use Rattle.run_world.proofs.Blocks.Counts.{claims_fit}
-use Rattle.run_world.proofs.hands.claims_fit.Goals as goal
-
-pub returns : goal.returns
-returns g c = claims_fit g.C.Normalized.form

@@ -1,5 +1,0 @@
-use Rattle.run_world.proofs.Blocks.Named.{offers_claimed}
-use Rattle.run_world.proofs.hands.offers_claimed.Goals as goal
-
-pub returns : goal.returns
-returns g c = offers_claimed g.C.Normalized.form

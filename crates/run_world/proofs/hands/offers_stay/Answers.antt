@@ -1,5 +1,0 @@
-use Rattle.run_world.proofs.Blocks.Named.{offers_stay}
-use Rattle.run_world.proofs.hands.offers_stay.Goals as goal
-
-pub returns : goal.returns
-returns g c = offers_stay g.C.Normalized.form

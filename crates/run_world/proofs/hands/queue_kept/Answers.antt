@@ -1,5 +1,0 @@
-use Rattle.run_world.proofs.Blocks.Counts.{queue_kept}
-use Rattle.run_world.proofs.hands.queue_kept.Goals as goal
-
-pub returns : goal.returns
-returns g c = queue_kept g.C.Normalized.form
