@@ -1,0 +1,4 @@
+pub mod Orders
+pub mod Verdicts
+pub mod Tables
+pub mod Judging
