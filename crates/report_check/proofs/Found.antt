@@ -1,6 +1,6 @@
 -- The calls that names name.
-use Rattle.std.proofs.Common.{◌≡◌, ◌≢◌, ℕ, ◌<◌, Bool, true, false, cond, Option, Some, None, inl, inr, List, [], ◌∷◌, map, length, get_or, All, AllPairs, Contains, refl, sym, ap, subst, ◌∙◌, arith}
-use Rattle.std.specs.List.{filter_map, cons_option}
+use Rattle.std.proofs.Common.{◌≡◌, ◌≢◌, Bool, true, false, cond, Option, Some, None, inl, inr, List, [], ◌∷◌, map, get_or, All, AllPairs, Contains, refl, sym, ap, subst, ◌∙◌, arith}
+use Rattle.std.specs.List.{cons_option}
 use Rattle.std.proofs.lemmas.Bool.{cases_order}
 use Rattle.std.proofs.lemmas.List.Elements.{All-nil, All-cons, All-head, All-tail, All-contains, at_from_Contains, Contains-append_right}
 use Rattle.lin_report.specs.Calls.{Call, IsSameCall}

@@ -1,7 +1,7 @@
 -- What a judge keeps of the entries that it has passed, and the verdict on the rest.
-use Rattle.std.proofs.Common.{◌≡◌, ◌≢◌, ℕ, ◌+◌, ◌<◌, Bool, true, false, cond, ltb, ◌||◌, Option, Some, None, List, [], ◌∷◌, ◌++◌, map, length, get_or, refl, sym, ap, subst, ◌∙◌, arith}
+use Rattle.std.proofs.Common.{◌≡◌, ℕ, ◌+◌, Bool, true, false, cond, ltb, ◌||◌, Option, Some, None, List, [], ◌∷◌, ◌++◌, map, length, get_or, refl, sym, ap, ◌∙◌, arith}
 use Rattle.std.specs.Option.{option_map}
-use Rattle.std.specs.List.{list_any, filter_map, cons_option}
+use Rattle.std.specs.List.{list_any, cons_option}
 use Rattle.std.proofs.Math.ListN.{set, length-set}
 use Rattle.std.proofs.lemmas.Bool.Decides.{nat_tests}
 use Rattle.std.proofs.lemmas.List.{get_or-set_same, get_or-set_other, map-append}
@@ -14,12 +14,11 @@ use Rattle.lin_report.specs.Calls.{Call, Report, calls_of}
 use Rattle.report_check.specs.declared.orders.Named.{Named}
 use Rattle.report_check.specs.declared.table.Told.{Told}
 use Rattle.report_check.specs.declared.verdicts.Reason.{Reason}
-use Rattle.report_check.specs.declared.verdicts.Verdict.{Verdict}
 use Rattle.report_check.specs.declared.verdicts.Verdict.TheVariants.{NotLegal}
 use Rattle.report_check.specs.Orders.{IsName}
 use Rattle.report_check.specs.Verdicts.{same_name, call_named, calls_named, ended_before, reason_of, held_by, reason_with, reason_at, by_reason, verdict_from}
-use Rattle.report_check.specs.Tables.{PLACES, place_of, told, told_late, told_reason, later, IsTableOf, Marks}
-use Rattle.report_check.proofs.Names.{same_from_test, test_from_same, place_differs}
+use Rattle.report_check.specs.Tables.{place_of, told, told_late, told_reason, later, IsTableOf, Marks}
+use Rattle.report_check.proofs.Names.{same_from_test, place_differs}
 
 -- one name more is marked
 or_true : (a : Bool) → (a || (true || false)) ≡ true

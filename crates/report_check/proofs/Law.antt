@@ -1,32 +1,28 @@
 -- A verdict is that an order is legal exactly where the order shows that the report is linearizable.
 use Rattle.std.proofs.Common.{◌≡◌, ◌≢◌, ℕ, ◌+◌, ◌<◌, Bool, true, false, not, cond, ◌&&◌, Option, Some, None, List, [], ◌∷◌, ◌++◌, map, length, get_or, All, AllPairs, Contains, refl, sym, ap, subst, ◌∙◌, arith, append_assoc}
-use Rattle.std.specs.Prelude.{IsSomeAnd}
 use Rattle.std.specs.List.{list_any, cons_option}
 use Rattle.std.proofs.lemmas.Bool.{false≢true}
 use Rattle.std.proofs.lemmas.List.{append-nil, get_or-map, get_or_read, length-map, map-append}
-use Rattle.std.proofs.lemmas.List.Elements.{All-nil, All-push, All-contains, filter_map-append, Contains-append_left}
+use Rattle.std.proofs.lemmas.List.Elements.{All-nil, All-push, filter_map-append, Contains-append_left}
 use Rattle.std.proofs.lemmas.List.Quantifiers.{all_pairs_push}
-use Rattle.std.proofs.lemmas.List.Folds.{list_any_at, list_any_none, Any-from_list_any}
+use Rattle.std.proofs.lemmas.List.Folds.{list_any_at, Any-from_list_any}
 use Rattle.lin_report.specs.declared.calls.Receipt.{Receipt}
 use Rattle.lin_report.specs.declared.calls.Reply.{Reply}
 use Rattle.lin_report.specs.declared.calls.Reply.TheVariants.{Exhausted}
 use Rattle.lin_report.specs.Object.{Object}
 use Rattle.lin_report.specs.Calls.{Call, Report, answered_call, pending_call, calls_of, IsSameCall, EndedBefore}
-use Rattle.lin_report.specs.Linearizable.{WasExhausted, IsLegal, KeepsTicks, IsLinearization}
+use Rattle.lin_report.specs.Linearizable.{WasExhausted, IsLegal, KeepsTicks}
 use Rattle.lin_report.specs.Text.{reply_is_exhausted, answer_is_exhausted}
 use Rattle.report_check.specs.declared.orders.Named.{Named}
 use Rattle.report_check.specs.declared.verdicts.Reason.{Reason}
 use Rattle.report_check.specs.declared.verdicts.Reason.TheVariants.{NoSuchCall, NamedTwice, AgainstTicks, AnotherReply}
-use Rattle.report_check.specs.declared.verdicts.Verdict.{Verdict}
-use Rattle.report_check.specs.declared.verdicts.Verdict.TheVariants.{Legal, NotLegal}
+use Rattle.report_check.specs.declared.verdicts.Verdict.TheVariants.{Legal}
 use Rattle.report_check.specs.Verdicts.{name_of, same_name, call_named, calls_named, may_be, ended_before, reason_of, held_by, reason_with, reason_at, is_left_out, by_reason, by_receipts, verdict_from, verdict}
-use Rattle.report_check.specs.Judging.{CanJudge, ShowsLinearizable, IsFair}
-use Rattle.report_check.proofs.Names.{same_from_test, test_from_same, same_call}
-use Rattle.report_check.proofs.Pairs.{all_front, pairs_before}
-use Rattle.report_check.proofs.Replies.{answers_from_test, test_from_answers, ended_from_test, test_from_ended, effective_from_test, test_from_effective, reply_test, reply_from_test}
-use Rattle.report_check.proofs.Found.{found_is, unique, named_again, all_named_again}
-use Rattle.report_check.proofs.LegalOrders.{legal_at, legal_push}
-use Rattle.report_check.proofs.Judged.{goes_on}
+use Rattle.report_check.specs.Judging.{ShowsLinearizable}
+use Rattle.report_check.proofs.Names.{same_from_test, test_from_same}
+use Rattle.report_check.proofs.Replies.{answers_from_test, test_from_ended, effective_from_test, reply_test}
+use Rattle.report_check.proofs.Found.{found_is, unique}
+use Rattle.report_check.proofs.LegalOrders.{legal_push}
 
 -- no reason applies
 pub record NoReason (answer : Option (Reply × ℕ)) (twice late : Bool) (reply : Reply) : Type 0 where

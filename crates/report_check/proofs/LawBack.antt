@@ -1,25 +1,23 @@
 -- An order that shows that a report is linearizable is called legal.
-use Rattle.std.proofs.Common.{◌≡◌, ◌≢◌, ℕ, ◌+◌, ◌<◌, Bool, true, false, not, cond, ◌&&◌, ◌||◌, Result, Ok, Err, Option, Some, None, List, [], ◌∷◌, ◌++◌, map, length, get_or, All, AllPairs, Contains, refl, sym, ap, subst, ◌∙◌, arith, append_assoc, length-append}
+use Rattle.std.proofs.Common.{◌≡◌, ◌≢◌, ◌+◌, Bool, true, false, not, ◌&&◌, ◌||◌, Result, Ok, Err, None, List, [], ◌∷◌, ◌++◌, map, length, get_or, All, AllPairs, Contains, refl, sym, ap, subst, ◌∙◌, arith, append_assoc, length-append}
 use Rattle.std.specs.Prelude.{IfOk}
 use Rattle.std.specs.List.{list_any}
 use Rattle.std.proofs.Math.Seq.{get_or-append_seam}
-use Rattle.std.proofs.lemmas.Bool.{false≢true}
 use Rattle.std.proofs.lemmas.List.{append-nil, get_or-map, length-map, map-append}
 use Rattle.std.proofs.lemmas.List.Elements.{All-head, All-tail, at_from_Contains}
 use Rattle.std.proofs.lemmas.List.Folds.{list_any_at, list_any_none}
 use Rattle.lin_report.specs.declared.calls.Receipt.{Receipt}
-use Rattle.lin_report.specs.declared.calls.Reply.{Reply}
 use Rattle.lin_report.specs.declared.calls.Reply.TheVariants.{Exhausted}
 use Rattle.lin_report.specs.declared.calls.Client.{Client}
 use Rattle.lin_report.specs.declared.objects.NoMemory.{NoMemory}
 use Rattle.lin_report.specs.Object.{Object, object_of}
 use Rattle.lin_report.specs.Calls.{Call, Report, answered_call, calls_of, IsSameCall, EndedBefore}
-use Rattle.lin_report.specs.Linearizable.{WasExhausted, KeepsTicks, IsLinearization}
+use Rattle.lin_report.specs.Linearizable.{WasExhausted, IsLinearization}
 use Rattle.lin_report.specs.Text.{reply_is_exhausted}
 use Rattle.report_check.specs.declared.orders.Named.{Named}
 use Rattle.report_check.specs.declared.verdicts.Verdict.{Verdict}
 use Rattle.report_check.specs.declared.verdicts.Verdict.TheVariants.{Legal}
-use Rattle.report_check.specs.Verdicts.{name_of, same_name, call_named, calls_named, ended_before, held_by, reason_with, reason_at, is_left_out, by_receipts, verdict_from, verdict}
+use Rattle.report_check.specs.Verdicts.{name_of, same_name, call_named, ended_before, held_by, reason_with, reason_at, is_left_out, by_receipts, verdict_from, verdict}
 use Rattle.report_check.specs.Judging.{CanJudge, ShowsLinearizable, IsFair}
 use Rattle.report_check.proofs.Names.{same_from_test, test_from_same, same_call}
 use Rattle.report_check.proofs.Pairs.{all_front, pairs_before}
@@ -27,7 +25,7 @@ use Rattle.report_check.proofs.Replies.{test_from_answers, ended_from_test, test
 use Rattle.report_check.proofs.Found.{named_again, all_named_again}
 use Rattle.report_check.proofs.LegalOrders.{legal_at}
 use Rattle.report_check.proofs.Judged.{goes_on}
-use Rattle.report_check.proofs.Law.{NoReason, reason_none, fails, shows_whole}
+use Rattle.report_check.proofs.Law.{reason_none, fails, shows_whole}
 
 -- the element behind a front
 behind : {X : Type 0} (P : X → Type 0) (xs : List X) (y : X) (ys : List X) → All P (xs ++ y ∷ ys) → P y
@@ -47,13 +45,13 @@ module _ (object : Object) (report : Report) (once : AllPairs (λ (c d : Call). 
       ap (λ (cs : List Call). reason_with object cs (map name_of xs) (name_of y) (call_named (calls_of report) (name_of y))) (all_named_again (calls_of report) once xs (all_front (Contains (calls_of report)) xs (y ∷ ys) shown.arrangement.known))
       ∙ ap (reason_with object xs (map name_of xs) (name_of y)) (named_again (calls_of report) once y (behind (Contains (calls_of report)) xs y ys shown.arrangement.known))
       ∙ reason_none y.answer (list_any (same_name (name_of y)) (map name_of xs)) (list_any (ended_before y.answer) xs) (object.apply y.op (held_by object xs)).1 (record {
-          effective = test_from_effective y.answer (behind (λ (d : Call). ¬ WasExhausted d) xs y ys shown.arrangement.effective);
-          fresh = no_name (name_of y) xs (λ k d lt. fails (same_name (name_of y) (name_of (get_or xs k d))) (λ e.
-              pairs_before (λ (a b : Call). ¬ IsSameCall a b) xs y ys shown.arrangement.once k d lt (same_call (get_or xs k d) y (sym (same_from_test (name_of y) (name_of (get_or xs k d)) e)))));
-          in_time = list_any_none (ended_before y.answer) xs (λ k d lt. fails (ended_before y.answer (get_or xs k d)) (λ e.
-              pairs_before (λ (a b : Call). ¬ EndedBefore b a) xs y ys shown.ticks k d lt (ended_from_test y.answer (get_or xs k d) e)));
-          answers = test_from_answers y.answer _ (legal_at object object.empty xs y ys shown.legal);
-        })
+        effective = test_from_effective y.answer (behind (λ (d : Call). ¬ WasExhausted d) xs y ys shown.arrangement.effective);
+        fresh = no_name (name_of y) xs (λ k d lt. fails (same_name (name_of y) (name_of (get_or xs k d))) (λ e.
+            pairs_before (λ (a b : Call). ¬ IsSameCall a b) xs y ys shown.arrangement.once k d lt (same_call (get_or xs k d) y (sym (same_from_test (name_of y) (name_of (get_or xs k d)) e)))));
+        in_time = list_any_none (ended_before y.answer) xs (λ k d lt. fails (ended_before y.answer (get_or xs k d)) (λ e.
+            pairs_before (λ (a b : Call). ¬ EndedBefore b a) xs y ys shown.ticks k d lt (ended_from_test y.answer (get_or xs k d) e)));
+        answers = test_from_answers y.answer _ (legal_at object object.empty xs y ys shown.legal);
+      })
 
   -- none is left out of a whole one
   none_left : (order : List Call) → All (λ (r : Receipt). r.reply ≢ Exhausted → Contains order (answered_call r)) report.receipts → list_any (is_left_out (map name_of order)) report.receipts ≡ false

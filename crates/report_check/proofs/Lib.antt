@@ -7,5 +7,9 @@ pub mod Steps
 pub mod Replies
 pub mod Found
 pub mod LegalOrders
+pub mod LineFields
+pub mod LineCommands
+pub mod LineReplies
+pub mod CallsOnLines
 pub mod Law
 pub mod LawBack

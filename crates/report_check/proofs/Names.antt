@@ -1,5 +1,5 @@
 -- Names that are the same, and their places.
-use Rattle.std.proofs.Common.{◌≡◌, ◌≢◌, ℕ, Bool, true, false, eqb, ap, ◌∙◌, arith}
+use Rattle.std.proofs.Common.{◌≡◌, ◌≢◌, ℕ, true, false, eqb, ap, ◌∙◌, arith}
 use Rattle.std.proofs.lemmas.Bool.{and_parts, and_from, eqb-true, eq-eqb}
 use Rattle.lin_report.specs.Calls.{Call, IsSameCall}
 use Rattle.report_check.specs.declared.orders.Named.{Named}

@@ -1,5 +1,5 @@
 -- What holds of each element, or of each two, of lists in a row.
-use Rattle.std.proofs.Common.{◌≡◌, ℕ, ◌+◌, ◌<◌, List, [], ◌∷◌, ◌++◌, length, get_or, map, All, AllPairs, sym, subst, arith, length-append}
+use Rattle.std.proofs.Common.{◌+◌, List, ◌∷◌, ◌++◌, length, get_or, map, All, AllPairs, subst, arith, length-append}
 use Rattle.std.proofs.Math.Seq.{get_or-append_seam}
 use Rattle.std.proofs.lemmas.List.{get_or_append_left, get_or-append-add, get_or-map, length-map}
 

@@ -1,10 +1,10 @@
 -- What the tests of answers say.
-use Rattle.std.proofs.Common.{◌≡◌, ◌≢◌, ℕ, ◌<◌, Bool, true, false, Option, Some, None, refl, sym, ap, subst}
+use Rattle.std.proofs.Common.{◌≡◌, ◌≢◌, ℕ, ◌<◌, true, false, Option, Some, None, refl, ap, subst}
 use Rattle.std.specs.Prelude.{IsSomeAnd}
 use Rattle.std.proofs.lemmas.Bool.{eqb-true, eq-eqb, ltb-true, lt-ltb, true≢false}
 use Rattle.lin_report.specs.declared.calls.Reply.{Reply}
 use Rattle.lin_report.specs.declared.calls.Reply.TheVariants.{Yes, No, Done, Value, Empty, Absent, Exhausted}
-use Rattle.lin_report.specs.Calls.{Call, EndedBefore}
+use Rattle.lin_report.specs.Calls.{Call}
 use Rattle.lin_report.specs.Linearizable.{IsExhausted, Answers}
 use Rattle.lin_report.specs.Text.{reply_is_exhausted, answer_is_exhausted}
 use Rattle.report_check.specs.Verdicts.{same_reply, may_be, ended_before}

@@ -1,5 +1,5 @@
 -- A judge's step from one entry of an order to the next, and its end.
-use Rattle.std.proofs.Common.{◌≡◌, ℕ, ◌+◌, ◌<◌, ◌≤◌, Bool, true, false, cond, Option, Some, None, List, [], ◌∷◌, ◌++◌, length, take, drop, get_or, All, IsTrue, IfSome, refl, sym, ap, subst, ◌∙◌, arith}
+use Rattle.std.proofs.Common.{◌≡◌, ℕ, ◌+◌, ◌<◌, Bool, true, false, cond, Option, Some, None, List, [], ◌∷◌, ◌++◌, length, take, drop, get_or, All, IsTrue, IfSome, sym, ap, subst, ◌∙◌, arith}
 use Rattle.std.specs.Option.{option_map}
 use Rattle.std.specs.List.{list_any}
 use Rattle.std.proofs.Math.ListN.{set}
@@ -10,8 +10,7 @@ use Rattle.lin_report.specs.Calls.{Call, Report, calls_of}
 use Rattle.report_check.specs.declared.orders.Named.{Named}
 use Rattle.report_check.specs.declared.table.Told.{Told}
 use Rattle.report_check.specs.declared.verdicts.Reason.{Reason}
-use Rattle.report_check.specs.declared.verdicts.Verdict.{Verdict}
-use Rattle.report_check.specs.declared.verdicts.Verdict.TheVariants.{Legal, NotLegal}
+use Rattle.report_check.specs.declared.verdicts.Verdict.TheVariants.{NotLegal}
 use Rattle.report_check.specs.Orders.{IsName}
 use Rattle.report_check.specs.Verdicts.{name_of, same_name, call_named, is_left_out, by_receipts, reason_at, verdict_from, verdict}
 use Rattle.report_check.specs.Tables.{place_of, told, told_reason, later, IsTableOf}
@@ -82,8 +81,8 @@ module _ (object : Object) (report : Report) where
       let kept = keep object report (take i order) marks latest held (get_or order i d) found.0 r.is found.1 r.kept in
       subst (λ (names : List Named). Kept object report names (set marks place true) latest' held') (sym (take_more order i d lt))
       (subst (λ k. Kept object report (take i order ++ get_or order i d ∷ []) (set marks k true) latest' held') (sym r.at)
-          (subst (λ n. Kept object report (take i order ++ get_or order i d ∷ []) (set marks (place_of (get_or order i d)) true) n held') (sym (latest_is ∙ ap (later latest) entry_told))
-              (subst (λ (h : object.Held). Kept object report (take i order ++ get_or order i d ∷ []) (set marks (place_of (get_or order i d)) true) (later latest (Some (told found.0))) h) (sym held_told) kept)))
+      (subst (λ n. Kept object report (take i order ++ get_or order i d ∷ []) (set marks (place_of (get_or order i d)) true) n held') (sym (latest_is ∙ ap (later latest) entry_told))
+      (subst (λ (h : object.Held). Kept object report (take i order ++ get_or order i d ∷ []) (set marks (place_of (get_or order i d)) true) (later latest (Some (told found.0))) h) (sym held_told) kept)))
 
   -- behind the last entry
   pub at_end : (order : List Named) (i place : ℕ) (left_out : Bool) → i ≡ length order → place ≡ i + 1 → left_out ≡ list_any (is_left_out order) report.receipts

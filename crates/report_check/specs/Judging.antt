@@ -1,7 +1,6 @@
 -- Which reports a judge is given, and what a verdict means.
 use Rattle.std.specs.Prelude.{◌≡◌, ◌↔◌, List, map, All, AllPairs, IsTrue}
-use Rattle.lin_report.specs.declared.calls.Client.{Client}
-use Rattle.lin_report.specs.Object.{Object, object_of}
+use Rattle.lin_report.specs.Object.{Object}
 use Rattle.lin_report.specs.Calls.{Call, Report, calls_of, IsSameCall}
 use Rattle.lin_report.specs.Linearizable.{IsLinearization}
 use Rattle.report_check.specs.declared.orders.Named.{Named}

@@ -2,3 +2,4 @@ pub mod Orders
 pub mod Verdicts
 pub mod Tables
 pub mod Judging
+pub mod CallLines

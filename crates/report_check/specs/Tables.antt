@@ -1,5 +1,5 @@
 -- What a judge keeps: of each call what it needs by its name, which names were passed, and the latest begin.
-use Rattle.std.specs.Prelude.{◌≡◌, ℕ, ◌+◌, ◌*◌, nat_lt, Bool, false, if◌then◌else◌, Option, Some, None, List, length, slice_index_or, IsTrue}
+use Rattle.std.specs.Prelude.{◌≡◌, ℕ, ◌+◌, ◌*◌, nat_lt, Bool, false, if◌then◌else◌, Option, Some, None, List, length, slice_index_or}
 use Rattle.std.specs.Option.{option_map}
 use Rattle.std.specs.List.{list_any}
 use Rattle.lin_report.specs.declared.calls.Reply.{Reply}

@@ -1,17 +1,15 @@
 -- What an order of calls is worth, told entry by entry: the first one at fault, and the first reason that applies to it.
-use Rattle.std.specs.Prelude.{ℕ, ◌+◌, ◌==◌, ◌&&◌, ◌||◌, not, nat_lt, Bool, true, false, if◌then◌else◌, Option, Some, None, List, [], ◌∷◌, ◌++◌, map, length}
+use Rattle.std.specs.Prelude.{ℕ, ◌+◌, ◌==◌, ◌&&◌, not, nat_lt, Bool, true, false, if◌then◌else◌, Option, Some, None, List, [], ◌∷◌, ◌++◌, map, length}
 use Rattle.std.specs.List.{list_any, filter_map}
-use Rattle.lin_report.specs.declared.calls.Client.{Client}
 use Rattle.lin_report.specs.declared.calls.Receipt.{Receipt}
 use Rattle.lin_report.specs.declared.calls.Reply.{Reply}
 use Rattle.lin_report.specs.declared.calls.Reply.TheVariants.{Yes, No, Done, Value, Empty, Absent, Exhausted}
-use Rattle.lin_report.specs.Object.{Object, object_of, held_after}
+use Rattle.lin_report.specs.Object.{Object, held_after}
 use Rattle.lin_report.specs.Calls.{Call, Report, answered_call, calls_of}
 use Rattle.lin_report.specs.Text.{reply_is_exhausted, answer_is_exhausted}
 use Rattle.report_check.specs.declared.orders.Named.{Named}
 use Rattle.report_check.specs.declared.verdicts.Reason.{Reason}
 use Rattle.report_check.specs.declared.verdicts.Reason.TheVariants.{NoSuchCall, NamedTwice, AgainstTicks, AnotherReply, LeftOut}
-use Rattle.report_check.specs.declared.verdicts.Objection.{Objection}
 use Rattle.report_check.specs.declared.verdicts.Verdict.{Verdict}
 use Rattle.report_check.specs.declared.verdicts.Verdict.TheVariants.{Legal, NotLegal}
 

@@ -98,13 +98,7 @@ pub fn judge(
     ensures fair { IfOk result (λ v. IsFair (object_of client) (report_of receipts.now pending.now) order.now v) }
 {
     match client {
-        Client::Queue => judge_by(
-            alloc,
-            &mut FifoObject::new(alloc),
-            receipts,
-            pending,
-            order,
-        ),
+        Client::Queue => judge_by(alloc, &mut FifoObject::new(alloc), receipts, pending, order),
         Client::List | Client::Buckets => judge_by(
             alloc,
             &mut SetObject::new(alloc),

@@ -21,7 +21,7 @@ const MAX_KEY: u32 = 1_048_575;
 
 /// The numbers that follow the word of a command.
 #[derive(Clone, Copy)]
-enum Numbers {
+pub enum Numbers {
     NoNumber,
     OneValue,
     OneKey,
@@ -61,7 +61,7 @@ fn map_command(word: &[u8]) -> Option<(u8, Numbers)>
 }
 
 /// The command that a word names, and the numbers that it takes.
-fn command_named(client: Client, word: &[u8]) -> Option<(u8, Numbers)>
+pub fn command_named(client: Client, word: &[u8]) -> Option<(u8, Numbers)>
     ensures { result ≡ command_named client word.now }
 {
     match client {

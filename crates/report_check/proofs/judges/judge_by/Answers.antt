@@ -1,4 +1,4 @@
-use Rattle.std.proofs.Common.{◌≡◌, ◌+◌, ◌∙◌, ◌<◌, List, Some, None, false, map, length, take, get_or, sym, refl, subst, arith}
+use Rattle.std.proofs.Common.{◌≡◌, ◌+◌, ◌∙◌, List, None, false, map, take, get_or, sym, refl, subst, arith}
 use Rattle.std.proofs.lemmas.Bool.{le-ltb}
 use Rattle.std.proofs.lemmas.List.{get_or_read, take_all}
 use Rattle.lin_report.specs.Calls.{Call, answered_call, pending_call, report_of}
@@ -28,9 +28,9 @@ loop-name-init g c = record {
 pub reason_for-requires : goal.reason_for-requires
 reason_for-requires g c = record {
   served =
-    entry_served g.S.Sequential.object (report_of c.args.receipts.now c.args.pending.now) c.in_ok-table.table.items c.index-told.result.now c.place_of-at.result _
-    c.in_ok-table.ensures c.requires.report.served (c.requires.names c.loop-name.name-index _ (omega arith)) c.place_of-at.ensures.place
-    (get_or_read c.in_ok-table.table.items c.place_of-at.result c.index-told.result.now (omega (arith, c.in_ok-table.ensures.long, c.place_of-at.ensures.within)) c.index-told.ensures None);
+      entry_served g.S.Sequential.object (report_of c.args.receipts.now c.args.pending.now) c.in_ok-table.table.items c.index-told.result.now c.place_of-at.result _
+      c.in_ok-table.ensures c.requires.report.served (c.requires.names c.loop-name.name-index _ (omega arith)) c.place_of-at.ensures.place
+      (get_or_read c.in_ok-table.table.items c.place_of-at.result c.index-told.result.now (omega (arith, c.in_ok-table.ensures.long, c.place_of-at.ensures.within)) c.index-told.ensures None);
 }
 
 pub returns-in-Some : goal.returns-in-Some
@@ -62,7 +62,7 @@ loop-name-preserved g c =
     record {
       counted = omega (arith, c.loop-name.invariant.counted);
       kept = kept_next g.S.Sequential.object report c.args.order.now c.loop-name.name-index no_name c.later-latest.result (g.S.Sequential.held c.reason_for.new.object) (omega arith) reads none
-        (c.in_ok-reason.ensures.holds c.in_default.is) c.later-latest.ensures;
+          (c.in_ok-reason.ensures.holds c.in_default.is) c.later-latest.ensures;
       rest = rest_next g.S.Sequential.object report c.args.order.now c.loop-name.name-index no_name (omega arith) none c.loop-name.invariant.rest;
     }
 

@@ -1,4 +1,4 @@
-use Rattle.std.proofs.Common.{◌++◌, map, length, take, List, ◌∙◌, subst, arith}
+use Rattle.std.proofs.Common.{◌++◌, map, List, ◌∙◌, subst, arith}
 use Rattle.std.proofs.Math.ListN.{length-set}
 use Rattle.std.proofs.lemmas.List.{take_all}
 use Rattle.lin_report.specs.declared.calls.Receipt.{Receipt}
@@ -11,8 +11,8 @@ pub loop-receipt-preserved : goal.loop-receipt-preserved
 loop-receipt-preserved c = record {
   long = length-set c.loop-receipt.table.items c.place_of.result _ ∙ c.loop-receipt.invariant.long;
   so_far = λ calls start apart.
-    put_at answered_call calls c.args.receipts.now c.loop-receipt.receipt-index _ c.loop-receipt.table.items c.place_of.result (omega arith)
-    (c.requires.names c.loop-receipt.receipt-index _ (omega arith)) c.place_of.ensures.place apart (c.loop-receipt.invariant.so_far calls start apart);
+      put_at answered_call calls c.args.receipts.now c.loop-receipt.receipt-index _ c.loop-receipt.table.items c.place_of.result (omega arith)
+      (c.requires.names c.loop-receipt.receipt-index _ (omega arith)) c.place_of.ensures.place apart (c.loop-receipt.invariant.so_far calls start apart);
 }
 
 pub returns-clause-stand : goal.returns-clause-stand

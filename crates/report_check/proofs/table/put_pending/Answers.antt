@@ -1,4 +1,4 @@
-use Rattle.std.proofs.Common.{◌++◌, map, length, take, List, ◌∙◌, subst, arith}
+use Rattle.std.proofs.Common.{◌++◌, map, List, ◌∙◌, subst, arith}
 use Rattle.std.proofs.Math.ListN.{length-set}
 use Rattle.std.proofs.lemmas.List.{take_all}
 use Rattle.lin_report.specs.declared.calls.PendingCall.{PendingCall}
@@ -11,8 +11,8 @@ pub loop-call-preserved : goal.loop-call-preserved
 loop-call-preserved c = record {
   long = length-set c.loop-call.table.items c.place_of.result _ ∙ c.loop-call.invariant.long;
   so_far = λ calls start apart.
-    put_at pending_call calls c.args.pending.now c.loop-call.call-index _ c.loop-call.table.items c.place_of.result (omega arith)
-    (c.requires.names c.loop-call.call-index _ (omega arith)) c.place_of.ensures.place apart (c.loop-call.invariant.so_far calls start apart);
+      put_at pending_call calls c.args.pending.now c.loop-call.call-index _ c.loop-call.table.items c.place_of.result (omega arith)
+      (c.requires.names c.loop-call.call-index _ (omega arith)) c.place_of.ensures.place apart (c.loop-call.invariant.so_far calls start apart);
 }
 
 pub returns-clause-stand : goal.returns-clause-stand
