@@ -21,7 +21,7 @@ use Rattle.script_reader.specs.Schedules.{STEP_LIMIT, is_span, steps_of, span_na
 use Rattle.script_reader.specs.Scripts.{GREATEST_KEY, GREATEST_VALUE, queue_command, set_command, map_command, command_named, op_of, op_from_words, command_from, command_of}
 
 -- the numbers of an operation are those that its command takes
-abbrev TakesNumbers : Numbers → Op → Type 0
+abbrev pub TakesNumbers : Numbers → Op → Type 0
 TakesNumbers NoNumber op = (op.key ≡ 0) × (op.value ≡ 0)
 TakesNumbers OneValue op = op.key ≡ 0
 TakesNumbers OneKey op = (op.key < 1048576) × (op.value ≡ 0)
@@ -72,7 +72,7 @@ takes_numbers code KeyAndValue (key ∷ value ∷ []) op e =
 takes_numbers code KeyAndValue (key ∷ value ∷ word ∷ words) op e = absurd cc
 
 -- the command that a word names takes the numbers of a command of the client
-abbrev Names : Client → Option (ℕ × Numbers) → Type 0
+abbrev pub Names : Client → Option (ℕ × Numbers) → Type 0
 Names client None = Unit {0}
 Names client (Some command) = (op : Op) → op.code ≡ command.0 → TakesNumbers command.1 op → is_command client op ≡ true
 
@@ -102,7 +102,7 @@ map_names word = by_tests (bytes_eq word (codes "set")) (bytes_eq word (codes "r
     by_tests false false true = λ op code numbers. grind (arith, nat_tests)
     by_tests false false false = tt
 
-names : (client : Client) (word : List ℕ) → Names client (command_named client word)
+pub names : (client : Client) (word : List ℕ) → Names client (command_named client word)
 names client.Queue word = queue_names word
 names client.List word = set_names word
 names client.Buckets word = set_names word

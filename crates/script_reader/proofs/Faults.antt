@@ -8,7 +8,7 @@ use Rattle.script_reader.specs.declared.causes.Cause.{Cause}
 use Rattle.script_reader.specs.declared.causes.Cause.TheVariants.{LineTooLong, TooManyLines, FileTooLong}
 use Rattle.script_reader.specs.declared.causes.Refusal.{Refusal}
 use Rattle.script_reader.specs.Words.{lines_of, words_of}
-use Rattle.script_reader.specs.Outcomes.{FILE_LIMIT, LINE_LIMIT, some_entry, words_outcome, line_outcome, entry_first, after_line, lines_outcome, file_outcome}
+use Rattle.script_reader.specs.Outcomes.{LINE_LIMIT, some_entry, words_outcome, line_outcome, entry_first, after_line, lines_outcome, outcome_within}
 use Rattle.script_reader.specs.Faults.{has_words, line_fault, entry_from_words, entry_in, IsAccepted, IsFirstFault, IsRefused}
 
 module _ {X : Type 0} (entry : List (List ℕ) → Result X Cause) (limit : ℕ) where
@@ -156,8 +156,8 @@ module _ {X : Type 0} (entry : List (List ℕ) → Result X Cause) (limit : ℕ)
       ∙ ap (λ n. result_err (line_outcome entry limit n (get_or lines k []))) (sym (zero-add (count_by has_words (take k lines))))
 
   -- what the outcome of a file says of its lines
-  Accepts-told : (bytes : List ℕ) (xs : List X) → length bytes ≤ FILE_LIMIT → Accepts 0 (lines_of bytes) xs → IsAccepted entry limit bytes xs
-  Accepts-told bytes xs short a = record {
+  Accepts-told : (most : ℕ) (bytes : List ℕ) (xs : List X) → length bytes ≤ most → Accepts 0 (lines_of bytes) xs → IsAccepted most entry limit bytes xs
+  Accepts-told most bytes xs short a = record {
     short = short;
     faultless = λ number some. told (lines_of bytes) number (number - 1) (omega arith) ∙ a.0 (number - 1);
     in_order = a.1;
@@ -214,24 +214,24 @@ module _ {X : Type 0} (entry : List (List ℕ) → Result X Cause) (limit : ℕ)
   outcome_by bytes b = cond b (Err (record { line = 0; cause = FileTooLong })) (lines_outcome entry limit 1 0 (lines_of bytes))
 
   -- a file is accepted with these entries exactly where they are its outcome
-  pub accepted : (bytes : List ℕ) (xs : List X) → IsAccepted entry limit bytes xs ↔ (file_outcome entry limit bytes ≡ Ok xs)
-  accepted bytes xs = (only, by_len (ltb FILE_LIMIT (length bytes)) refl)
+  pub accepted : (most : ℕ) (bytes : List ℕ) (xs : List X) → IsAccepted most entry limit bytes xs ↔ (outcome_within most entry limit bytes ≡ Ok xs)
+  accepted most bytes xs = (only, by_len (ltb most (length bytes)) refl)
     where
-      only : IsAccepted entry limit bytes xs → file_outcome entry limit bytes ≡ Ok xs
-      only a = subst (λ b. outcome_by bytes b ≡ Ok xs) (sym (le-ltb FILE_LIMIT (length bytes) a.short)) (Accepts-only (lines_of bytes) xs a.faultless a.in_order)
+      only : IsAccepted most entry limit bytes xs → outcome_within most entry limit bytes ≡ Ok xs
+      only a = subst (λ b. outcome_by bytes b ≡ Ok xs) (sym (le-ltb most (length bytes) a.short)) (Accepts-only (lines_of bytes) xs a.faultless a.in_order)
 
-      by_len : (b : Bool) → ltb FILE_LIMIT (length bytes) ≡ b → outcome_by bytes b ≡ Ok xs → IsAccepted entry limit bytes xs
+      by_len : (b : Bool) → ltb most (length bytes) ≡ b → outcome_by bytes b ≡ Ok xs → IsAccepted most entry limit bytes xs
       by_len true e h = absurd cc
-      by_len false e h = Accepts-told bytes xs (ltb-false FILE_LIMIT (length bytes) e) (lines_accept 1 0 (lines_of bytes) xs h)
+      by_len false e h = Accepts-told most bytes xs (ltb-false most (length bytes) e) (lines_accept 1 0 (lines_of bytes) xs h)
 
   -- and it is refused so exactly where that is its outcome
-  pub refused : (bytes : List ℕ) (refusal : Refusal) → IsRefused entry limit bytes refusal ↔ (file_outcome entry limit bytes ≡ Err refusal)
-  refused bytes refusal = (only, by_len (ltb FILE_LIMIT (length bytes)) refl)
+  pub refused : (most : ℕ) (bytes : List ℕ) (refusal : Refusal) → IsRefused most entry limit bytes refusal ↔ (outcome_within most entry limit bytes ≡ Err refusal)
+  refused most bytes refusal = (only, by_len (ltb most (length bytes)) refl)
     where
-      only : IsRefused entry limit bytes refusal → file_outcome entry limit bytes ≡ Err refusal
-      only (inl long) = subst (λ b. outcome_by bytes b ≡ Err refusal) (sym (lt-ltb FILE_LIMIT (length bytes) long.0)) (ap (λ (r : Refusal). Err r) (sym long.1))
-      only (inr short) = subst (λ b. outcome_by bytes b ≡ Err refusal) (sym (le-ltb FILE_LIMIT (length bytes) short.0)) (Refuses-only (lines_of bytes) refusal short.1)
+      only : IsRefused most entry limit bytes refusal → outcome_within most entry limit bytes ≡ Err refusal
+      only (inl long) = subst (λ b. outcome_by bytes b ≡ Err refusal) (sym (lt-ltb most (length bytes) long.0)) (ap (λ (r : Refusal). Err r) (sym long.1))
+      only (inr short) = subst (λ b. outcome_by bytes b ≡ Err refusal) (sym (le-ltb most (length bytes) short.0)) (Refuses-only (lines_of bytes) refusal short.1)
 
-      by_len : (b : Bool) → ltb FILE_LIMIT (length bytes) ≡ b → outcome_by bytes b ≡ Err refusal → IsRefused entry limit bytes refusal
-      by_len true e h = inl (ltb-true FILE_LIMIT (length bytes) e, cc)
-      by_len false e h = inr (ltb-false FILE_LIMIT (length bytes) e, Refuses-told (lines_of bytes) refusal (lines_refuse 1 0 (lines_of bytes) refusal h))
+      by_len : (b : Bool) → ltb most (length bytes) ≡ b → outcome_by bytes b ≡ Err refusal → IsRefused most entry limit bytes refusal
+      by_len true e h = inl (ltb-true most (length bytes) e, cc)
+      by_len false e h = inr (ltb-false most (length bytes) e, Refuses-told (lines_of bytes) refusal (lines_refuse 1 0 (lines_of bytes) refusal h))

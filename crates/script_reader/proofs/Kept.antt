@@ -6,7 +6,7 @@ use Rattle.script_reader.specs.declared.causes.Cause.{Cause}
 use Rattle.script_reader.specs.declared.causes.Cause.TheVariants.{LineTooLong, TooManyLines, FileTooLong}
 use Rattle.script_reader.specs.declared.causes.Refusal.{Refusal}
 use Rattle.script_reader.specs.Words.{lines_of, words_of}
-use Rattle.script_reader.specs.Outcomes.{FILE_LIMIT, LINE_LIMIT, some_entry, words_outcome, line_outcome, entry_first, after_line, lines_outcome, file_outcome}
+use Rattle.script_reader.specs.Outcomes.{LINE_LIMIT, some_entry, words_outcome, line_outcome, entry_first, after_line, lines_outcome, outcome_within}
 
 module _ {X : Type 0} (entry : List (List ℕ) → Result X Cause) (limit : ℕ) (P : X → Type 0) (each : (words : List (List ℕ)) (x : X) → entry words ≡ Ok x → P x) where
   -- a line that gives an entry
@@ -51,8 +51,8 @@ module _ {X : Type 0} (entry : List (List ℕ) → Result X Cause) (limit : ℕ)
       by_line keep (Err cause) h e = absurd cc
 
   -- the same of a file
-  pub file_keeps : (bytes : List ℕ) (xs : List X) → file_outcome entry limit bytes ≡ Ok xs → AllByRecursion P xs × (length xs ≤ limit)
-  file_keeps bytes xs e = by_len (ltb FILE_LIMIT (length bytes)) e
+  pub file_keeps : (most : ℕ) (bytes : List ℕ) (xs : List X) → outcome_within most entry limit bytes ≡ Ok xs → AllByRecursion P xs × (length xs ≤ limit)
+  file_keeps most bytes xs e = by_len (ltb most (length bytes)) e
     where
       by_len : (b : Bool) → cond b (Err (record { line = 0; cause = FileTooLong })) (lines_outcome entry limit 1 0 (lines_of bytes)) ≡ Ok xs → AllByRecursion P xs × (length xs ≤ limit)
       by_len true e = absurd cc

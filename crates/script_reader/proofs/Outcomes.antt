@@ -9,7 +9,7 @@ use Rattle.lin_report.specs.Commands.{is_command}
 use Rattle.script_reader.specs.declared.causes.Refusal.{Refusal}
 use Rattle.script_reader.specs.declared.causes.ScriptFault.{ScriptFault}
 use Rattle.script_reader.specs.declared.schedules.ScheduleEntry.{ScheduleEntry}
-use Rattle.script_reader.specs.Outcomes.{ReadsAs}
+use Rattle.script_reader.specs.Outcomes.{FILE_LIMIT, ReadsAs}
 use Rattle.script_reader.specs.Faults.{IsOutcomeOf}
 use Rattle.script_reader.specs.Scripts.{COMMAND_LIMIT, GREATEST_VALUE, command_of, script_outcome}
 use Rattle.script_reader.specs.Schedules.{ENTRY_LIMIT, entry_of, IsSpanInRange, schedule_outcome}
@@ -17,25 +17,25 @@ use Rattle.script_reader.proofs.Faults.{accepted, refused}
 use Rattle.script_reader.proofs.Kept.{file_keeps}
 use Rattle.script_reader.proofs.Entries.{command_is, command_value, entry_is}
 
-pub script_lines : (client : Client) (bytes : List ℕ) → IsOutcomeOf (command_of client) COMMAND_LIMIT bytes (script_outcome client bytes)
+pub script_lines : (client : Client) (bytes : List ℕ) → IsOutcomeOf FILE_LIMIT (command_of client) COMMAND_LIMIT bytes (script_outcome client bytes)
 unfolding script_outcome
-script_lines client bytes = record { accepted = accepted (command_of client) COMMAND_LIMIT bytes; refused = refused (command_of client) COMMAND_LIMIT bytes }
+script_lines client bytes = record { accepted = accepted (command_of client) COMMAND_LIMIT FILE_LIMIT bytes; refused = refused (command_of client) COMMAND_LIMIT FILE_LIMIT bytes }
 
 pub script_commands : (client : Client) (bytes : List ℕ) (ops : List Op) → script_outcome client bytes ≡ Ok ops → All (λ op. IsTrue (is_command client op)) ops × (length ops ≤ COMMAND_LIMIT)
 unfolding script_outcome
 script_commands client bytes ops e =
-    let kept = file_keeps (command_of client) COMMAND_LIMIT (λ op. IsTrue (is_command client op)) (command_is client) bytes ops e in
+    let kept = file_keeps (command_of client) COMMAND_LIMIT (λ op. IsTrue (is_command client op)) (command_is client) FILE_LIMIT bytes ops e in
     (All-from_recursion (λ op. IsTrue (is_command client op)) ops kept.0, kept.1)
 
 pub script_values : (client : Client) (bytes : List ℕ) (ops : List Op) → script_outcome client bytes ≡ Ok ops → All (λ (op : Op). op.value ≤ GREATEST_VALUE) ops
 unfolding script_outcome
 script_values client bytes ops e =
-    let kept = file_keeps (command_of client) COMMAND_LIMIT (λ op. op.value ≤ GREATEST_VALUE) (command_value client) bytes ops e in
+    let kept = file_keeps (command_of client) COMMAND_LIMIT (λ op. op.value ≤ GREATEST_VALUE) (command_value client) FILE_LIMIT bytes ops e in
     All-from_recursion (λ op. op.value ≤ GREATEST_VALUE) ops kept.0
 
-pub schedule_lines : (seats : ℕ) (bytes : List ℕ) → IsOutcomeOf (entry_of seats) ENTRY_LIMIT bytes (schedule_outcome seats bytes)
+pub schedule_lines : (seats : ℕ) (bytes : List ℕ) → IsOutcomeOf FILE_LIMIT (entry_of seats) ENTRY_LIMIT bytes (schedule_outcome seats bytes)
 unfolding schedule_outcome
-schedule_lines seats bytes = record { accepted = accepted (entry_of seats) ENTRY_LIMIT bytes; refused = refused (entry_of seats) ENTRY_LIMIT bytes }
+schedule_lines seats bytes = record { accepted = accepted (entry_of seats) ENTRY_LIMIT FILE_LIMIT bytes; refused = refused (entry_of seats) ENTRY_LIMIT FILE_LIMIT bytes }
 
 -- an entry as callers know it
 abbrev IsEntry : ℕ → ScheduleEntry → Type 0
@@ -45,7 +45,7 @@ pub schedule_entries : (seats : ℕ) (bytes : List ℕ) (entries : List Schedule
     → All (λ (entry : ScheduleEntry). entry.seat < seats) entries × All (λ (entry : ScheduleEntry). IsSpanInRange entry.span) entries × (length entries ≤ ENTRY_LIMIT)
 unfolding schedule_outcome
 schedule_entries seats bytes entries e =
-    let kept = file_keeps (entry_of seats) ENTRY_LIMIT (IsEntry seats) (entry_is seats) bytes entries e in
+    let kept = file_keeps (entry_of seats) ENTRY_LIMIT (IsEntry seats) (entry_is seats) FILE_LIMIT bytes entries e in
     let each : All (IsEntry seats) entries = All-from_recursion (IsEntry seats) entries kept.0 in (
       All-weaker (IsEntry seats) (λ (entry : ScheduleEntry). entry.seat < seats) (λ entry h. h.0) entries each,
       All-weaker (IsEntry seats) (λ (entry : ScheduleEntry). IsSpanInRange entry.span) (λ entry h. h.1) entries each,

@@ -7,7 +7,7 @@ use Rattle.script_reader.specs.declared.causes.Cause.{Cause}
 use Rattle.script_reader.specs.declared.causes.Cause.TheVariants.{FileTooLong}
 use Rattle.script_reader.specs.declared.causes.Refusal.{Refusal}
 use Rattle.script_reader.specs.Words.{lines_of, words_of}
-use Rattle.script_reader.specs.Outcomes.{FILE_LIMIT, line_outcome}
+use Rattle.script_reader.specs.Outcomes.{line_outcome}
 
 abbrev pub has_words : List ℕ → Bool
 has_words line = nat_lt 0 (length (words_of line))
@@ -26,8 +26,8 @@ abbrev pub entry_in : {X : Type 0} → (List (List ℕ) → Result X Cause) → 
 entry_in entry line = entry_from_words entry (words_of line)
 
 -- the file is short enough, no line is at fault, and these are the entries of its lines with words, in order
-pub record IsAccepted {X : Type 0} (entry : List (List ℕ) → Result X Cause) (limit : ℕ) (bytes : List ℕ) (entries : List X) : Type 0 where
-  pub short : length bytes ≤ FILE_LIMIT
+pub record IsAccepted {X : Type 0} (most : ℕ) (entry : List (List ℕ) → Result X Cause) (limit : ℕ) (bytes : List ℕ) (entries : List X) : Type 0 where
+  pub short : length bytes ≤ most
   pub faultless : (number : ℕ) → 0 < number → line_fault entry limit (lines_of bytes) number ≡ None
   pub in_order : entries ≡ filter_map (entry_in entry) (lines_of bytes)
 
@@ -38,12 +38,12 @@ pub record IsFirstFault {X : Type 0} (entry : List (List ℕ) → Result X Cause
   pub first : (number : ℕ) → 0 < number → number < refusal.line → line_fault entry limit lines number ≡ None
 
 -- the file is too long, which is told of line 0, or this is its first line at fault
-abbrev pub IsRefused : {X : Type 0} → (List (List ℕ) → Result X Cause) → ℕ → List ℕ → Refusal → Type 0
-IsRefused entry limit bytes refusal =
-    ((FILE_LIMIT < length bytes) × (refusal ≡ record { line = 0; cause = FileTooLong }))
-    ⊎ ((length bytes ≤ FILE_LIMIT) × IsFirstFault entry limit (lines_of bytes) refusal)
+abbrev pub IsRefused : {X : Type 0} → ℕ → (List (List ℕ) → Result X Cause) → ℕ → List ℕ → Refusal → Type 0
+IsRefused most entry limit bytes refusal =
+    ((most < length bytes) × (refusal ≡ record { line = 0; cause = FileTooLong }))
+    ⊎ ((length bytes ≤ most) × IsFirstFault entry limit (lines_of bytes) refusal)
 
 -- an outcome is what the single lines say, in both directions
-pub record IsOutcomeOf {X : Type 0} (entry : List (List ℕ) → Result X Cause) (limit : ℕ) (bytes : List ℕ) (outcome : Result (List X) Refusal) : Type 0 where
-  pub accepted : (entries : List X) → IsAccepted entry limit bytes entries ↔ (outcome ≡ Ok entries)
-  pub refused : (refusal : Refusal) → IsRefused entry limit bytes refusal ↔ (outcome ≡ Err refusal)
+pub record IsOutcomeOf {X : Type 0} (most : ℕ) (entry : List (List ℕ) → Result X Cause) (limit : ℕ) (bytes : List ℕ) (outcome : Result (List X) Refusal) : Type 0 where
+  pub accepted : (entries : List X) → IsAccepted most entry limit bytes entries ↔ (outcome ≡ Ok entries)
+  pub refused : (refusal : Refusal) → IsRefused most entry limit bytes refusal ↔ (outcome ≡ Err refusal)

@@ -1,5 +1,5 @@
--- What a file of lines is, by the rules for lines: its entries in order, or the first line at fault. Command
--- files and schedules differ in what the words of a line may be, and in how many lines may have words.
+-- What a file of lines is, by the rules for lines: its entries in order, or the first line at fault. The kinds of
+-- files differ in what the words of a line may be, in how many lines may have words, and in how many bytes there may be.
 use Rattle.std.specs.Prelude.{◌≡◌, ℕ, ◌+◌, nat_lt, if◌then◌else◌, List, [], ◌∷◌, length, Option, Some, None, Result, Ok, Err}
 use Rattle.std.specs.Global.{Vec}
 use Rattle.script_reader.specs.declared.causes.Cause.{Cause}
@@ -9,7 +9,7 @@ use Rattle.script_reader.specs.declared.causes.ScriptFault.{ScriptFault}
 use Rattle.script_reader.specs.declared.causes.ScriptFault.TheVariants.{Refused, NoMemory}
 use Rattle.script_reader.specs.Words.{lines_of, words_of}
 
--- bytes of a file, and of a line without its newline
+-- bytes of a command file or a schedule, and of a line without its newline
 abbrev pub FILE_LIMIT : ℕ
 FILE_LIMIT = 1048576
 
@@ -59,12 +59,16 @@ lines_outcome entry limit number before [] = Ok []
 lines_outcome entry limit number before (line ∷ lines) =
     after_line number before (line_outcome entry limit before line) (λ n. lines_outcome entry limit (number + 1) n lines)
 
--- a file: too long, before its lines are looked at, or what its lines are, counted from 1
-abbrev pub file_outcome : {X : Type 0} → (List (List ℕ) → Result X Cause) → ℕ → List ℕ → Result (List X) Refusal
-file_outcome entry limit bytes =
-    if nat_lt FILE_LIMIT (length bytes)
+-- a file of at most so many bytes: too long, before its lines are looked at, or what its lines are, counted from 1
+abbrev pub outcome_within : {X : Type 0} → ℕ → (List (List ℕ) → Result X Cause) → ℕ → List ℕ → Result (List X) Refusal
+outcome_within most entry limit bytes =
+    if nat_lt most (length bytes)
     then Err (record { line = 0; cause = FileTooLong })
     else lines_outcome entry limit 1 0 (lines_of bytes)
+
+-- a command file or a schedule
+abbrev pub file_outcome : {X : Type 0} → (List (List ℕ) → Result X Cause) → ℕ → List ℕ → Result (List X) Refusal
+file_outcome entry limit bytes = outcome_within FILE_LIMIT entry limit bytes
 
 -- what a reader answers is what the file is, unless memory ran out
 abbrev pub ReadsAs : {X : Type 0} → Result (Vec X) ScriptFault → Result (List X) Refusal → Type 0

@@ -1,8 +1,8 @@
-//! What command files and schedules have in common: their lines, judged in order.
-ghost use Rattle.std.specs.Prelude.{◌≡◌, ◌<◌, ◌≤◌, ◌∷◌, ℕ, List, Result, length};
+//! What command files, schedules and other files of words have in common: their lines, judged in order.
+ghost use Rattle.std.specs.Prelude.{◌≡◌, ◌<◌, ◌≤◌, ◌^◌, ◌∷◌, ℕ, List, Result, length};
 ghost use Rattle.std.specs.List.{position_or_len};
 ghost use Rattle.script_reader.specs.Words.{is_newline, lines_of};
-ghost use Rattle.script_reader.specs.Outcomes.{FILE_LIMIT, line_outcome, lines_outcome, file_outcome, ReadsAs};
+ghost use Rattle.script_reader.specs.Outcomes.{line_outcome, lines_outcome, outcome_within, ReadsAs};
 
 use crate::causes::{Cause, Refusal, ScriptFault};
 use crate::words::{Words, words_in};
@@ -22,15 +22,21 @@ pub trait Grammar {
     /// How many lines may have words.
     ghost limit: { ℕ };
 
+    /// How many bytes a file may have.
+    ghost most: { ℕ };
+
     fn limit(&self) -> usize
         ensures { result ≡ limit };
+
+    fn max_bytes(&self) -> u32
+        ensures { result ≡ most };
 
     fn entry(&self, words: Words<'_>) -> Result<Self::Entry, Cause>
         ensures { (list : List (List ℕ)) → AreWords words.entry list → result ≡ entry_of self.now list };
 }
 
-/// The most bytes of a file.
-const MAX_BYTES: usize = 1_048_576;
+/// The most bytes of a command file or a schedule.
+pub const MAX_BYTES: u32 = 1_048_576;
 /// The most bytes of a line, without its newline.
 const MAX_LINE: usize = 64;
 
@@ -83,7 +89,7 @@ fn read_lines<G: Grammar>(
     grammar: &G,
     bytes: &[u8],
 ) -> Result<Vec<G::Entry>, ScriptFault>
-    requires { length bytes.now ≤ FILE_LIMIT }
+    requires { length bytes.now < 2 ^ 32 }
     ensures { ReadsAs result (lines_outcome (G.entry_of grammar.now) G.limit 1 0 (lines_of bytes.now)) }
 {
     let mut entries = Vec::new(alloc);
@@ -111,9 +117,9 @@ pub fn read_file<G: Grammar>(
     grammar: &G,
     bytes: &[u8],
 ) -> Result<Vec<G::Entry>, ScriptFault>
-    ensures { ReadsAs result (file_outcome (G.entry_of grammar.now) G.limit bytes.now) }
+    ensures { ReadsAs result (outcome_within G.most (G.entry_of grammar.now) G.limit bytes.now) }
 {
-    if bytes.len() > MAX_BYTES {
+    if bytes.len() > grammar.max_bytes() as usize {
         return Err(ScriptFault::Refused(Refusal {
             line: 0,
             cause: Cause::FileTooLong,

@@ -7,10 +7,10 @@ pub use schedules::{ScheduleEntry, Span, read_schedule};
 pub use scripts::read_script;
 
 pub mod causes;
-mod grammar;
+pub mod grammar;
 pub mod numbers;
 pub mod schedules;
 pub mod scripts;
 #[cfg(test)]
 mod tests;
-mod words;
+pub mod words;

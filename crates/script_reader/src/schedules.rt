@@ -1,11 +1,11 @@
 //! Schedules: one entry a line, a seat and how far it goes.
 ghost use Rattle.std.specs.Prelude.{◌≡◌, ◌≤◌, ◌<◌, All, IfOk, vec_len};
-ghost use Rattle.script_reader.specs.Outcomes.{ReadsAs};
+ghost use Rattle.script_reader.specs.Outcomes.{FILE_LIMIT, ReadsAs};
 ghost use Rattle.script_reader.specs.Schedules.{span_of, seat_of, entry_from, entry_of, ENTRY_LIMIT, IsSpanInRange, schedule_outcome};
 ghost use Rattle.script_reader.specs.Faults.{IsOutcomeOf};
 
 use crate::causes::{Cause, ScriptFault};
-use crate::grammar::{Grammar, read_file};
+use crate::grammar::{Grammar, MAX_BYTES, read_file};
 use crate::numbers::{is_number, number_up_to};
 use crate::words::Words;
 use std::alloc::Global;
@@ -49,7 +49,7 @@ fn span_of(word: &[u8]) -> Result<Span, Cause>
 }
 
 /// The seat that a word names, where there are so many.
-fn seat_of(seats: u32, word: &[u8]) -> Result<u32, Cause>
+pub fn seat_of(seats: u32, word: &[u8]) -> Result<u32, Cause>
     requires { 1 ≤ seats }
     ensures { result ≡ seat_of seats word.now }
 {
@@ -85,8 +85,14 @@ impl Grammar for Entries {
 
     ghost limit = { ENTRY_LIMIT };
 
+    ghost most = { FILE_LIMIT };
+
     fn limit(&self) -> usize {
         MAX_ENTRIES
+    }
+
+    fn max_bytes(&self) -> u32 {
+        MAX_BYTES
     }
 
     fn entry(&self, words: Words<'_>) -> Result<ScheduleEntry, Cause> {
@@ -108,7 +114,7 @@ pub fn read_schedule(
     ensures outcome { ReadsAs result (schedule_outcome seats bytes.now) }
 
     // The outcome, told of single lines: none is at fault, or the refusal names the first that is.
-    ensures lines { IsOutcomeOf (entry_of seats) ENTRY_LIMIT bytes.now (schedule_outcome seats bytes.now) }
+    ensures lines { IsOutcomeOf FILE_LIMIT (entry_of seats) ENTRY_LIMIT bytes.now (schedule_outcome seats bytes.now) }
     ensures seats { IfOk result (λ v. All (λ entry. entry.seat < seats) v.items) }
     ensures spans { IfOk result (λ v. All (λ entry. IsSpanInRange entry.span) v.items) }
     ensures count { IfOk result (λ v. vec_len v ≤ ENTRY_LIMIT) }

@@ -2,12 +2,12 @@
 ghost use Rattle.std.specs.Prelude.{◌≡◌, ◌≤◌, ◌∷◌, ℕ, List, All, IsTrue, IfOk, vec_len};
 ghost use Rattle.lin_report.specs.Commands.{is_command};
 ghost use Rattle.script_reader.specs.WordList.{AreWords};
-ghost use Rattle.script_reader.specs.Outcomes.{ReadsAs};
+ghost use Rattle.script_reader.specs.Outcomes.{FILE_LIMIT, ReadsAs};
 ghost use Rattle.script_reader.specs.Scripts.{queue_command, set_command, map_command, command_named, op_of, op_from_words, command_of, COMMAND_LIMIT, GREATEST_VALUE, script_outcome};
 ghost use Rattle.script_reader.specs.Faults.{IsOutcomeOf};
 
 use crate::causes::{Cause, ScriptFault};
-use crate::grammar::{Grammar, read_file};
+use crate::grammar::{Grammar, MAX_BYTES, read_file};
 use crate::numbers::number_up_to;
 use crate::words::Words;
 use lin_report::calls::{ADD, DEL, GET, HAS, PUT, REM, SET, TAKE};
@@ -21,7 +21,7 @@ const MAX_KEY: u32 = 1_048_575;
 
 /// The numbers that follow the word of a command.
 #[derive(Clone, Copy)]
-enum Numbers {
+pub enum Numbers {
     NoNumber,
     OneValue,
     OneKey,
@@ -61,7 +61,7 @@ fn map_command(word: &[u8]) -> Option<(u8, Numbers)>
 }
 
 /// The command that a word names, and the numbers that it takes.
-fn command_named(client: Client, word: &[u8]) -> Option<(u8, Numbers)>
+pub fn command_named(client: Client, word: &[u8]) -> Option<(u8, Numbers)>
     ensures { result ≡ command_named client word.now }
 {
     match client {
@@ -113,8 +113,14 @@ impl Grammar for Commands {
 
     ghost limit = { COMMAND_LIMIT };
 
+    ghost most = { FILE_LIMIT };
+
     fn limit(&self) -> usize {
         MAX_COMMANDS
+    }
+
+    fn max_bytes(&self) -> u32 {
+        MAX_BYTES
     }
 
     fn entry(&self, words: Words<'_>) -> Result<Op, Cause> {
@@ -133,7 +139,7 @@ pub fn read_script(alloc: Global, bytes: &[u8], client: Client) -> Result<Vec<Op
     ensures outcome { ReadsAs result (script_outcome client bytes.now) }
 
     // The outcome, told of single lines: none is at fault, or the refusal names the first that is.
-    ensures lines { IsOutcomeOf (command_of client) COMMAND_LIMIT bytes.now (script_outcome client bytes.now) }
+    ensures lines { IsOutcomeOf FILE_LIMIT (command_of client) COMMAND_LIMIT bytes.now (script_outcome client bytes.now) }
     ensures commands { IfOk result (λ v. All (λ op. IsTrue (is_command client op)) v.items) }
     ensures values { IfOk result (λ v. All (λ op. op.value ≤ GREATEST_VALUE) v.items) }
     ensures count { IfOk result (λ v. vec_len v ≤ COMMAND_LIMIT) }

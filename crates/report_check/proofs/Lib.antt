@@ -1,0 +1,15 @@
+pub mod NamesRead
+pub mod Names
+pub mod Pairs
+pub mod Tables
+pub mod Judged
+pub mod Steps
+pub mod Replies
+pub mod Found
+pub mod LegalOrders
+pub mod LineFields
+pub mod LineCommands
+pub mod LineReplies
+pub mod CallsOnLines
+pub mod Law
+pub mod LawBack

@@ -1,0 +1,5 @@
+pub mod Orders
+pub mod Verdicts
+pub mod Tables
+pub mod Judging
+pub mod CallLines

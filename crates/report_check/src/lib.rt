@@ -1,0 +1,17 @@
+//! Whether an order of calls shows that a report is linearizable: how an order is read, and the verdict.
+#![tactic(auto)]
+
+pub use call_lines::{CallLine, read_call_line};
+pub use judges::judge;
+pub use orders::{Named, read_order};
+pub use verdicts::{Objection, Reason, Verdict, reason_number};
+
+pub mod call_lines;
+mod fields;
+mod judges;
+pub mod orders;
+mod reasons;
+mod table;
+#[cfg(test)]
+mod tests;
+pub mod verdicts;
