@@ -40,7 +40,10 @@ def command(random, client, value):
         if random.random() < 0.5:
             return f"put {random.choice([value, value, value, 4294967295 - value, 0])}"
         return "take"
-    return f"{random.choice(['add', 'add', 'del', 'del', 'has'])} {random.choice([0, 1, 1, 2, 1048575])}"
+    key = random.choice([0, 1, 1, 2, 33, 1048575])
+    if client == "tree":
+        return random.choice([f"set {key} {value}", f"set {key} {4294967295 - value}", f"rem {key}", f"rem {key}", f"get {key}"])
+    return f"{random.choice(['add', 'add', 'del', 'del', 'has'])} {key}"
 
 
 def grained(random, seats, count):

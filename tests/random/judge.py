@@ -2,7 +2,7 @@
 from dataclasses import dataclass
 
 # how many numbers each command has
-NUMBERS = {"put": 1, "take": 0, "add": 1, "del": 1, "has": 1}
+NUMBERS = {"put": 1, "take": 0, "add": 1, "del": 1, "has": 1, "set": 2, "rem": 1, "get": 1}
 
 # replies that a call of each command may have
 REPLIES = {
@@ -11,7 +11,13 @@ REPLIES = {
     "add": ("yes", "no", "exhausted"),
     "del": ("yes", "no", "exhausted"),
     "has": ("yes", "no"),
+    "set": ("yes", "no", "exhausted"),
+    "rem": ("yes", "no", "exhausted"),
+    "get": ("value", "absent"),
 }
+
+# commands that may claim a block on their fast path
+CLAIM = ("put", "add", "set", "rem")
 
 
 class Wrong(Exception):
@@ -119,7 +125,7 @@ def judge_blocks(calls, cap):
             others = [
                 other
                 for other in calls
-                if other != call and other.command.split(" ")[0] in ("put", "add") and other.begin < call.end
+                if other != call and other.command.split(" ")[0] in CLAIM and other.begin < call.end
             ]
             if len(others) < cap:
                 raise Wrong(f"call {call.number} of seat {call.seat} is exhausted, and {len(others)} others claimed")

@@ -24,7 +24,27 @@ def after_list(state, command, reply):
     return after if reply in (right, "pending") else None
 
 
-OBJECTS = {"queue": (after_queue, ()), "list": (after_list, frozenset())}
+def after_tree(state, command, reply):
+    """The map after the command, where it may reply so; None otherwise. A key that is there keeps its value."""
+    name, key, *numbers = command.split(" ")
+    values = dict(state)
+    if name == "get":
+        right = f"value {values[key]}" if key in values else "absent"
+    else:
+        right = "yes" if (key in values) == (name == "rem") else "no"
+    if name == "set":
+        values.setdefault(key, *numbers)
+    if name == "rem":
+        values.pop(key, None)
+    return frozenset(values.items()) if reply in (right, "pending") else None
+
+
+OBJECTS = {
+    "queue": (after_queue, ()),
+    "list": (after_list, frozenset()),
+    "buckets": (after_list, frozenset()),
+    "tree": (after_tree, frozenset()),
+}
 
 
 def has_legal_order(client, calls):

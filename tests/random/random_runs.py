@@ -94,7 +94,7 @@ def main():
     parser.add_argument("program")
     parser.add_argument("--runs", type=int, default=2000)
     parser.add_argument("--seed", type=int, default=1)
-    parser.add_argument("--clients", default="queue,list")
+    parser.add_argument("--clients", default="queue,list,tree,buckets")
     words = parser.parse_args()
     program = str(Path(words.program).resolve())
     helps = publishes(program)
