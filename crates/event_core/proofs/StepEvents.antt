@@ -1,12 +1,13 @@
 -- The events of a step are those that are read off the word at its place.
-use Rattle.std.proofs.Common.{arith, subst, ◌≤◌, ◌≡◌, ◌≢◌, ◌∙◌, refl, sym, ap, ℕ, zero, suc, ◌+◌, ◌-◌, ◌<◌, ◌==◌, ◌&&◌, not, if◌then◌else◌, Bool, true, false, List, [], ◌∷◌, ◌++◌, slice_index, Option, Some, None, inl, inr}
+use Rattle.std.proofs.Common.{rules, arith, subst, ◌≤◌, ◌≡◌, ◌≢◌, ◌∙◌, refl, sym, ap, ℕ, zero, suc, ◌+◌, ◌-◌, ◌<◌, ◌==◌, ◌&&◌, not, if◌then◌else◌, Bool, true, false, List, [], ◌∷◌, ◌++◌, slice_index, Option, Some, None, inl, inr}
 use Rattle.std.specs.Prelude.{nat_le, nat_lt}
 use Rattle.std.specs.Option.{option_to_list}
 use Rattle.std.proofs.lemmas.Bool.{and_parts, cases_Bool, cases_eq, eq-eqb, eqb-false, le-leb, leb-true, le-ltb, lt-ltb, ltb-true, ne_eqb, or_left, or_parts, or_right, true≢false}
 use Rattle.lin_report.specs.declared.events.Event.{Event}
 use Rattle.step_memory.specs.declared.steps.Request.{Request}
+use Rattle.step_memory.specs.declared.steps.Request.TheVariants.{Load, Store, Exchange, Add}
 use Rattle.step_memory.specs.Step.{place_of, words_after}
-use Rattle.step_memory.proofs.Words.{word_elsewhere}
+use Rattle.step_memory.proofs.Words.{load_keeps, word_elsewhere}
 use Rattle.word_fields.specs.Records.{record_phase, record_number}
 use Rattle.word_fields.specs.Seats.{queue_seats}
 use Rattle.node_arena.specs.declared.places.TheConstants.{QUEUE, RECORDS}
@@ -19,7 +20,7 @@ use Rattle.fast_slow_engine.specs.declared.phases.Phase.{Phase}
 use Rattle.fast_slow_engine.specs.declared.phases.Phase.TheVariants.{Idle, Begin, Look, Generate, Apply, Wrap, Announce, Enter, Drive, Help, Collect, Value, End}
 use Rattle.fast_slow_engine.specs.PhaseTable.{ends, event_in, mech_event, mech_request, request_in}
 use Rattle.run_overtaking.proofs.OrderLaws.{eight_low}
-use Rattle.event_core.specs.Noted.{completed_at, noted, published_at}
+use Rattle.event_core.specs.Noted.{completed_at, noted, published_at, tells_nothing}
 use Rattle.event_core.proofs.Publications.{none_published}
 
 -- ---- completions
@@ -162,36 +163,53 @@ module _ (place before : ℕ) (words : List ℕ) (beyond : RECORDS + 8 ≤ place
       ∙ ap (λ b. if b then published before (record_word_of words) (queue_seats (queue_word words)) else []) other
 
 module _ {S W : Type 0} (form : NormalForm S W) where
-  -- a step beyond the records draws no tick
-  draws_none : (phase : Phase S W) (mech : Mech S W) → RECORDS + 8 ≤ place_of (request_in form phase mech) → (event_in phase mech ≡ None) × (ends phase ≡ false)
-  draws_none Begin mech beyond = absurd (omega (arith, beyond))
-  draws_none (End reply) mech beyond = absurd (omega (arith, beyond))
-  draws_none Idle mech beyond = (refl, refl)
-  draws_none Look mech beyond = (refl, refl)
-  draws_none (Generate search at) mech beyond = (refl, refl)
-  draws_none (Apply run stores at) mech beyond = (refl, refl)
-  draws_none (Wrap wrap) mech beyond = (refl, refl)
-  draws_none (Announce at) mech beyond = (refl, refl)
-  draws_none (Enter owner) mech beyond = (refl, refl)
-  draws_none Drive mech beyond = (refl, refl)
-  draws_none (Help drives help) mech beyond = (refl, refl)
-  draws_none Collect mech beyond = (refl, refl)
-  draws_none (Value reference) mech beyond = (refl, refl)
+  -- a step whose request tells nothing draws no tick
+  draws_none : (phase : Phase S W) (mech : Mech S W) → tells_nothing (request_in form phase mech) ≡ true → (event_in phase mech ≡ None) × (ends phase ≡ false)
+  draws_none Begin mech nothing = absurd (search rules)
+  draws_none (End reply) mech nothing = absurd (search rules)
+  draws_none Idle mech nothing = (refl, refl)
+  draws_none Look mech nothing = (refl, refl)
+  draws_none (Generate search at) mech nothing = (refl, refl)
+  draws_none (Apply run stores at) mech nothing = (refl, refl)
+  draws_none (Wrap wrap) mech nothing = (refl, refl)
+  draws_none (Announce at) mech nothing = (refl, refl)
+  draws_none (Enter owner) mech nothing = (refl, refl)
+  draws_none Drive mech nothing = (refl, refl)
+  draws_none (Help drives help) mech nothing = (refl, refl)
+  draws_none Collect mech nothing = (refl, refl)
+  draws_none (Value reference) mech nothing = (refl, refl)
 
-  module _ (mech : Mech S W) (request : Request) (place : ℕ) (asks : request ≡ mech_request form mech) (at : place ≡ place_of request) (beyond : nat_le (RECORDS + 8) place ≡ true) where
-    far : RECORDS + 8 ≤ place_of (mech_request form mech)
-    far = subst (λ r. RECORDS + 8 ≤ place_of r) asks (subst (λ p. RECORDS + 8 ≤ p) at (leb-true (RECORDS + 8) place beyond))
+  module _ (mech : Mech S W) (words : List ℕ) (drawn : mech_event mech ≡ None) where
+    -- where no word changes, nothing is told
+    same_told : step_events mech words words ≡ []
+    same_told =
+        ap (λ es. es ++ (option_to_list (mech_event mech) ++ there)) (none_closed_of (record_word_of words) (record_word_of words) eight_seats (λ s among. refl))
+        ∙ ap (λ t. option_to_list t ++ there) drawn
+        ∙ none_published (queue_word words) (record_word_of words) (queue_seats (queue_word words)) (λ t among. among)
+      where
+        there : List Event
+        there = published (queue_word words) (record_word_of words) (queue_seats (queue_word words))
 
-    -- so the call goes on after it
+    -- nor is it by a step beyond the records
+    beyond_told : (request : Request) → nat_le (RECORDS + 8) (place_of request) ≡ true → step_events mech words (words_after request words) ≡ []
+    beyond_told request beyond =
+        step_noted request words mech
+        ∙ ap (λ t. noted t (place_of request) (slice_index words (place_of request)) (words_after request words)) drawn
+        ∙ none_noted (place_of request) (slice_index words (place_of request)) (words_after request words) (leb-true (RECORDS + 8) (place_of request) beyond)
+
+    nothing_told : (request : Request) → tells_nothing request ≡ true → step_events mech words (words_after request words) ≡ []
+    nothing_told (Load at) nothing = ap (step_events mech words) (load_keeps at words) ∙ same_told
+    nothing_told (Store at value) nothing = beyond_told (Store at value) nothing
+    nothing_told (Exchange at from to) nothing = beyond_told (Exchange at from to) nothing
+    nothing_told (Add at by) nothing = beyond_told (Add at by) nothing
+
+  module _ (mech : Mech S W) (request : Request) (asks : request ≡ mech_request form mech) (nothing : tells_nothing request ≡ true) where
+    -- the call goes on after a step whose request tells nothing
     pub goes_on : ends mech.phase ≡ false
-    goes_on = (draws_none mech.phase mech far).1
+    goes_on = (draws_none mech.phase mech (subst (λ r. tells_nothing r ≡ true) asks nothing)).1
 
     -- and it tells nothing
     pub tells_none : (words now : List ℕ) → now ≡ words_after request words → step_events mech words now ≡ []
     tells_none words now left =
-        let place' = place_of (mech_request form mech) in
-        let after = words_after (mech_request form mech) words in
-        ap (step_events mech words) (left ∙ ap (λ r. words_after r words) asks)
-        ∙ step_noted (mech_request form mech) words mech
-        ∙ ap (λ t. noted t place' (slice_index words place') after) (draws_none mech.phase mech far).0
-        ∙ none_noted place' (slice_index words place') after far
+        ap (step_events mech words) left
+        ∙ nothing_told mech words (draws_none mech.phase mech (subst (λ r. tells_nothing r ≡ true) asks nothing)).0 request nothing

@@ -1,13 +1,23 @@
 -- What a step tells of published and completed calls, read off the word at its place before it and after it.
-use Rattle.std.specs.Prelude.{ℕ, ◌+◌, ◌-◌, ◌==◌, ◌&&◌, nat_le, nat_lt, not, if◌then◌else◌, get_or, Bool, false, List, [], ◌++◌, slice_index, Option, Some, None}
+use Rattle.std.specs.Prelude.{ℕ, ◌+◌, ◌-◌, ◌==◌, ◌&&◌, nat_le, nat_lt, not, if◌then◌else◌, get_or, Bool, true, false, List, [], ◌++◌, slice_index, Option, Some, None}
 use Rattle.std.specs.Option.{option_to_list}
 use Rattle.lin_report.specs.declared.events.Event.{Event}
+use Rattle.step_memory.specs.declared.steps.Request.{Request}
+use Rattle.step_memory.specs.declared.steps.Request.TheVariants.{Load, Store, Exchange, Add}
 use Rattle.word_fields.specs.Records.{record_phase, record_number}
 use Rattle.word_fields.specs.Seats.{queue_seats}
 use Rattle.node_arena.specs.declared.places.TheConstants.{QUEUE, RECORDS}
 use Rattle.help_queue.specs.Gathers.{is_open}
 use Rattle.overtaking_law.specs.Order.{completion}
 use Rattle.fast_slow_engine.specs.Events.{published, queue_word, record_word_of}
+
+-- whether a request shows that its step tells no event: a load changes no word, and beyond the records nothing is published
+-- or completed and no tick is drawn
+abbrev pub tells_nothing : Request → Bool
+tells_nothing (Load at) = true
+tells_nothing (Store at value) = nat_le (RECORDS + 8) at
+tells_nothing (Exchange at from to) = nat_le (RECORDS + 8) at
+tells_nothing (Add at by) = nat_le (RECORDS + 8) at
 
 -- whether a seat is one of the members of a queue word, as they are read off it
 abbrev pub is_member : List Bool → ℕ → Bool

@@ -6,7 +6,7 @@ ghost use Rattle.std.specs.Option.{option_to_list};
 ghost use Rattle.fast_slow_engine.specs.Runs.{returned};
 ghost use Rattle.event_core.specs.Cores.{core_new, core_turn_of, new_seats};
 
-use crate::noting::{is_beyond, note_step, word_at};
+use crate::noting::{note_step, tells_nothing, word_at};
 use crate::seats::Seat;
 use arrayvec::ArrayVec;
 use fast_slow_engine::{Setup, Turn};
@@ -92,13 +92,13 @@ impl<C: Normalized> Core<C> {
             return CoreTurn::Idle;
         }
         let request = at.request();
-        let place = request.place();
-        if is_beyond(place) {
+        if tells_nothing(request) {
             let seen = self.cells.apply(request);
             at.go_on(seen);
             return CoreTurn::Going;
         }
         let tick = at.next_event();
+        let place = request.place();
         let before = word_at(self.cells.words(), place);
         let seen = self.cells.apply(request);
         let turn = at.feed(seen);

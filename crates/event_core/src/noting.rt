@@ -1,14 +1,15 @@
 //! The events of a step that are read off the memory: calls that it publishes, and the call that it completes.
-ghost use Rattle.std.specs.Prelude.{◌≡◌, ◌+◌, ◌<◌, ◌≤◌, ◌++◌, ◌∷◌, [], length, nat_le, slice_index, vec_len, vec_capacity};
+ghost use Rattle.std.specs.Prelude.{◌≡◌, ◌+◌, ◌<◌, ◌≤◌, ◌++◌, ◌∷◌, [], length, slice_index, vec_len, vec_capacity};
 ghost use Rattle.std.specs.Option.{option_to_list};
 ghost use Rattle.word_fields.specs.Seats.{AreSeats};
 ghost use Rattle.fast_slow_engine.specs.Events.{published_by, record_word_of};
-ghost use Rattle.event_core.specs.Noted.{completed_at, is_member, noted, published_at};
+ghost use Rattle.event_core.specs.Noted.{completed_at, is_member, noted, published_at, tells_nothing};
 
 use help_queue::gather::is_open;
 use lin_report::{Event, EventKind};
 use node_arena::places::{QUEUE, RECORDS};
 use node_arena::record_place;
+use step_memory::Request;
 use word_fields::queues::members;
 use word_fields::{QueueWord, RecordWord};
 
@@ -22,12 +23,17 @@ pub fn word_at(words: &[u64], place: u32) -> u64
     }
 }
 
-/// Whether a place is beyond the records. A step there tells no event.
+/// Whether a step tells no event, by its request: a load changes nothing, and beyond the records stands no word of the
+/// engine's own. So it is with most steps.
 #[inline(always)]
-pub fn is_beyond(place: u32) -> bool
-    ensures { result ≡ nat_le (RECORDS + 8) place }
+pub fn tells_nothing(request: Request) -> bool
+    ensures { result ≡ tells_nothing request }
 {
-    place >= RECORDS + 8
+    match request {
+        Request::Load { .. } => true,
+        Request::Store { at, .. } | Request::Exchange { at, .. } | Request::Add { at, .. } => at
+            >= RECORDS + 8,
+    }
 }
 
 /// The completion that a step at this place is, if it left this word for that one.

@@ -27,18 +27,18 @@ invariant_of-self g c =
     over_kept g.C.Normalized.form c.self.inside.setup _ _ _ _ _ _ c.self.invariant _ _ _ (seated _ _ _ _ _ _ c.self.view_is c.requires.seat) c.index_mut-at.ensures.value c.begin_next.ensures.machine c.begin_next.ensures.file
     (is_over_by _ _ c.begin_next.ensures.over c.if-not-begin_next.true)
 
--- ---- a step beyond the records
+-- ---- a step that tells nothing
 
 pub go_on-requires-clause-goes_on : goal.go_on-requires-clause-goes_on
 go_on-requires-clause-goes_on g c κs within =
-    goes_on g.C.Normalized.form c.begin_next.new.self.mech c.request-request.result c.place-place.result c.request-request.ensures c.place-place.ensures (sym c.is_beyond.ensures ∙ c.if-is_beyond.true)
+    goes_on g.C.Normalized.form c.begin_next.new.self.mech c.request-request.result c.request-request.ensures (sym c.tells_nothing.ensures ∙ c.if-tells_nothing.true)
 
-pub invariant_of-self-then-is_beyond : goal.invariant_of-self-then-is_beyond
-invariant_of-self-then-is_beyond g c =
+pub invariant_of-self-then-tells_nothing : goal.invariant_of-self-then-tells_nothing
+invariant_of-self-then-tells_nothing g c =
     let form = g.C.Normalized.form in
     let laws = g.met.C.Normalized.laws in
     let setup = c.self.inside.setup in
-    let none = tells_none form c.begin_next.new.self.mech c.request-request.result c.place-place.result c.request-request.ensures c.place-place.ensures (sym c.is_beyond.ensures ∙ c.if-is_beyond.true)
+    let none = tells_none form c.begin_next.new.self.mech c.request-request.result c.request-request.ensures (sym c.tells_nothing.ensures ∙ c.if-tells_nothing.true)
     c.self.inside.cells c.apply-seen.new.self c.apply-seen.ensures.changes in
     stepped_kept form setup _ _ _ _ _ _ c.self.invariant _ _ _ (seated _ _ _ _ _ _ c.self.view_is c.requires.seat) c.index_mut-at.ensures.value c.begin_next.ensures.machine c.begin_next.ensures.file
     (queues_kept form laws (runs_are_kept form laws) setup) (c.begin_next.ensures.can (search rules)) c.go_on.new.self c.apply-seen.new.self
@@ -47,10 +47,10 @@ invariant_of-self-then-is_beyond g c =
     c.go_on.ensures.file c.go_on.ensures.number 0 _ _ _ _ c.begin_next.ensures.lines (omega (arith, c.go_on.ensures.lines)) (omega arith) refl
     (sym (ap (λ es. c.self.inside.events.items ++ es) none ∙ append-nil c.self.inside.events.items)) refl
 
-pub returns-then-is_beyond-clause-core : goal.returns-then-is_beyond-clause-core
-returns-then-is_beyond-clause-core g c =
+pub returns-then-tells_nothing-clause-core : goal.returns-then-tells_nothing-clause-core
+returns-then-tells_nothing-clause-core g c =
     let form = g.C.Normalized.form in
-    let none = tells_none form c.begin_next.new.self.mech c.request-request.result c.place-place.result c.request-request.ensures c.place-place.ensures (sym c.is_beyond.ensures ∙ c.if-is_beyond.true)
+    let none = tells_none form c.begin_next.new.self.mech c.request-request.result c.request-request.ensures (sym c.tells_nothing.ensures ∙ c.if-tells_nothing.true)
     c.self.inside.cells c.apply-seen.new.self c.apply-seen.ensures.changes in
     let saw = c.apply-seen.ensures.tells ∙ ap (λ r. seen_of r c.self.inside.cells) c.request-request.ensures in
     next_core form _ _ _ _ _ _ _ _ _ _ _ _ turn.Going (seated _ _ _ _ _ _ c.self.view_is c.requires.seat) c.index_mut-at.ensures.value c.begin_next.ensures.machine c.begin_next.ensures.file
@@ -60,8 +60,8 @@ returns-then-is_beyond-clause-core g c =
     (sym (append-nil c.self.inside.receipts.items)) (sym (ap (λ es. c.self.inside.events.items ++ es) none ∙ append-nil c.self.inside.events.items))
     ∙ ap (core_stepped form c.args.seat) c.self.view_is
 
-pub returns-then-is_beyond-clause-turn : goal.returns-then-is_beyond-clause-turn
-returns-then-is_beyond-clause-turn g c =
+pub returns-then-tells_nothing-clause-turn : goal.returns-then-tells_nothing-clause-turn
+returns-then-tells_nothing-clause-turn g c =
     let saw = c.apply-seen.ensures.tells ∙ ap (λ r. seen_of r c.self.inside.cells) c.request-request.ensures in
     next_turn g.C.Normalized.form c.self.inside.setup _ _ _ _ _ _ c.begin_next.new.self turn.Going (seated _ _ _ _ _ _ c.self.view_is c.requires.seat) c.index_mut-at.ensures.value c.begin_next.ensures.machine
     (not_over_by _ _ c.begin_next.ensures.over c.if-not-begin_next.false) (sym c.go_on.ensures.turn ∙ ap (mech_turn c.begin_next.new.self.mech) saw)
