@@ -8,7 +8,7 @@ pub use verdicts::{Objection, Reason, Verdict, reason_number};
 
 pub mod call_lines;
 mod fields;
-mod judges;
+pub mod judges;
 pub mod orders;
 mod reasons;
 mod table;

@@ -191,7 +191,7 @@ fn lines_of_calls_are_read(rt: HostRuntime) -> Result<(), Fail> {
 }
 
 #[test]
-fn lines_that_no_report_has(rt: HostRuntime) -> Result<(), Fail> {
+fn other_lines_are_of_no_call(rt: HostRuntime) -> Result<(), Fail> {
     for (client, line) in [
         (Client::Queue, b"8 1 take empty 4 5 slow".as_slice()),
         (Client::Queue, b"1 0 take empty 4 5 slow".as_slice()),
