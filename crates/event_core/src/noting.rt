@@ -1,5 +1,5 @@
 //! The events of a step that are read off the memory: calls that it publishes, and the call that it completes.
-ghost use Rattle.std.specs.Prelude.{◌≡◌, ◌+◌, ◌<◌, ◌≤◌, ◌++◌, ◌∷◌, [], length, slice_index, vec_len, vec_capacity};
+ghost use Rattle.std.specs.Prelude.{◌≡◌, ◌+◌, ◌<◌, ◌≤◌, ◌++◌, ◌∷◌, [], length, nat_le, slice_index, vec_len, vec_capacity};
 ghost use Rattle.std.specs.Option.{option_to_list};
 ghost use Rattle.word_fields.specs.Seats.{AreSeats};
 ghost use Rattle.fast_slow_engine.specs.Events.{published_by, record_word_of};
@@ -23,16 +23,24 @@ pub fn word_at(words: &[u64], place: u32) -> u64
     }
 }
 
-/// Whether a step tells no event, by its request: a load changes nothing, and beyond the records stands no word of the
-/// engine's own. So it is with most steps.
+/// Whether a place is beyond the records, where no word of the engine's own stands.
+#[inline(always)]
+fn is_beyond(place: u32) -> bool
+    ensures { result ≡ nat_le (RECORDS + 8) place }
+{
+    place >= RECORDS + 8
+}
+
+/// Whether a step tells no event, by its request: a load changes nothing, and beyond the records nothing is published or
+/// completed and no tick is drawn. So it is with most steps.
 #[inline(always)]
 pub fn tells_nothing(request: Request) -> bool
     ensures { result ≡ tells_nothing request }
 {
     match request {
         Request::Load { .. } => true,
-        Request::Store { at, .. } | Request::Exchange { at, .. } | Request::Add { at, .. } => at
-            >= RECORDS + 8,
+        Request::Store { at, .. } | Request::Exchange { at, .. } | Request::Add { at, .. } =>
+            is_beyond(at),
     }
 }
 
