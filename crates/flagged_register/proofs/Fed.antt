@@ -26,7 +26,7 @@ use Rattle.flagged_register.proofs.Basics.{word_of, at_same, register_flag, togg
 use Rattle.flagged_register.proofs.Effects.{Effect}
 use Rattle.flagged_register.proofs.Later.{helps_later, decided_later, Later, later, flag_clear, flagged_later, note_later}
 use Rattle.flagged_register.proofs.Steps.{named_block, Asked, asked, help_effect}
-use Rattle.flagged_register.proofs.Kept.{effect_keeps}
+use Rattle.flagged_register.proofs.Kept.EachEffect.{effect_keeps}
 use Rattle.std.specs.FinMap as map
 use Rattle.normal_traits.specs.World.{StandsFor}
 use Rattle.normal_traits.specs.Laws.{IsFixed}

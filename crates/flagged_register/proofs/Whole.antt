@@ -32,7 +32,8 @@ use Rattle.flagged_register.proofs.Effects.Effect.{quiet, sets, makes, decides, 
 use Rattle.flagged_register.proofs.Journal.{took_of, flagged_of, flagger_flagged}
 use Rattle.flagged_register.proofs.Later.{decided_later, later, helps_later, knows_later, flag_rises, flagged_later}
 use Rattle.flagged_register.proofs.Steps.{effect_of}
-use Rattle.flagged_register.proofs.Kept.{effect_keeps, flagged_from, older, newly}
+use Rattle.flagged_register.proofs.Kept.EachEffect.{effect_keeps}
+use Rattle.flagged_register.proofs.Kept.FlagLists.{flagged_from, older, newly}
 use Rattle.flagged_register.proofs.Basics.{value_flag, value_register}
 use Rattle.flagged_register.proofs.Observed.{none_content, listed}
 use Rattle.flagged_register.proofs.Fed.{search_asks, help_asks, search_fed_well, wrap_fed_well}

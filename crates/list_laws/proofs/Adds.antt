@@ -24,7 +24,7 @@ use Rattle.list_laws.specs.Shape.{LINKED, MARKED, first_cause, IsStored, MadeCha
 use Rattle.list_laws.specs.Knowledge.{Learnt}
 use Rattle.list_laws.proofs.Places.{same_place, other_place, same_next, start_not_next}
 use Rattle.list_laws.proofs.Changes.{node_cases, node_own, key_own}
-use Rattle.list_laws.proofs.Paths.{path_linked}
+use Rattle.list_laws.proofs.Paths.NodeLinked.{path_linked}
 use Rattle.list_laws.proofs.Links.{positive}
 use Rattle.list_laws.proofs.Entries.{add_entry, adds_is}
 use Rattle.list_laws.proofs.Sets.{object_is, change_told}

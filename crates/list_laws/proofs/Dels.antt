@@ -22,7 +22,7 @@ use Rattle.list_laws.specs.Shape.{LINKED, MARKED, first_cause, MadeChange, AreSo
 use Rattle.list_laws.specs.Knowledge.{Learnt}
 use Rattle.list_laws.proofs.Places.{same_place, other_place, same_next, start_not_next, block_of_next, rank_named}
 use Rattle.list_laws.proofs.Changes.{node_del, key_del}
-use Rattle.list_laws.proofs.Paths.{SameNodes, path_same}
+use Rattle.list_laws.proofs.Paths.SameNodes.{SameNodes, path_same}
 use Rattle.list_laws.proofs.Links.{positive, node_of}
 use Rattle.list_laws.proofs.Entries.{mark_entry, dels_is}
 use Rattle.list_laws.proofs.Sets.{object_is, change_told}

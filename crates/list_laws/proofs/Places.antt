@@ -85,6 +85,10 @@ rank_named changes block =
     cond-false (eqb (reference_to block 1) 0) LAST_RANK (node_rank changes (reference_to block 1 / 4)) (ne_eqb (reference_to block 1) 0 (λ e. omega arith))
     ∙ ap (node_rank changes) (block-reference_to block 1 (omega arith))
 
+-- a reference that is not null has the rank of its node
+pub rank_some : (changes : List Change) (reference : ℕ) → reference ≢ 0 → rank_of changes reference ≡ node_rank changes (reference / 4)
+rank_some changes reference some = cond-false (eqb reference 0) LAST_RANK (node_rank changes (reference / 4)) (ne_eqb reference 0 some)
+
 -- ---- a client's words
 
 or_true : (a : Bool) → (a || true) ≡ true

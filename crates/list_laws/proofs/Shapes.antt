@@ -11,8 +11,10 @@ use Rattle.list_laws.specs.Nodes.{is_node, node_key, next_at, key_at, node_rank,
 use Rattle.list_laws.specs.Path.{stands, IsPath, parity}
 use Rattle.list_laws.specs.Shape.{UNLINKED, unlinks, IsStored, WasUnlinked, KnownBy, AreSorted}
 use Rattle.list_laws.specs.Knowledge.{IsRun}
-use Rattle.list_laws.proofs.Places.{same_place, other_place, next_is, key_is, key_word, key_plain, start_word, start_versioned, next_versioned, second_block}
-use Rattle.list_laws.proofs.Paths.{SameNodes, path_same, path_cut, without_between, is_between, between, not_between, rank_some}
+use Rattle.list_laws.proofs.Places.{same_place, other_place, next_is, key_is, key_word, key_plain, start_word, start_versioned, next_versioned, second_block, rank_some}
+use Rattle.list_laws.proofs.Paths.SameNodes.{SameNodes, path_same}
+use Rattle.list_laws.proofs.Paths.Between.{without_between, is_between, between, not_between}
+use Rattle.list_laws.proofs.Paths.NodesUnlinked.{path_cut}
 use Rattle.list_laws.proofs.Links.{positive, node_word, link_word, link_versioned, node_of, block_named}
 use Rattle.list_laws.proofs.Runs.{HasRun, has_run, run_some}
 use Rattle.list_laws.proofs.Marks.{stands_now, live_moved}

@@ -26,7 +26,7 @@ use Rattle.fast_slow_engine.specs.Reports.{report_of_run}
 use Rattle.helper_knowledge.specs.Callers.{called}
 use Rattle.placing_law.specs.Placing.{IsMade, HasObserved, IsAccounted, IsPlaced, change_of, held_at}
 use Rattle.placing_law.specs.Placing as placing
-use Rattle.placing_law.proofs.Placed.{placed_is_linearizable}
+use Rattle.placing_law.proofs.Placed.CallOrder.{placed_is_linearizable}
 use Rattle.run_laws.proofs.StepKinds.{pending_open}
 use Rattle.run_laws.proofs.Steps.{some_same}
 use Rattle.run_exchanges.specs.RunGhosts.{ghost_of}

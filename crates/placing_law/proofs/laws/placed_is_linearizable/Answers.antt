@@ -1,6 +1,6 @@
 use Rattle.lin_report.specs.Object.{object_of}
 use Rattle.lin_report.proofs.Sequences.{object_answers}
-use Rattle.placing_law.proofs.Placed.{placed_is_linearizable}
+use Rattle.placing_law.proofs.Placed.CallOrder.{placed_is_linearizable}
 use Rattle.placing_law.proofs.laws.placed_is_linearizable.Goals as goal
 
 pub returns : goal.returns
