@@ -33,11 +33,11 @@ front_append [] ys rest = refl
 front_append (x ∷ xs) ys rest = ap (λ (b : List ℕ). x ++ SPACE ∷ b) (front_append xs ys rest)
 
 -- the line of a call, field by field and without its newline
-abbrev fields : Call → List ℕ
+abbrev pub fields : Call → List ℕ
 fields c =
     decimal c.seat ++ SPACE ∷ (decimal c.number ++ SPACE ∷ front (command_words c.op) (front (told_words (told_of c.answer)) (decimal c.begin ++ SPACE ∷ (end_word c.answer ++ SPACE ∷ path_word c.path))))
 
-line_is : (c : Call) → call_line c ≡ fields c ++ NEWLINE ∷ []
+pub line_is : (c : Call) → call_line c ≡ fields c ++ NEWLINE ∷ []
 unfolding call_line line
 line_is c = ap (λ (b : List ℕ). b ++ NEWLINE ∷ []) joined
   where
@@ -70,11 +70,11 @@ fits_again : (op : Op) (answer : Option (Reply × ℕ)) → IfSome answer (IsPri
 fits_again op None h = refl
 fits_again op (Some a) h = h.reply.named
 
-value_again : (op : Op) (answer : Option (Reply × ℕ)) → IfSome answer (IsPrintableAnswer op) → IfSome (told_of answer) (λ reply. told_value reply < VALUE_LIMIT)
+pub value_again : (op : Op) (answer : Option (Reply × ℕ)) → IfSome answer (IsPrintableAnswer op) → IfSome (told_of answer) (λ reply. told_value reply < VALUE_LIMIT)
 value_again op None h = tt
 value_again op (Some a) h = h.reply.value
 
-end_again : (op : Op) (answer : Option (Reply × ℕ)) → IfSome answer (IsPrintableAnswer op) → IfSome answer (λ a. a.1 < TICK_LIMIT)
+pub end_again : (op : Op) (answer : Option (Reply × ℕ)) → IfSome answer (IsPrintableAnswer op) → IfSome answer (λ a. a.1 < TICK_LIMIT)
 end_again op None h = tt
 end_again op (Some a) h = h.end
 

@@ -11,5 +11,6 @@ pub mod LineFields
 pub mod LineCommands
 pub mod LineReplies
 pub mod CallsOnLines
+pub mod CleanLines
 pub mod Law
 pub mod LawBack

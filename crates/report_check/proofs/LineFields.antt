@@ -12,9 +12,9 @@ use Rattle.std.proofs.lemmas.List.Elements.{All-nil, All-cons}
 use Rattle.std.proofs.lemmas.Option.{same_Some, some_pair_parts}
 use Rattle.std.proofs.lemmas.Fmt.{digits_decimal, digits_value-decimal, decimal-digits_value, decimal_nonempty, decimal_digit, first_decimal}
 use Rattle.std.proofs.lemmas.Str.Parse.{IsNumeralModel, IsDigitsTest, numerals_by_value}
-use Rattle.lin_report.specs.Text.{SPACE}
-use Rattle.script_reader.specs.Words.{is_space, is_number, number_up_to}
-use Rattle.report_check.specs.CallLines.{◌>>=◌, word_at, is_plain, plain_number, number_at}
+use Rattle.lin_report.specs.Text.{SPACE, NEWLINE}
+use Rattle.script_reader.specs.Words.{is_space, is_newline, is_number, number_up_to}
+use Rattle.report_check.specs.CallLines.{◌>>=◌, cut_at, word_at, line_at, is_plain, plain_number, number_at}
 
 -- a step behind one that read something
 pub bind_at : {A B : Type 0} (o : Option A) (f : A → Option B) (x : A) → o ≡ Some x → (o >>= f) ≡ f x
@@ -23,53 +23,63 @@ bind_at {A} o f x e = ap (λ (p : Option A). p >>= f) e
 abbrev pub some_pair : {A B : Type 0} → A → B → Option (A × B)
 some_pair a b = Some (a, b)
 
--- where the code has found the first space
-pub word_is : (bytes word rest after : List ℕ) (n : ℕ) → n ≡ position_or_len is_space bytes → word ≡ take n bytes → rest ≡ drop n bytes → after ≡ drop 1 rest → 0 < length rest → word_at bytes ≡ Some (word, after)
-word_is bytes word rest after n at front back next some =
-    let lt : position_or_len is_space bytes < length bytes = omega (arith, length-drop n bytes, ap length back) in
-    let behind : after ≡ drop (position_or_len is_space bytes + 1) bytes = next ∙ ap (drop 1) back ∙ drop-drop 1 n bytes ∙ ap (λ k. drop (k + 1) bytes) at in
+-- where the code has found the first byte that passes
+pub cut_is : (passes : ℕ → Bool) (bytes word rest after : List ℕ) (n : ℕ) → n ≡ position_or_len passes bytes → word ≡ take n bytes → rest ≡ drop n bytes → after ≡ drop 1 rest → 0 < length rest → cut_at passes bytes ≡ Some (word, after)
+cut_is passes bytes word rest after n at front back next some =
+    let lt : position_or_len passes bytes < length bytes = omega (arith, length-drop n bytes, ap length back) in
+    let behind : after ≡ drop (position_or_len passes bytes + 1) bytes = next ∙ ap (drop 1) back ∙ drop-drop 1 n bytes ∙ ap (λ k. drop (k + 1) bytes) at in
     let pair : List ℕ → List ℕ → Option (List ℕ × List ℕ) = λ w r. Some (w, r) in
-    ap (λ b. cond b (pair (take (position_or_len is_space bytes) bytes) (drop (position_or_len is_space bytes + 1) bytes)) None) (lt-ltb (position_or_len is_space bytes) (length bytes) lt)
-    ∙ ap (λ w. pair w (drop (position_or_len is_space bytes + 1) bytes)) (sym (front ∙ ap (λ k. take k bytes) at))
+    ap (λ b. cond b (pair (take (position_or_len passes bytes) bytes) (drop (position_or_len passes bytes + 1) bytes)) None) (lt-ltb (position_or_len passes bytes) (length bytes) lt)
+    ∙ ap (λ w. pair w (drop (position_or_len passes bytes + 1) bytes)) (sym (front ∙ ap (λ k. take k bytes) at))
     ∙ ap (pair word) (sym behind)
+
+pub cut_takes : (passes : ℕ → Bool) (mark : ℕ) → ((b : ℕ) → passes b ≡ true → b ≡ mark) → (bytes word rest : List ℕ) → cut_at passes bytes ≡ Some (word, rest) → bytes ≡ word ++ mark ∷ rest
+cut_takes passes mark only bytes word rest e = by_test (ltb (position_or_len passes bytes) (length bytes)) refl e
+  where
+    by_test : (b : Bool) → ltb (position_or_len passes bytes) (length bytes) ≡ b
+        → cond b (some_pair (take (position_or_len passes bytes) bytes) (drop (position_or_len passes bytes + 1) bytes)) None ≡ some_pair word rest → bytes ≡ word ++ mark ∷ rest
+    by_test false lt e = absurd cc
+    by_test true lt e =
+        let k = position_or_len passes bytes in
+        let within : k < length bytes = ltb-true k (length bytes) lt in
+        let parts = some_pair_parts (take k bytes) word (drop (k + 1) bytes) rest e in
+        sym (take-append-drop k bytes) ∙ ap (λ (ys : List ℕ). take k bytes ++ ys) (drop_more bytes k 0 within)
+        ∙ ap (λ (w : List ℕ). w ++ get_or bytes k 0 ∷ drop (k + 1) bytes) parts.0
+        ∙ ap (λ b. word ++ b ∷ drop (k + 1) bytes) (only (get_or bytes k 0) (passes_at_first passes bytes 0 within))
+        ∙ ap (λ (r : List ℕ). word ++ mark ∷ r) parts.1
+
+pub cut_again : (passes : ℕ → Bool) (mark : ℕ) → passes mark ≡ true → (word rest : List ℕ) → All (λ b. passes b ≡ false) word → cut_at passes (word ++ mark ∷ rest) ≡ Some (word, rest)
+cut_again passes mark is word rest none =
+    cut_is passes (word ++ mark ∷ rest) word (mark ∷ rest) rest (length word) (sym at) (sym (take-append_seam word (mark ∷ rest))) (sym back) refl (omega arith)
+  where
+    at : position_or_len passes (word ++ mark ∷ rest) ≡ length word
+    at =
+        position_or_len_is passes (word ++ mark ∷ rest) (length word) 0 (omega (arith, length-append word (mark ∷ rest)))
+        (λ k lt. ap passes (get_or_append_left word (mark ∷ rest) 0 k lt) ∙ none k 0 lt)
+        (λ lt. ap passes (get_or-append_seam word mark rest 0) ∙ is)
+
+    back : drop (length word) (word ++ mark ∷ rest) ≡ mark ∷ rest
+    back = ap (λ k. drop k (word ++ mark ∷ rest)) (omega arith) ∙ drop-append-add word (mark ∷ rest) 0
 
 -- no byte of a word is a space
 abbrev pub NoSpace : List ℕ → Type 0
 NoSpace word = All (λ b. is_space b ≡ false) word
 
 pub word_takes : (bytes word rest : List ℕ) → word_at bytes ≡ Some (word, rest) → bytes ≡ word ++ SPACE ∷ rest
-word_takes bytes word rest e = by_test (ltb n (length bytes)) refl e
-  where
-    n : ℕ
-    n = position_or_len is_space bytes
-
-    by_test : (b : Bool) → ltb (position_or_len is_space bytes) (length bytes) ≡ b
-        → cond b (some_pair (take (position_or_len is_space bytes) bytes) (drop (position_or_len is_space bytes + 1) bytes)) None ≡ some_pair word rest → bytes ≡ word ++ SPACE ∷ rest
-    by_test false lt e = absurd cc
-    by_test true lt e =
-        let k = position_or_len is_space bytes in
-        let within : k < length bytes = ltb-true k (length bytes) lt in
-        let parts = some_pair_parts (take k bytes) word (drop (k + 1) bytes) rest e in
-        let front : take k bytes ≡ word = parts.0 in
-        let back : drop (k + 1) bytes ≡ rest = parts.1 in
-        let space : get_or bytes k 0 ≡ SPACE = eqb-true (get_or bytes k 0) 32 (passes_at_first is_space bytes 0 within) in
-        sym (take-append-drop k bytes) ∙ ap (λ (ys : List ℕ). take k bytes ++ ys) (drop_more bytes k 0 within)
-        ∙ ap (λ (w : List ℕ). w ++ get_or bytes k 0 ∷ drop (k + 1) bytes) front
-        ∙ ap (λ b. word ++ b ∷ drop (k + 1) bytes) space
-        ∙ ap (λ (r : List ℕ). word ++ SPACE ∷ r) back
+word_takes bytes word rest e = cut_takes is_space SPACE (λ b h. eqb-true b 32 h) bytes word rest e
 
 pub word_again : (word rest : List ℕ) → NoSpace word → word_at (word ++ SPACE ∷ rest) ≡ Some (word, rest)
-word_again word rest none =
-    word_is (word ++ SPACE ∷ rest) word (SPACE ∷ rest) rest (length word) (sym at) (sym (take-append_seam word (SPACE ∷ rest))) (sym back) refl (omega arith)
-  where
-    at : position_or_len is_space (word ++ SPACE ∷ rest) ≡ length word
-    at =
-        position_or_len_is is_space (word ++ SPACE ∷ rest) (length word) 0 (omega (arith, length-append word (SPACE ∷ rest)))
-        (λ k lt. ap is_space (get_or_append_left word (SPACE ∷ rest) 0 k lt) ∙ none k 0 lt)
-        (λ lt. ap is_space (get_or-append_seam word SPACE rest 0))
+word_again word rest none = cut_again is_space SPACE refl word rest none
 
-    back : drop (length word) (word ++ SPACE ∷ rest) ≡ SPACE ∷ rest
-    back = ap (λ k. drop k (word ++ SPACE ∷ rest)) (omega arith) ∙ drop-append-add word (SPACE ∷ rest) 0
+-- no byte is a newline
+abbrev pub NoNewline : List ℕ → Type 0
+NoNewline bytes = All (λ b. is_newline b ≡ false) bytes
+
+pub line_takes : (bytes text rest : List ℕ) → line_at bytes ≡ Some (text, rest) → bytes ≡ text ++ NEWLINE ∷ rest
+line_takes bytes text rest e = cut_takes is_newline NEWLINE (λ b h. eqb-true b 10 h) bytes text rest e
+
+pub line_again : (text rest : List ℕ) → NoNewline text → line_at (text ++ NEWLINE ∷ rest) ≡ Some (text, rest)
+line_again text rest none = cut_again is_newline NEWLINE refl text rest none
 
 digit_range : (c : ℕ) → is_ascii_digit c ≡ true → (48 ≤ c) × (c ≤ 57)
 digit_range c e = search (rules, tests)
@@ -166,3 +176,19 @@ no_space_in [] e = All-nil (λ b. is_space b ≡ false)
 no_space_in (b ∷ word) e =
     let parts = and_parts (not (is_space b)) (list_all (λ b. not (is_space b)) word) e in
     All-cons (λ b. is_space b ≡ false) b word (not-true (is_space b) parts.0) (no_space_in word parts.1)
+
+-- a number has no newline
+digits_no_newline : (ds : List ℕ) → is_number ds ≡ true → NoNewline ds
+digits_no_newline [] e = All-nil (λ b. is_newline b ≡ false)
+digits_no_newline (d ∷ ds) e =
+    let parts = and_parts (is_ascii_digit d) (list_all is_ascii_digit ds) e in
+    All-cons (λ b. is_newline b ≡ false) d ds (ne_eqb d 10 (λ same. omega (arith, digit_range d parts.0))) (digits_no_newline ds parts.1)
+
+pub decimal_no_newline : (n : ℕ) → n < 2 ^ 64 → NoNewline (decimal n)
+decimal_no_newline n small = digits_no_newline (decimal n) (digits_decimal own n small)
+
+pub no_newline_in : (text : List ℕ) → list_all (λ b. not (is_newline b)) text ≡ true → NoNewline text
+no_newline_in [] e = All-nil (λ b. is_newline b ≡ false)
+no_newline_in (b ∷ text) e =
+    let parts = and_parts (not (is_newline b)) (list_all (λ b. not (is_newline b)) text) e in
+    All-cons (λ b. is_newline b ≡ false) b text (not-true (is_newline b) parts.0) (no_newline_in text parts.1)

@@ -14,7 +14,7 @@ use Rattle.lin_report.specs.Text.{NEWLINE, call_line}
 use Rattle.lin_report.specs.Writing.{IsPrintable}
 use Rattle.script_reader.specs.declared.scripts.Numbers.{Numbers}
 use Rattle.script_reader.specs.declared.scripts.Numbers.TheVariants.{NoNumber, OneValue, OneKey, KeyAndValue}
-use Rattle.script_reader.specs.Words.{is_space, number_up_to}
+use Rattle.script_reader.specs.Words.{is_space, is_newline, number_up_to}
 use Rattle.script_reader.specs.Scripts.{GREATEST_KEY, GREATEST_VALUE, command_named}
 use Rattle.report_check.specs.declared.call_lines.CallLine.{CallLine}
 
@@ -32,12 +32,20 @@ AsOption view (Some x) read = read ≡ Some (view x)
 abbrev pub if_so : {A : Type 0} → Bool → A → Option A
 if_so test x = if test then Some x else None
 
+-- what stands before the first byte that passes, and what stands behind it
+abbrev pub cut_at : (ℕ → Bool) → List ℕ → Option (List ℕ × List ℕ)
+cut_at passes bytes =
+    if nat_lt (position_or_len passes bytes) (length bytes)
+    then Some (take (position_or_len passes bytes) bytes, drop (position_or_len passes bytes + 1) bytes)
+    else None
+
 -- a field is a word, and the bytes behind the space after it
 abbrev pub word_at : List ℕ → Option (List ℕ × List ℕ)
-word_at bytes =
-    if nat_lt (position_or_len is_space bytes) (length bytes)
-    then Some (take (position_or_len is_space bytes) bytes, drop (position_or_len is_space bytes + 1) bytes)
-    else None
+word_at bytes = cut_at is_space bytes
+
+-- a line that a newline ends, and the bytes behind that
+abbrev pub line_at : List ℕ → Option (List ℕ × List ℕ)
+line_at bytes = cut_at is_newline bytes
 
 -- digits without leading zeros
 abbrev pub is_plain : List ℕ → Bool

@@ -3,3 +3,4 @@ pub mod Verdicts
 pub mod Tables
 pub mod Judging
 pub mod CallLines
+pub mod Beginnings

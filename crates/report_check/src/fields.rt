@@ -1,28 +1,41 @@
 //! The fields of a line: words with one space behind each.
-ghost use Rattle.std.specs.Prelude.{◌≡◌, ◌≤◌, length};
+ghost use Rattle.std.specs.Prelude.{◌≡◌, ◌==◌, ◌≤◌, length};
 ghost use Rattle.std.specs.List.{position_or_len};
-ghost use Rattle.script_reader.specs.Words.{is_space};
-ghost use Rattle.report_check.specs.CallLines.{AsOption, word_at, plain_number, number_at};
+ghost use Rattle.report_check.specs.CallLines.{AsOption, cut_at, word_at, line_at, plain_number, number_at};
 
 use script_reader::number_up_to;
 
-/// How many bytes stand before the first space.
-fn word_len(bytes: &[u8]) -> usize
-    ensures len { result ≡ position_or_len is_space bytes.now }
+/// How many bytes stand before the first mark.
+fn len_before(mark: u8, bytes: &[u8]) -> usize
+    ensures len { result ≡ position_or_len (λ b. b == mark) bytes.now }
     ensures within { result ≤ length bytes.now }
 {
-    bytes.iter().take_while(|byte| **byte != b' ').count()
+    bytes.iter().take_while(|byte| **byte != mark).count()
+}
+
+/// What stands before the first mark, and what stands behind it.
+fn cut_at(mark: u8, bytes: &[u8]) -> Option<(&[u8], &[u8])>
+    ensures { AsOption (λ w. (w.0.now, w.1.now)) result (cut_at (λ b. b == mark) bytes.now) }
+{
+    let (front, rest) = bytes.split_at(len_before(mark, bytes));
+    match rest {
+        [] => None,
+        [_, after @ ..] => Some((front, after)),
+    }
 }
 
 /// The word before the first space, and what stands behind that space.
 pub(crate) fn word_at(bytes: &[u8]) -> Option<(&[u8], &[u8])>
     ensures { AsOption (λ w. (w.0.now, w.1.now)) result (word_at bytes.now) }
 {
-    let (word, rest) = bytes.split_at(word_len(bytes));
-    match rest {
-        [] => None,
-        [_, after @ ..] => Some((word, after)),
-    }
+    cut_at(b' ', bytes)
+}
+
+/// The first line, without its newline, and what stands behind that. Bytes without a newline are no line.
+pub(crate) fn line_at(bytes: &[u8]) -> Option<(&[u8], &[u8])>
+    ensures { AsOption (λ w. (w.0.now, w.1.now)) result (line_at bytes.now) }
+{
+    cut_at(b'\n', bytes)
 }
 
 /// The number that a word writes without leading zeros, where it is at most this.

@@ -6,6 +6,7 @@ pub use judges::judge;
 pub use orders::{Named, read_order};
 pub use verdicts::{Objection, Reason, Verdict, reason_number};
 
+mod beginnings;
 pub mod call_lines;
 mod fields;
 pub mod judges;
