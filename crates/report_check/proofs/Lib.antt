@@ -12,5 +12,8 @@ pub mod LineCommands
 pub mod LineReplies
 pub mod CallsOnLines
 pub mod CleanLines
+pub mod Kept
+pub mod NextCalls
+pub mod Beginning
 pub mod Law
 pub mod LawBack

@@ -63,6 +63,10 @@ pub record IsNext (client : Client) (before : List Call) (bytes : List ℕ) (c :
   pub follows : IsTrue (may_follow before c)
   pub text : bytes ≡ call_line c ++ rest
 
+-- the call that is next, and what stands behind it; or none is
+abbrev pub TellsNext : Client → List Call → List ℕ → Option (Call × List ℕ) → Type 0
+TellsNext client before bytes found = MatchOption found ((c : Call) (rest : List ℕ) → ¬ IsNext client before bytes c rest) (λ next. IsNext client before bytes next.0 next.1)
+
 -- each call may stand behind those before it
 abbrev pub AreInOrder : Client → List Call → List Call → Type 0
 AreInOrder client before [] = Unit {0}

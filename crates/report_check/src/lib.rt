@@ -1,12 +1,13 @@
 //! Whether an order of calls shows that a report is linearizable: how an order is read, and the verdict.
 #![tactic(auto)]
 
+pub use beginnings::read_calls;
 pub use call_lines::{CallLine, read_call_line};
 pub use judges::judge;
 pub use orders::{Named, read_order};
 pub use verdicts::{Objection, Reason, Verdict, reason_number};
 
-mod beginnings;
+pub mod beginnings;
 pub mod call_lines;
 mod fields;
 pub mod judges;

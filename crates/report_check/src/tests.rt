@@ -211,3 +211,52 @@ fn other_lines_are_of_no_call(rt: HostRuntime) -> Result<(), Fail> {
     }
     Ok(())
 }
+
+/// With how many lines of calls of a queue the text begins, and how many bytes stand behind them.
+fn beginning(alloc: Global, text: &[u8]) -> Result<(usize, usize), NoMemory> {
+    let (calls, _, rest) = read_calls(alloc, Client::Queue, text)?;
+    Ok((calls.len(), rest.len()))
+}
+
+#[test]
+fn lines_are_read_as_far_as_calls_may_follow(rt: HostRuntime) -> Result<(), Fail> {
+    let first = b"0 1 put 7 done 0 3 slow\n1 1 take value 7 1 2 slow\n";
+    assert_eq!(rt; beginning(rt.alloc(), first)?, (2, 0));
+    for (lines, text) in [
+        (
+            3,
+            b"0 1 put 7 done 0 3 slow\n1 1 take value 7 1 2 slow\n1 2 take empty 4 5 slow\n".as_slice(),
+        ),
+        (0, b"0 1 put 7 done 0 0 slow\n".as_slice()),
+        (0, b"0 2 put 7 done 0 3 slow\n".as_slice()),
+        (0, b"0 1 put 7 done 0 3 slow".as_slice()),
+        (
+            1,
+            b"0 1 put 7 done 0 3 slow\n1 1 take empty 0 4 slow\n".as_slice(),
+        ),
+        (
+            1,
+            b"0 1 put 7 done 0 3 slow\n1 1 take empty 3 4 slow\n".as_slice(),
+        ),
+        (
+            1,
+            b"0 1 put 7 done 0 3 slow\n1 1 take empty 1 3 slow\n".as_slice(),
+        ),
+        (
+            1,
+            b"0 1 put 7 done 0 3 slow\n0 2 take value 7 1 2 slow\n".as_slice(),
+        ),
+        (
+            1,
+            b"0 1 put 7 pending 0 - slow\n0 2 take value 7 1 2 slow\n".as_slice(),
+        ),
+        (
+            1,
+            b"0 1 put 7 done 0 3 slow\n0 3 take value 7 4 5 slow\n".as_slice(),
+        ),
+    ] {
+        let (read, _) = beginning(rt.alloc(), text)?;
+        assert_eq!(rt; read, lines, "{text:?}");
+    }
+    Ok(())
+}
