@@ -1,5 +1,5 @@
 -- No newline stands in the line of a call before its end.
-use Rattle.std.proofs.Common.{◌≡◌, ℕ, ◌^◌, ◌<◌, ◌≤◌, Bool, true, false, cond, eqb, Option, Some, None, IfSome, List, [], ◌∷◌, ◌++◌, All, refl, sym, ap, subst, ◌∙◌, arith, append_assoc}
+use Rattle.std.proofs.Common.{◌≡◌, ℕ, ◌^◌, ◌<◌, Bool, true, false, cond, eqb, Option, Some, None, IfSome, List, [], ◌∷◌, ◌++◌, refl, ap, ◌∙◌, arith, append_assoc}
 use Rattle.std.specs.Prelude.{IsTrue, codes}
 use Rattle.std.specs.Fmt.{decimal}
 use Rattle.std.proofs.lemmas.Bool.Decides.{nat_tests}
@@ -15,7 +15,7 @@ use Rattle.lin_report.specs.declared.calls.TheConstants.{PUT, TAKE, ADD, DEL, HA
 use Rattle.lin_report.specs.Commands.{VALUE_LIMIT, KEY_LIMIT, is_command, told_value}
 use Rattle.lin_report.specs.Calls.{Call}
 use Rattle.lin_report.specs.Text.{SPACE, NEWLINE, command_words, reply_words, end_word, path_word, call_line}
-use Rattle.lin_report.specs.Writing.{TICK_LIMIT, IsPrintable, IsPrintableAnswer}
+use Rattle.lin_report.specs.Writing.{TICK_LIMIT, IsPrintable}
 use Rattle.script_reader.specs.Words.{is_newline}
 use Rattle.report_check.specs.CallLines.{line_at}
 use Rattle.report_check.proofs.LineFields.{NoNewline, line_again, decimal_no_newline, no_newline_in}

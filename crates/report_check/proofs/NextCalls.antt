@@ -1,11 +1,10 @@
 -- The call on the first line of bytes, where it may stand there.
-use Rattle.std.proofs.Common.{◌≡◌, ℕ, Bool, true, false, Option, Some, None, List, [], ◌∷◌, ◌++◌, refl, sym, ap, subst, ◌∙◌, append_assoc}
-use Rattle.std.specs.Prelude.{IsTrue}
+use Rattle.std.proofs.Common.{◌≡◌, ℕ, true, false, Option, Some, None, List, [], ◌∷◌, ◌++◌, sym, ap, subst, ◌∙◌, append_assoc}
 use Rattle.std.specs.Option.{option_map}
 use Rattle.std.proofs.lemmas.Option.{same_Some, some_pair_parts}
 use Rattle.lin_report.specs.declared.calls.Client.{Client}
 use Rattle.lin_report.specs.Calls.{Call}
-use Rattle.lin_report.specs.Text.{NEWLINE, call_line}
+use Rattle.lin_report.specs.Text.{NEWLINE}
 use Rattle.report_check.specs.CallLines.{line_at, call_at, IsLineOf}
 use Rattle.report_check.specs.Beginnings.{may_follow, IsNext, TellsNext}
 use Rattle.report_check.proofs.LineFields.{line_takes}

@@ -1,4 +1,3 @@
-use Rattle.std.proofs.Common.{arith}
 use Rattle.report_check.proofs.Kept.{kept}
 use Rattle.report_check.proofs.beginnings.keep.Goals as goal
 
