@@ -2,7 +2,7 @@
 ghost use Rattle.std.specs.Prelude.{◌≡◌, ℕ, Option, ◌<◌, ◌≤◌, IsTrue};
 ghost use Rattle.cas_executor.specs.FastRuns.{IsShort};
 ghost use Rattle.fast_slow_engine.specs.Doings.{bare_work, work_of};
-ghost use Rattle.fast_slow_engine.specs.HelpTable.{CanWork, Executes, Reads, WrapsUp, given_turn, given_work, work_fed, work_turn, wrapped_work};
+ghost use Rattle.fast_slow_engine.specs.HelpTable.{CanWork, Executes, Reads, WrapsUp, given_turn, given_work, work_fed, work_request, work_turn, wrapped_work};
 ghost use Rattle.fast_slow_engine.specs.declared.help.WorkTurn.{WorkTurn as Turned};
 ghost use Rattle.normal_traits.specs.declared.form.Wrapped.{Wrapped as WrappedUp};
 ghost use Rattle.arrayvec.specs.ArrayVec.{ArrayVec};
@@ -10,6 +10,7 @@ ghost use Rattle.arrayvec.specs.ArrayVec.{ArrayVec};
 use crate::doing::Task;
 use crate::help::WorkTurn;
 use crate::help_words::{again_word, announced_op, named_block, stop_of, told_word, wrapping_word};
+use crate::plays::Plays;
 use cas_executor::{Execution, SlowRun};
 use lin_report::Op;
 use lin_report::commands::is_command;
@@ -60,51 +61,79 @@ fn use_block<C: Normalized>(
 }
 
 /// A step of the read of a block.
-pub fn read<C: Normalized>(task: &mut Task<C::Search, C::Wrap>, word: u64, seen: Seen) -> WorkTurn
+#[inline(always)]
+pub fn read<C: Normalized, P: Plays>(
+    task: &mut Task<C::Search, C::Wrap>,
+    word: u64,
+    port: &mut P,
+) -> (WorkTurn, Seen)
     requires reads { Reads (bare_work task.old) }
     requires can { CanWork C.form (bare_work task.old) }
-    ensures work { result ≡ Turned.Going → (stores : ArrayVec (ℕ × ℕ)) (head cap : ℕ) (hand : Option ℕ) → work_of task.new stores ≡ work_fed C.form (work_of task.old stores) head word hand cap seen }
-    ensures turn { (stores : ArrayVec (ℕ × ℕ)) (head : ℕ) → result ≡ work_turn C.form (work_of task.old stores) head word seen }
-    ensures can { result ≡ Turned.Going → (stores : ArrayVec (ℕ × ℕ)) → CanWork C.form (work_of task.new stores) }
+    requires plays { P.can port.old (work_request C.form (bare_work task.old) 0 word) }
+    ensures made { (stores : ArrayVec (ℕ × ℕ)) (head : ℕ) → P.makes port.old (work_request C.form (work_of task.old stores) head word) port.new result.1 }
+    ensures work { result.0 ≡ Turned.Going → (stores : ArrayVec (ℕ × ℕ)) (head cap : ℕ) (hand : Option ℕ) → work_of task.new stores ≡ work_fed C.form (work_of task.old stores) head word hand cap result.1 }
+    ensures turn { (stores : ArrayVec (ℕ × ℕ)) (head : ℕ) → result.0 ≡ work_turn C.form (work_of task.old stores) head word result.1 }
+    ensures can { result.0 ≡ Turned.Going → (stores : ArrayVec (ℕ × ℕ)) → CanWork C.form (work_of task.new stores) }
 {
     let Task::Read(read) = task else {
         unreachable!()
     };
+    let seen = port.play(read.request());
     match read.feed(seen) {
-        None => WorkTurn::Going,
-        Some((op, value, list)) => use_block::<C>(announced_op(op, value), list, word, task),
+        None => (WorkTurn::Going, seen),
+        Some((op, value, list)) => {
+            let turn = use_block::<C>(announced_op(op, value), list, word, task);
+            (turn, seen)
+        }
     }
 }
 
 /// A step of an execution.
-pub fn execute<C: Normalized>(task: &mut Task<C::Search, C::Wrap>, word: u64, seen: Seen)
+#[inline(always)]
+pub fn execute<C: Normalized, P: Plays>(
+    task: &mut Task<C::Search, C::Wrap>,
+    word: u64,
+    port: &mut P,
+) -> Seen
     requires executes { Executes (bare_work task.old) }
     requires can { CanWork C.form (bare_work task.old) }
-    ensures work { (stores : ArrayVec (ℕ × ℕ)) (head cap : ℕ) (hand : Option ℕ) → work_of task.new stores ≡ work_fed C.form (work_of task.old stores) head word hand cap seen }
+    requires plays { P.can port.old (work_request C.form (bare_work task.old) 0 word) }
+    ensures made { (stores : ArrayVec (ℕ × ℕ)) (head : ℕ) → P.makes port.old (work_request C.form (work_of task.old stores) head word) port.new result }
+    ensures work { (stores : ArrayVec (ℕ × ℕ)) (head cap : ℕ) (hand : Option ℕ) → work_of task.new stores ≡ work_fed C.form (work_of task.old stores) head word hand cap result }
     ensures can { (stores : ArrayVec (ℕ × ℕ)) → CanWork C.form (work_of task.new stores) }
 {
     let Task::Execute(run) = task else {
         unreachable!()
     };
-    let Execution::Stopped(stop) = run.feed(seen) else {
-        return;
-    };
-    *task = Task::Advance(wrapping_word(word, stop));
+    let seen = port.play(run.request());
+    if let Execution::Stopped(stop) = run.feed(seen) {
+        *task = Task::Advance(wrapping_word(word, stop));
+    }
+    seen
 }
 
 /// A step of a wrap-up.
-pub fn wrap_up<C: Normalized>(task: &mut Task<C::Search, C::Wrap>, word: u64, seen: Seen)
+#[inline(always)]
+pub fn wrap_up<C: Normalized, P: Plays>(
+    task: &mut Task<C::Search, C::Wrap>,
+    word: u64,
+    port: &mut P,
+) -> Seen
     requires wraps { WrapsUp (bare_work task.old) }
     requires can { CanWork C.form (bare_work task.old) }
-    ensures work { (stores : ArrayVec (ℕ × ℕ)) (head cap : ℕ) (hand : Option ℕ) → work_of task.new stores ≡ work_fed C.form (work_of task.old stores) head word hand cap seen }
+    requires plays { P.can port.old (work_request C.form (bare_work task.old) 0 word) }
+    ensures made { (stores : ArrayVec (ℕ × ℕ)) (head : ℕ) → P.makes port.old (work_request C.form (work_of task.old stores) head word) port.new result }
+    ensures work { (stores : ArrayVec (ℕ × ℕ)) (head cap : ℕ) (hand : Option ℕ) → work_of task.new stores ≡ work_fed C.form (work_of task.old stores) head word hand cap result }
     ensures can { (stores : ArrayVec (ℕ × ℕ)) → CanWork C.form (work_of task.new stores) }
 {
     let Task::Wrap(wrap) = task else {
         unreachable!()
     };
+    let seen = port.play(C::wrap_request(wrap));
     match C::feed_wrap(wrap, seen) {
         Wrapped::Going => {}
         Wrapped::Done(outcome) => *task = Task::Advance(told_word(word, outcome)),
         Wrapped::Restart => *task = Task::Advance(again_word(word)),
     }
+    seen
 }

@@ -115,7 +115,7 @@ fn ready<C: Normalized>(call: &Call, room: &mut Room<C::Search, C::Wrap>)
 
 /// A step of the generator.
 #[inline(always)]
-fn search<C: Normalized>(call: &mut Call, room: &mut Room<C::Search, C::Wrap>, seen: Seen)
+pub fn search<C: Normalized>(call: &mut Call, room: &mut Room<C::Search, C::Wrap>, seen: Seen)
     requires call { IsCallOf C.form.client call.old }
     requires searches { IsAt Generating.Search (phase_of room.old) }
     requires ready { IsReadyIn C.form (phase_of room.old) }
@@ -143,7 +143,7 @@ fn none_is_left(call: &Call, claimed: u64) -> bool
 
 /// Looks whether a block is left to claim.
 #[inline(never)]
-fn look_for_block<C: Normalized>(call: &Call, room: &mut Room<C::Search, C::Wrap>, seen: Seen)
+pub fn look_for_block<C: Normalized>(call: &Call, room: &mut Room<C::Search, C::Wrap>, seen: Seen)
     requires looks { IsAt Generating.LookForBlock (phase_of room.old) }
     requires ready { IsReadyIn C.form (phase_of room.old) }
     ensures machine { mech_of call.now (phase_of room.new) ≡ stepped C.form (phase_of room.old) seen (mech_of call.now (phase_of room.old)) }
@@ -161,7 +161,7 @@ fn look_for_block<C: Normalized>(call: &Call, room: &mut Room<C::Search, C::Wrap
 
 /// Takes the block that was claimed, where there was one.
 #[inline(never)]
-fn claim<C: Normalized>(call: &mut Call, room: &mut Room<C::Search, C::Wrap>, seen: Seen)
+pub fn claim<C: Normalized>(call: &mut Call, room: &mut Room<C::Search, C::Wrap>, seen: Seen)
     requires call { IsCallOf C.form.client call.old }
     requires claims { IsAt Generating.Claim (phase_of room.old) }
     requires ready { IsReadyIn C.form (phase_of room.old) }
@@ -179,7 +179,7 @@ fn claim<C: Normalized>(call: &mut Call, room: &mut Room<C::Search, C::Wrap>, se
 
 /// A store into the block in hand was made.
 #[inline(always)]
-fn fill<S: Drop, W: Drop>(room: &mut Room<S, W>)
+pub fn fill<S: Drop, W: Drop>(room: &mut Room<S, W>)
     requires { Fills (phase_of room.old) }
     ensures machine { phase_of room.new ≡ filled (phase_of room.old) }
 {
@@ -230,7 +230,7 @@ fn spend<C: Normalized>(call: &mut Call, stop: u32)
 
 /// The exchange of an entry was made.
 #[inline(never)]
-fn execute<C: Normalized>(call: &mut Call, room: &mut Room<C::Search, C::Wrap>, seen: Seen)
+pub fn execute<C: Normalized>(call: &mut Call, room: &mut Room<C::Search, C::Wrap>, seen: Seen)
     requires call { IsCallOf C.form.client call.old }
     requires executes { Executes (phase_of room.old) }
     requires ready { IsReadyIn C.form (phase_of room.old) }
@@ -266,44 +266,5 @@ pub fn wrap_up<C: Normalized>(call: &mut Call, room: &mut Room<C::Search, C::Wra
         Wrapped::Going => {}
         Wrapped::Done(outcome) => tell(outcome, call, room),
         Wrapped::Restart => fail::<C>(call, room),
-    }
-}
-
-/// A step of a search with its claim.
-#[inline(always)]
-pub fn generate<C: Normalized>(call: &mut Call, room: &mut Room<C::Search, C::Wrap>, seen: Seen)
-    requires call { IsCallOf C.form.client call.old }
-    requires generates { Generates (phase_of room.old) }
-    requires ready { IsReadyIn C.form (phase_of room.old) }
-    ensures machine { mech_of call.new (phase_of room.new) ≡ stepped C.form (phase_of room.old) seen (mech_of call.old (phase_of room.old)) }
-    ensures call { IsCallOf C.form.client call.new }
-    ensures ready { IsReadyIn C.form (phase_of room.new) }
-{
-    let Doing::Generate { at, .. } = &mut room.doing else {
-        unreachable!()
-    };
-    match *at {
-        Generating::Search => search::<C>(call, room, seen),
-        Generating::LookForBlock => look_for_block::<C>(call, room, seen),
-        Generating::Claim => claim::<C>(call, room, seen),
-    }
-}
-
-/// A step of an offer.
-#[inline(always)]
-pub fn apply<C: Normalized>(call: &mut Call, room: &mut Room<C::Search, C::Wrap>, seen: Seen)
-    requires call { IsCallOf C.form.client call.old }
-    requires applies { Applies (phase_of room.old) }
-    requires ready { IsReadyIn C.form (phase_of room.old) }
-    ensures machine { mech_of call.new (phase_of room.new) ≡ stepped C.form (phase_of room.old) seen (mech_of call.old (phase_of room.old)) }
-    ensures call { IsCallOf C.form.client call.new }
-    ensures ready { IsReadyIn C.form (phase_of room.new) }
-{
-    let Doing::Apply { at, .. } = &mut room.doing else {
-        unreachable!()
-    };
-    match *at {
-        Applying::Fill(_) => fill(room),
-        Applying::Execute => execute::<C>(call, room, seen),
     }
 }

@@ -1,10 +1,13 @@
 //! The steps of helping the call of a head.
-ghost use Rattle.std.specs.Prelude.{◌≡◌, ℕ, Option, ◌+◌, ◌<◌, ◌≤◌, ◌^◌, IsTrue, true, false, Some, None, length};
+ghost use Rattle.std.specs.Prelude.{◌≡◌, ℕ, Option, ◌+◌, ◌<◌, ◌≤◌, ◌^◌, ◌&&◌, if◌then◌else◌, IsTrue, true, false, Some, None, length};
 ghost use Rattle.arrayvec.specs.ArrayVec.{ArrayVec};
 ghost use Rattle.fast_slow_engine.specs.Doings.{bare_work, help_of, helping_of, work_of};
 ghost use Rattle.fast_slow_engine.specs.Hands.{block_of};
-ghost use Rattle.fast_slow_engine.specs.HelpTable.{CanHelp, CanWork, LooksUp, first_work, help_fed, helping_ends, helping_hand, helping_met, work_fed, work_hand, work_turn};
-ghost use Rattle.word_fields.specs.Records.{record_phase};
+ghost use Rattle.fast_slow_engine.specs.HelpTable.{CanHelp, CanWork, LooksUp, first_work, help_fed, help_request, helping_ends, helping_hand, helping_met, work_fed, work_hand, work_request, work_turn};
+ghost use Rattle.word_fields.specs.Records.{packed_record, record_of, record_phase};
+ghost use Rattle.node_arena.specs.MemoryMap.{record_place};
+ghost use Rattle.step_memory.specs.declared.steps.Request.TheVariants.{Exchange};
+ghost use Rattle.fast_slow_engine.specs.HelpWords.{is_executing};
 ghost use Rattle.fast_slow_engine.specs.declared.help.WorkTurn.{WorkTurn as Turned};
 
 use crate::doing::{Aid, Aiding, Task};
@@ -12,14 +15,18 @@ use crate::executing::{execute, read, wrap_up};
 use crate::help::WorkTurn;
 use crate::help_words::{announced_op, executing_word, named_block};
 use crate::phases::Generating;
+use crate::plays::Plays;
+use crate::requests::{record_exchange, store_of};
 use crate::searching::search;
 use cas_executor::BlockRead;
 use help_queue::Removing;
 use help_queue::gather::leads;
 use help_queue::heads::{is_other, removal_of};
 use lin_report::commands::is_command;
+use node_arena::places::QUEUE;
+use node_arena::{op_place, record_place, value_place};
 use normal_traits::{Normalized, Stores};
-use step_memory::Seen;
+use step_memory::{Request, Seen};
 use word_fields::{OpWord, Phase as RecordPhase, RecordWord, ValueWord};
 
 /// The seat that is helped, and its record as it was loaded.
@@ -57,115 +64,169 @@ fn first_task<C: Normalized>(word: u64) -> Task<C::Search, C::Wrap>
     }
 }
 
-/// A look at the head, or a load of the call's operation.
-fn look_up<C: Normalized>(
+/// Looks whether the seat is the head, or loads the call's operation.
+#[inline(always)]
+fn look_up<C: Normalized, P: Plays>(
     task: &mut Task<C::Search, C::Wrap>,
     helped: Helped,
-    seen: Seen,
-) -> WorkTurn
+    port: &mut P,
+) -> (WorkTurn, Seen)
+    requires head { helped.head < 8 }
     requires looks { LooksUp (bare_work task.old) }
-    ensures work { result ≡ Turned.Going → (stores : ArrayVec (ℕ × ℕ)) (cap : ℕ) (hand : Option ℕ) → work_of task.new stores ≡ work_fed C.form (work_of task.old stores) helped.head helped.word hand cap seen }
-    ensures turn { (stores : ArrayVec (ℕ × ℕ)) → result ≡ work_turn C.form (work_of task.old stores) helped.head helped.word seen }
-    ensures can { result ≡ Turned.Going → (stores : ArrayVec (ℕ × ℕ)) → CanWork C.form (work_of task.new stores) }
+    requires plays { P.can port.old (work_request C.form (bare_work task.old) helped.head helped.word) }
+    ensures made { P.makes port.old (work_request C.form (bare_work task.old) helped.head helped.word) port.new result.1 }
+    ensures work { result.0 ≡ Turned.Going → (stores : ArrayVec (ℕ × ℕ)) (cap : ℕ) (hand : Option ℕ) → work_of task.new stores ≡ work_fed C.form (work_of task.old stores) helped.head helped.word hand cap result.1 }
+    ensures turn { (stores : ArrayVec (ℕ × ℕ)) → result.0 ≡ work_turn C.form (work_of task.old stores) helped.head helped.word result.1 }
+    ensures can { result.0 ≡ Turned.Going → (stores : ArrayVec (ℕ × ℕ)) → CanWork C.form (work_of task.new stores) }
 {
     let number = RecordWord::unpack(helped.word).number;
     match task {
-        Task::Head if !leads(seen.before, helped.head) => return WorkTurn::Over,
-        Task::Head => *task = first_task::<C>(helped.word),
-        Task::Op if OpWord::unpack(seen.before).number != number => return WorkTurn::Again,
-        Task::Op => *task = Task::Value(seen.before),
+        Task::Head => {
+            let seen = port.play(Request::Load { at: QUEUE });
+            if !leads(seen.before, helped.head) {
+                return (WorkTurn::Over, seen);
+            }
+            *task = first_task::<C>(helped.word);
+            (WorkTurn::Going, seen)
+        }
+        Task::Op => {
+            let seen = port.play(Request::Load {
+                at: op_place(helped.head),
+            });
+            if OpWord::unpack(seen.before).number != number {
+                return (WorkTurn::Again, seen);
+            }
+            *task = Task::Value(seen.before);
+            (WorkTurn::Going, seen)
+        }
         Task::Value(op) => {
+            let seen = port.play(Request::Load {
+                at: value_place(helped.head),
+            });
             let op = announced_op(*op, seen.before);
             if ValueWord::unpack(seen.before).number != number || !is_command(C::CLIENT, op) {
-                return WorkTurn::Again;
+                return (WorkTurn::Again, seen);
             }
             *task = Task::Generate {
                 op,
                 search: C::begin(op),
                 at: Generating::Search,
             };
+            (WorkTurn::Going, seen)
         }
         _ => unreachable!(),
     }
-    WorkTurn::Going
+}
+
+/// The exchange of the record to another word. A block that the record names from then on is no longer in hand.
+#[inline(always)]
+fn advance<P: Plays>(
+    to: u64,
+    helped: Helped,
+    hand: &mut Option<u32>,
+    port: &mut P,
+) -> Seen
+    requires head { helped.head < 8 }
+    requires plays { P.can port.old (Exchange (record_place helped.head) (packed_record (record_of helped.word)) to) }
+    requires small { block_of hand.old < 2 ^ 17 }
+    ensures made { P.makes port.old (Exchange (record_place helped.head) (packed_record (record_of helped.word)) to) port.new result }
+    ensures hand { hand.new ≡ (if result.won && is_executing (record_phase to) then None else hand.old) }
+    ensures small { block_of hand.new < 2 ^ 17 }
+{
+    let seen = port.play(record_exchange(helped.head, helped.word, to));
+    if seen.won && RecordWord::unpack(to).phase == RecordPhase::Executing {
+        *hand = None;
+    }
+    seen
 }
 
 /// A step of the work.
-fn work_on<C: Normalized>(
+#[inline(always)]
+fn work_on<C: Normalized, P: Plays>(
     task: &mut Task<C::Search, C::Wrap>,
     stores: &mut Stores,
     helped: Helped,
     hand: &mut Option<u32>,
     cap: u32,
-    seen: Seen,
-) -> WorkTurn
+    port: &mut P,
+) -> (WorkTurn, Seen)
     requires head { helped.head < 8 }
     requires can { CanWork C.form (work_of task.old stores.old) }
     requires small { block_of hand.old < 2 ^ 17 }
     requires blocks { cap ≤ 65536 }
-    ensures work { result ≡ Turned.Going → work_of task.new stores.new ≡ work_fed C.form (work_of task.old stores.old) helped.head helped.word hand.old cap seen }
-    ensures turn { result ≡ work_turn C.form (work_of task.old stores.old) helped.head helped.word seen }
-    ensures hand { hand.new ≡ work_hand (work_of task.old stores.old) hand.old cap seen }
-    ensures can { result ≡ Turned.Going → CanWork C.form (work_of task.new stores.new) }
+    requires plays { P.can port.old (work_request C.form (work_of task.old stores.old) helped.head helped.word) }
+    ensures made { P.makes port.old (work_request C.form (work_of task.old stores.old) helped.head helped.word) port.new result.1 }
+    ensures work { result.0 ≡ Turned.Going → work_of task.new stores.new ≡ work_fed C.form (work_of task.old stores.old) helped.head helped.word hand.old cap result.1 }
+    ensures turn { result.0 ≡ work_turn C.form (work_of task.old stores.old) helped.head helped.word result.1 }
+    ensures hand { hand.new ≡ work_hand (work_of task.old stores.old) hand.old cap result.1 }
+    ensures can { result.0 ≡ Turned.Going → CanWork C.form (work_of task.new stores.new) }
     ensures small { block_of hand.new < 2 ^ 17 }
 {
     match task {
-        Task::Head | Task::Op | Task::Value(_) => return look_up::<C>(task, helped, seen),
-        Task::Generate { .. } => return search::<C>(task, stores, helped, hand, cap, seen),
-        Task::Fill(made) if *made as usize + 1 == stores.len() => {
-            *task = Task::Advance(executing_word(helped.word, hand.unwrap_or(0)));
-        }
-        Task::Fill(made) => *made += 1,
-        Task::Advance(to) => {
-            if seen.won && RecordWord::unpack(*to).phase == RecordPhase::Executing {
-                *hand = None;
+        Task::Head | Task::Op | Task::Value(_) => look_up::<C, P>(task, helped, port),
+        Task::Generate { .. } => search::<C, P>(task, stores, helped, hand, cap, port),
+        Task::Fill(made) => {
+            let seen = port.play(store_of(stores, *made));
+            if *made as usize + 1 == stores.len() {
+                *task = Task::Advance(executing_word(helped.word, hand.unwrap_or(0)));
+            } else {
+                *made += 1;
             }
-            return WorkTurn::Again;
+            (WorkTurn::Going, seen)
         }
-        Task::Read(_) => return read::<C>(task, helped.word, seen),
-        Task::Execute(_) => execute::<C>(task, helped.word, seen),
-        Task::Wrap(_) => wrap_up::<C>(task, helped.word, seen),
+        Task::Advance(to) => (WorkTurn::Again, advance(*to, helped, hand, port)),
+        Task::Read(_) => read::<C, P>(task, helped.word, port),
+        Task::Execute(_) => (WorkTurn::Going, execute::<C, P>(task, helped.word, port)),
+        Task::Wrap(_) => (WorkTurn::Going, wrap_up::<C, P>(task, helped.word, port)),
     }
-    WorkTurn::Going
 }
 
-/// Takes what a step of helping saw. Whether helping ends.
-pub fn feed_help<C: Normalized>(
+/// Makes a step of helping. Whether helping ends, and what the step saw.
+#[inline(always)]
+pub fn help_on<C: Normalized, P: Plays>(
     aid: &mut Aid<C::Search, C::Wrap>,
     stores: &mut Stores,
     hand: &mut Option<u32>,
     cap: u32,
-    seen: Seen,
-) -> bool
+    port: &mut P,
+) -> (bool, Seen)
     requires can { CanHelp C.form (help_of aid.old stores.old) }
     requires small { block_of hand.old < 2 ^ 17 }
     requires blocks { cap ≤ 65536 }
-    ensures ends { result ≡ helping_ends C.form (helping_of aid.old.at stores.old) aid.old.head seen }
-    ensures help { result ≡ false → help_of aid.new stores.new ≡ help_fed C.form (help_of aid.old stores.old) hand.old cap seen }
-    ensures hand { hand.new ≡ helping_hand (helping_of aid.old.at stores.old) hand.old cap seen }
-    ensures can { result ≡ false → CanHelp C.form (help_of aid.new stores.new) }
+    requires plays { P.can port.old (help_request C.form (help_of aid.old stores.old)) }
+    ensures made { P.makes port.old (help_request C.form (help_of aid.old stores.old)) port.new result.1 }
+    ensures ends { result.0 ≡ helping_ends C.form (helping_of aid.old.at stores.old) aid.old.head result.1 }
+    ensures help { result.0 ≡ false → help_of aid.new stores.new ≡ help_fed C.form (help_of aid.old stores.old) hand.old cap result.1 }
+    ensures hand { hand.new ≡ helping_hand (helping_of aid.old.at stores.old) hand.old cap result.1 }
+    ensures can { result.0 ≡ false → CanHelp C.form (help_of aid.new stores.new) }
     ensures small { block_of hand.new < 2 ^ 17 }
 {
     let head = aid.head;
     match &mut aid.at {
         Aiding::Record(known) => {
+            let seen = port.play(Request::Load {
+                at: record_place(head),
+            });
             if is_other(*known, RecordWord::unpack(seen.before).number) {
-                return true;
+                return (true, seen);
             }
             aid.at = meet(seen.before, head, aid.seats);
-            false
+            (false, seen)
         }
         Aiding::Known { record, task } => {
             let word = *record;
-            match work_on::<C>(task, stores, Helped { head, word }, hand, cap, seen) {
-                WorkTurn::Going => false,
-                WorkTurn::Again => {
+            match work_on::<C, P>(task, stores, Helped { head, word }, hand, cap, port) {
+                (WorkTurn::Going, seen) => (false, seen),
+                (WorkTurn::Again, seen) => {
                     aid.at = Aiding::Record(Some(RecordWord::unpack(word).number));
-                    false
+                    (false, seen)
                 }
-                WorkTurn::Over => true,
+                (WorkTurn::Over, seen) => (true, seen),
             }
         }
-        Aiding::Remove(remove) => remove.feed(seen) == Removing::Gone,
+        Aiding::Remove(remove) => {
+            let seen = port.play(remove.request());
+            (remove.feed(seen) == Removing::Gone, seen)
+        }
     }
 }

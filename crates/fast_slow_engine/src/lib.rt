@@ -3,6 +3,7 @@
 
 pub use help::{Help, Helping, Work, WorkTurn};
 pub use machine::Machine;
+pub use plays::{Made, Plays};
 pub use phases::{Announcing, Applying, Generating, Phase};
 pub use setup::{Setup, Turn};
 
@@ -16,6 +17,7 @@ mod helping;
 pub mod lines;
 pub mod machine;
 pub mod phases;
+pub mod plays;
 mod requests;
 mod searching;
 pub mod setup;

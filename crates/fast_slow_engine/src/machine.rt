@@ -6,6 +6,7 @@ ghost use Rattle.fast_slow_engine.specs.declared.setup.Turn.{Turn};
 use crate::call::Call;
 use crate::doing::{Doing, Room};
 use crate::phases::Applying;
+use crate::plays::{Made, Plays};
 use crate::requests::request_of;
 use crate::setup::{Setup, Turn};
 use crate::steps::go_on;
@@ -140,7 +141,21 @@ impl<C: Normalized> Machine<C> {
         ensures turn { mech_turn self.old seen ≡ Turn.Going }
         ensures runs { rests self.new.phase ≡ false }
     {
-        go_on::<C>(&mut self.call, &mut self.room, seen);
+        go_on::<C, Made>(&mut self.call, &mut self.room, &mut Made { seen });
+    }
+
+    /// Makes a step that draws no end tick, in one piece, and takes what it saw: the call goes on.
+    #[inline(always)]
+    pub fn go_on_over<P: Plays>(&mut self, port: &mut P) -> Seen
+        requires runs { rests self.old.phase ≡ false }
+        requires goes_on { ends self.old.phase ≡ false }
+        requires plays { P.can port.old (mech_request C.form self.old) }
+        ensures made { P.makes port.old (mech_request C.form self.old) port.new result }
+        ensures machine { self.new ≡ mech_fed C.form self.old result }
+        ensures turn { mech_turn self.old result ≡ Turn.Going }
+        ensures runs { rests self.new.phase ≡ false }
+    {
+        go_on::<C, P>(&mut self.call, &mut self.room, port)
     }
 
     /// Takes the end tick: the call returns, with its line.

@@ -5,6 +5,9 @@ ghost use Rattle.fast_slow_engine.specs.Mechs.{IsCallOf, IsInRange, IsReadyIn, I
 ghost use Rattle.fast_slow_engine.specs.OfferStores.{stored_by};
 ghost use Rattle.fast_slow_engine.specs.PhaseTable.{announce_request, request_in, rests};
 ghost use Rattle.fast_slow_engine.specs.declared.phases.Phase.{Phase};
+ghost use Rattle.node_arena.specs.MemoryMap.{record_place};
+ghost use Rattle.step_memory.specs.declared.steps.Request.{Request};
+ghost use Rattle.word_fields.specs.Records.{packed_record, record_of};
 ghost use Rattle.fast_slow_engine.specs.HelpTable.{CanHelp, CanWork, help_request, work_request};
 
 use crate::call::Call;
@@ -18,7 +21,7 @@ use step_memory::Request;
 use word_fields::RecordWord;
 
 /// The next store that announces a call.
-fn announce<S, W>(call: &Call, at: Announcing, room: &Room<S, W>) -> Request
+pub fn announce_request<S, W>(call: &Call, at: Announcing, room: &Room<S, W>) -> Request
     requires range { IsInRange call.now }
     requires some { 1 ≤ call.now.number }
     requires code { call.now.op.code < 16 }
@@ -35,12 +38,25 @@ fn announce<S, W>(call: &Call, at: Announcing, room: &Room<S, W>) -> Request
 
 /// The store of an offer with this number.
 #[inline(always)]
-fn store_of(stores: &Stores, made: u32) -> Request
+pub fn store_of(stores: &Stores, made: u32) -> Request
     requires { made < length stores.now.items }
     ensures { result ≡ stored_by (slice_get stores.now.items made) }
 {
     let (at, value) = stores[made as usize];
     Request::Store { at, value }
+}
+
+/// The exchange of a head's record from the word that was loaded.
+#[inline(always)]
+pub fn record_exchange(head: u32, word: u64, to: u64) -> Request
+    requires { head < 8 }
+    ensures request { result ≡ Request.Exchange (record_place head) (packed_record (record_of word)) to }
+{
+    Request::Exchange {
+        at: record_place(head),
+        from: RecordWord::unpack(word).pack(),
+        to,
+    }
 }
 
 /// The next request of the work.
@@ -66,11 +82,7 @@ fn work_request<C: Normalized>(
             Generating::Claim => Request::Add { at: CLAIMS, by: 1 },
         },
         Task::Fill(made) => store_of(stores, *made),
-        Task::Advance(to) => Request::Exchange {
-            at: record_place(head),
-            from: RecordWord::unpack(word).pack(),
-            to: *to,
-        },
+        Task::Advance(to) => record_exchange(head, word, *to),
         Task::Read(read) => read.request(),
         Task::Execute(run) => run.request(),
         Task::Wrap(wrap) => C::wrap_request(wrap),
@@ -102,7 +114,7 @@ fn slow_request<C: Normalized>(call: &Call, room: &Room<C::Search, C::Wrap>) -> 
     ensures { result ≡ request_in C.form (phase_of room.now) (mech_of call.now (phase_of room.now)) }
 {
     match &room.doing {
-        Doing::Announce(at) => announce(call, *at, room),
+        Doing::Announce(at) => announce_request(call, *at, room),
         Doing::Enter(enter) => enter.request(),
         Doing::Drive => Request::Load { at: QUEUE },
         Doing::Help { aid, .. } => help_request::<C>(aid, &room.stores),
