@@ -1,3 +1,4 @@
 pub mod Seats
 pub mod Noted
 pub mod Cores
+pub mod Watching

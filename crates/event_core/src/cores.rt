@@ -6,17 +6,17 @@ ghost use Rattle.std.specs.Option.{option_to_list};
 ghost use Rattle.fast_slow_engine.specs.Runs.{returned};
 ghost use Rattle.event_core.specs.Cores.{core_new, core_turn_of, new_seats};
 
-use crate::noting::{note_step, tells_nothing, word_at};
+use crate::noting::{note, note_mark};
 use crate::seats::Seat;
+use crate::watching::Watched;
 use arrayvec::ArrayVec;
-use fast_slow_engine::{Setup, Turn};
+use fast_slow_engine::{Plays, Setup, Turn};
 use lin_report::{Event, NoMemory, Op, PendingCall, Receipt};
 use node_arena::opening_words;
 use normal_traits::Normalized;
 use overtaking_law::greatest_overtaken;
 use std::alloc::Global;
 use std::marker::Model;
-use step_memory::{Cells, Port};
 
 /// What a step of a seat has come to.
 #[derive(Clone, Copy, Debug, PartialEq, Eq)]
@@ -33,7 +33,7 @@ pub enum CoreTurn {
 #[derive(Drop)]
 pub struct Core<C: Normalized> {
     setup: Setup,
-    cells: Cells,
+    cells: Watched,
     seats: Vec<Seat<C>>,
     receipts: Vec<Receipt>,
     events: Vec<Event>,
@@ -45,9 +45,9 @@ impl<C: Normalized> Model for Core<C> {
 
     ghost Value = { CoreView C.Search C.Wrap };
 
-    ghost view = { λ c. core_of c.setup c.cells c.seats.items c.receipts.items c.events.items };
+    ghost view = { λ c. core_of c.setup c.cells.words c.seats.items c.receipts.items c.events.items };
 
-    ghost invariant = { λ c. IsCore C.form c.setup c.cells c.seats.items (vec_len c.receipts) (vec_capacity c.receipts) c.events.items (vec_capacity c.events) };
+    ghost invariant = { λ c. IsCore C.form c.setup c.cells.words c.seats.items (vec_len c.receipts) (vec_capacity c.receipts) c.events.items (vec_capacity c.events) };
 }
 
 impl<C: Normalized> Core<C> {
@@ -74,7 +74,7 @@ impl<C: Normalized> Core<C> {
         let events = room_for(alloc, EVENTS * commands)?;
         Ok(Core {
             setup,
-            cells: Cells::new(words),
+            cells: Watched::new(words),
             seats: seats_of(alloc, setup, files)?,
             receipts,
             events,
@@ -91,19 +91,15 @@ impl<C: Normalized> Core<C> {
         if !at.begin_next() {
             return CoreTurn::Idle;
         }
-        let request = at.request();
-        if tells_nothing(request) {
-            let seen = self.cells.apply(request);
-            at.go_on(seen);
-            return CoreTurn::Going;
+        if at.draws_tick() {
+            let turn = draw(at, &mut self.cells, &mut self.events);
+            return keep(&mut self.receipts, turn);
         }
-        let tick = at.next_event();
-        let place = request.place();
-        let before = word_at(self.cells.words(), place);
-        let seen = self.cells.apply(request);
-        let turn = at.feed(seen);
-        note_step(&mut self.events, tick, place, before, self.cells.words());
-        keep(&mut self.receipts, turn)
+        at.go_on_over(&mut self.cells);
+        if let Some(mark) = self.cells.mark() {
+            note_mark(&mut self.events, mark, self.cells.words());
+        }
+        CoreTurn::Going
     }
 
     /// Whether the next step of a seat is the exchange of an entry of a list. A seat without a call has no
@@ -221,6 +217,15 @@ fn add_pending(pending: &mut ArrayVec<PendingCall, 8>, call: Option<PendingCall>
     if let Some(call) = call {
         pending.push(call);
     }
+}
+
+/// The step of a seat that draws a tick. Its event is put last.
+#[inline(never)]
+fn draw<C: Normalized>(at: &mut Seat<C>, cells: &mut Watched, events: &mut Vec<Event>) -> Turn {
+    let tick = at.next_event();
+    let seen = cells.play(at.request());
+    note(events, tick);
+    at.feed(seen)
 }
 
 /// Puts the line of a call that returns last.

@@ -5,6 +5,7 @@ ghost use Rattle.word_fields.specs.Seats.{AreSeats};
 ghost use Rattle.fast_slow_engine.specs.Events.{published_by, record_word_of};
 ghost use Rattle.event_core.specs.Noted.{completed_at, is_member, noted, published_at, tells_nothing};
 
+use crate::watching::Mark;
 use help_queue::gather::is_open;
 use lin_report::{Event, EventKind};
 use node_arena::places::{QUEUE, RECORDS};
@@ -25,7 +26,7 @@ pub fn word_at(words: &[u64], place: u32) -> u64
 
 /// Whether a place is beyond the records, where no word of the engine's own stands.
 #[inline(always)]
-fn is_beyond(place: u32) -> bool
+pub fn is_beyond(place: u32) -> bool
     ensures { result ≡ nat_le (RECORDS + 8) place }
 {
     place >= RECORDS + 8
@@ -63,7 +64,7 @@ fn completed_at(place: u32, before: u64, after: u64) -> Option<Event>
 }
 
 /// Puts an event last, where there is one.
-fn note(events: &mut Vec<Event>, event: Option<Event>)
+pub fn note(events: &mut Vec<Event>, event: Option<Event>)
     requires { vec_len events.old + length (option_to_list event) ≤ vec_capacity events.old }
     ensures items { events.new.items ≡ events.old.items ++ option_to_list event }
     ensures len { vec_len events.new ≡ vec_len events.old + length (option_to_list event) }
@@ -124,20 +125,11 @@ fn note_published(events: &mut Vec<Event>, place: u32, before: u64, words: &[u64
     }
 }
 
-/// Puts the events of a step last: it drew this tick, if any, found this word at its place, and left these words.
-pub fn note_step(
-    events: &mut Vec<Event>,
-    tick: Option<Event>,
-    place: u32,
-    before: u64,
-    words: &[u64],
-)
-    requires room { vec_len events.old + length (noted tick place before words.now) ≤ vec_capacity events.old }
-    ensures items { events.new.items ≡ events.old.items ++ noted tick place before words.now }
-    ensures len { vec_len events.new ≡ vec_len events.old + length (noted tick place before words.now) }
-    ensures capacity { vec_capacity events.new ≡ vec_capacity events.old }
+/// Puts the events last that a step is which has this mark and left these words.
+#[inline(never)]
+pub fn note_mark(events: &mut Vec<Event>, mark: Mark, words: &[u64])
 {
+    let Mark { place, before } = mark;
     note(events, completed_at(place, before, word_at(words, place)));
-    note(events, tick);
     note_published(events, place, before, words);
 }

@@ -5,7 +5,7 @@ ghost use Rattle.step_memory.specs.Step.{seen_of, words_after};
 ghost use Rattle.fast_slow_engine.specs.Runs.{CanMove, begun, returned};
 ghost use Rattle.fast_slow_engine.specs.PhaseTable.{ends, lists, mech_event, mech_fed, mech_new, mech_pending, mech_request, mech_turn, rests};
 
-use fast_slow_engine::{Machine, Setup, Turn};
+use fast_slow_engine::{Machine, Plays, Setup, Turn};
 use lin_report::{Event, Op, PendingCall};
 use normal_traits::Normalized;
 use std::marker::Model;
@@ -67,6 +67,13 @@ impl<C: Normalized> Seat<C> {
         }
     }
 
+    /// Whether the next step draws a tick.
+    pub fn draws_tick(&self) -> bool
+        ensures { result ≡ is_some (mech_event self.now.mech) }
+    {
+        self.machine.draws_tick()
+    }
+
     /// The event that the next step is, if it is one.
     pub fn next_event(&self) -> Option<Event>
         ensures { result ≡ mech_event self.now.mech }
@@ -94,18 +101,20 @@ impl<C: Normalized> Seat<C> {
         self.machine.feed(seen)
     }
 
-    /// Takes what that step saw, where it draws no end tick.
+    /// Makes a step that draws no end tick, in one piece, and takes what it saw.
     #[inline(always)]
-    pub fn go_on(&mut self, seen: Seen)
+    pub fn go_on_over<P: Plays>(&mut self, port: &mut P) -> Seen
         requires runs { rests self.old.mech.phase ≡ false }
         requires goes_on { ends self.old.mech.phase ≡ false }
-        ensures mech { self.new.mech ≡ mech_fed C.form self.old.mech seen }
+        requires plays { P.can port.old (mech_request C.form self.old.mech) }
+        ensures made { P.makes port.old (mech_request C.form self.old.mech) port.new result }
+        ensures mech { self.new.mech ≡ mech_fed C.form self.old.mech result }
         ensures number { self.new.mech.number ≤ length self.new.file }
         ensures file { self.new.file ≡ self.old.file }
-        ensures turn { mech_turn self.old.mech seen ≡ Turn.Going }
+        ensures turn { mech_turn self.old.mech result ≡ Turn.Going }
         ensures lines { lines_owed self.new ≡ lines_owed self.old }
     {
-        self.machine.go_on(seen)
+        self.machine.go_on_over(port)
     }
 
     /// Whether the next step is the exchange of an entry of a list.

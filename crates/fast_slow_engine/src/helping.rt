@@ -3,11 +3,17 @@ ghost use Rattle.std.specs.Prelude.{◌≡◌, ℕ, Option, ◌+◌, ◌<◌, �
 ghost use Rattle.arrayvec.specs.ArrayVec.{ArrayVec};
 ghost use Rattle.fast_slow_engine.specs.Doings.{bare_work, help_of, helping_of, work_of};
 ghost use Rattle.fast_slow_engine.specs.Hands.{block_of};
-ghost use Rattle.fast_slow_engine.specs.HelpTable.{CanHelp, CanWork, LooksUp, first_work, help_fed, help_request, helping_ends, helping_hand, helping_met, work_fed, work_hand, work_request, work_turn};
+ghost use Rattle.fast_slow_engine.specs.HelpTable.{CanHelp, CanWork, Fills, LooksUp, first_work, help_fed, help_request, helping_ends, helping_hand, helping_met, work_fed, work_hand, work_request, work_turn};
 ghost use Rattle.word_fields.specs.Records.{packed_record, record_of, record_phase};
 ghost use Rattle.node_arena.specs.MemoryMap.{record_place};
 ghost use Rattle.step_memory.specs.declared.steps.Request.TheVariants.{Exchange};
 ghost use Rattle.fast_slow_engine.specs.HelpWords.{is_executing};
+ghost use Rattle.fast_slow_engine.specs.declared.help.Helping.{Helping};
+ghost use Rattle.fast_slow_engine.specs.declared.help.Work.{Work as Does};
+ghost use Rattle.fast_slow_engine.specs.declared.phases.Generating.{Generating as Stage};
+ghost use Rattle.lin_report.specs.Commands.{is_command};
+ghost use Rattle.step_memory.specs.declared.steps.Seen.{Seen};
+ghost use Rattle.word_fields.specs.Records.{record_number};
 ghost use Rattle.fast_slow_engine.specs.declared.help.WorkTurn.{WorkTurn as Turned};
 
 use crate::doing::{Aid, Aiding, Task};
@@ -22,6 +28,7 @@ use cas_executor::BlockRead;
 use help_queue::Removing;
 use help_queue::gather::leads;
 use help_queue::heads::{is_other, removal_of};
+use lin_report::Op;
 use lin_report::commands::is_command;
 use node_arena::places::QUEUE;
 use node_arena::{op_place, record_place, value_place};
@@ -36,32 +43,86 @@ pub struct Helped {
     pub word: u64,
 }
 
-/// After the load of the record.
-fn meet<S: Drop, W: Drop>(word: u64, head: u32, seats: u32) -> Aiding<S, W>
-    requires head { head < seats }
-    requires few { seats ≤ 8 }
-    ensures { (stores : ArrayVec (ℕ × ℕ)) → helping_of result stores ≡ helping_met word head seats }
+/// After the load of the record. Values of these sizes are written where they are made, in a function of their own, so
+/// that no other step makes room for them.
+fn meet<S: Drop, W: Drop>(word: u64, aid: &mut Aid<S, W>)
+    requires head { aid.old.head < aid.old.seats }
+    requires few { aid.old.seats ≤ 8 }
+    ensures at { (stores : ArrayVec (ℕ × ℕ)) → helping_of aid.new.at stores ≡ helping_met word aid.old.head aid.old.seats }
+    ensures head { aid.new.head ≡ aid.old.head }
+    ensures seats { aid.new.seats ≡ aid.old.seats }
 {
-    match removal_of(word, head, seats) {
+    aid.at = match removal_of(word, aid.head, aid.seats) {
         Some(removal) => Aiding::Remove(removal),
         None => Aiding::Known {
             record: word,
             task: Task::Head,
         },
-    }
+    };
+}
+
+/// The record, which was this word, is loaded again.
+fn read_again<S: Drop, W: Drop>(word: u64, aid: &mut Aid<S, W>)
+    ensures at { (stores : ArrayVec (ℕ × ℕ)) → helping_of aid.new.at stores ≡ Helping.Record (Some (record_number word)) }
+    ensures head { aid.new.head ≡ aid.old.head }
+    ensures seats { aid.new.seats ≡ aid.old.seats }
+{
+    aid.at = Aiding::Record(Some(RecordWord::unpack(word).number));
 }
 
 /// What is done first where the seat is the head: a list that stands is read, any other call's operation is loaded.
-fn first_task<C: Normalized>(word: u64) -> Task<C::Search, C::Wrap>
-    ensures work { (stores : ArrayVec (ℕ × ℕ)) → work_of result stores ≡ first_work C.form (record_phase word) word }
-    ensures can { (stores : ArrayVec (ℕ × ℕ)) → CanWork C.form (work_of result stores) }
+fn begin_work<C: Normalized>(word: u64, task: &mut Task<C::Search, C::Wrap>)
+    ensures work { (stores : ArrayVec (ℕ × ℕ)) → work_of task.new stores ≡ first_work C.form (record_phase word) word }
+    ensures can { (stores : ArrayVec (ℕ × ℕ)) → CanWork C.form (work_of task.new stores) }
 {
-    match RecordWord::unpack(word).phase {
+    *task = match RecordWord::unpack(word).phase {
         RecordPhase::Executing | RecordPhase::Wrapping => {
             Task::Read(BlockRead::new(named_block(word)))
         }
         _ => Task::Op,
+    };
+}
+
+/// The search of the call's operation begins.
+fn begin_search<C: Normalized>(op: Op, task: &mut Task<C::Search, C::Wrap>)
+    requires { IsTrue (is_command C.form.client op) }
+    ensures work { (stores : ArrayVec (ℕ × ℕ)) → work_of task.new stores ≡ Does.Generate op (C.form.begin_of op) Stage.Search }
+    ensures can { (stores : ArrayVec (ℕ × ℕ)) → CanWork C.form (work_of task.new stores) }
+{
+    *task = Task::Generate {
+        op,
+        search: C::begin(op),
+        at: Generating::Search,
+    };
+}
+
+/// A store into the block in hand. After the last one the record is to name the block.
+#[inline(always)]
+fn fill<C: Normalized, P: Plays>(
+    task: &mut Task<C::Search, C::Wrap>,
+    stores: &Stores,
+    word: u64,
+    hand: Option<u32>,
+    port: &mut P,
+) -> Seen
+    requires fills { Fills (work_of task.old stores.now) }
+    requires can { CanWork C.form (work_of task.old stores.now) }
+    requires small { block_of hand < 2 ^ 17 }
+    requires plays { P.can port.old (work_request C.form (work_of task.old stores.now) 0 word) }
+    ensures made { (head : ℕ) → P.makes port.old (work_request C.form (work_of task.old stores.now) head word) port.new result }
+    ensures work { (head cap : ℕ) → work_of task.new stores.now ≡ work_fed C.form (work_of task.old stores.now) head word hand cap result }
+    ensures can { CanWork C.form (work_of task.new stores.now) }
+{
+    let Task::Fill(made) = task else {
+        unreachable!()
+    };
+    let seen = port.play(store_of(stores, *made));
+    if *made as usize + 1 == stores.len() {
+        *task = Task::Advance(executing_word(word, hand.unwrap_or(0)));
+    } else {
+        *made += 1;
     }
+    seen
 }
 
 /// Looks whether the seat is the head, or loads the call's operation.
@@ -86,7 +147,7 @@ fn look_up<C: Normalized, P: Plays>(
             if !leads(seen.before, helped.head) {
                 return (WorkTurn::Over, seen);
             }
-            *task = first_task::<C>(helped.word);
+            begin_work::<C>(helped.word, task);
             (WorkTurn::Going, seen)
         }
         Task::Op => {
@@ -107,11 +168,7 @@ fn look_up<C: Normalized, P: Plays>(
             if ValueWord::unpack(seen.before).number != number || !is_command(C::CLIENT, op) {
                 return (WorkTurn::Again, seen);
             }
-            *task = Task::Generate {
-                op,
-                search: C::begin(op),
-                at: Generating::Search,
-            };
+            begin_search::<C>(op, task);
             (WorkTurn::Going, seen)
         }
         _ => unreachable!(),
@@ -165,13 +222,8 @@ fn work_on<C: Normalized, P: Plays>(
     match task {
         Task::Head | Task::Op | Task::Value(_) => look_up::<C, P>(task, helped, port),
         Task::Generate { .. } => search::<C, P>(task, stores, helped, hand, cap, port),
-        Task::Fill(made) => {
-            let seen = port.play(store_of(stores, *made));
-            if *made as usize + 1 == stores.len() {
-                *task = Task::Advance(executing_word(helped.word, hand.unwrap_or(0)));
-            } else {
-                *made += 1;
-            }
+        Task::Fill(_) => {
+            let seen = fill::<C, P>(task, stores, helped.word, *hand, port);
             (WorkTurn::Going, seen)
         }
         Task::Advance(to) => (WorkTurn::Again, advance(*to, helped, hand, port)),
@@ -210,7 +262,7 @@ pub fn help_on<C: Normalized, P: Plays>(
             if is_other(*known, RecordWord::unpack(seen.before).number) {
                 return (true, seen);
             }
-            aid.at = meet(seen.before, head, aid.seats);
+            meet(seen.before, aid);
             (false, seen)
         }
         Aiding::Known { record, task } => {
@@ -218,7 +270,7 @@ pub fn help_on<C: Normalized, P: Plays>(
             match work_on::<C, P>(task, stores, Helped { head, word }, hand, cap, port) {
                 (WorkTurn::Going, seen) => (false, seen),
                 (WorkTurn::Again, seen) => {
-                    aid.at = Aiding::Record(Some(RecordWord::unpack(word).number));
+                    read_again(word, aid);
                     (false, seen)
                 }
                 (WorkTurn::Over, seen) => (true, seen),

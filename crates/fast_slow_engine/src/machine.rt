@@ -1,5 +1,5 @@
 //! A seat: the calls that it makes, one atomic step after the other.
-ghost use Rattle.std.specs.Prelude.{◌≡◌, ◌+◌, ◌<◌, ◌↔◌, IsTrue, true, false, Some, None};
+ghost use Rattle.std.specs.Prelude.{◌≡◌, ◌+◌, ◌<◌, ◌↔◌, IsTrue, true, false, Some, None, is_some};
 ghost use Rattle.lin_report.specs.declared.calls.Receipt.{Receipt};
 ghost use Rattle.fast_slow_engine.specs.declared.setup.Turn.{Turn};
 
@@ -188,6 +188,17 @@ impl<C: Normalized> Machine<C> {
         ensures { result ≡ self.now.number }
     {
         self.call.number
+    }
+
+    /// Whether the next step is such an event.
+    #[inline(always)]
+    pub fn draws_tick(&self) -> bool
+        ensures { result ≡ is_some (mech_event self.now) }
+    {
+        match &self.room.doing {
+            Doing::Begin | Doing::End(_) => true,
+            _ => false,
+        }
     }
 
     /// The event that the next step is, if it is one: it draws the begin tick or the end tick.
