@@ -1,6 +1,6 @@
 -- The events of a step are those that are read off the word at its place.
 use Rattle.std.proofs.Common.{rules, arith, subst, ◌≤◌, ◌≡◌, ◌≢◌, ◌∙◌, refl, sym, ap, ℕ, zero, suc, ◌+◌, ◌-◌, ◌<◌, ◌==◌, ◌&&◌, not, if◌then◌else◌, Bool, true, false, List, [], ◌∷◌, ◌++◌, slice_index, Option, Some, None, inl, inr}
-use Rattle.std.specs.Prelude.{nat_le, nat_lt}
+use Rattle.std.specs.Prelude.{is_some, nat_le, nat_lt, unwrap_or}
 use Rattle.std.specs.Option.{option_to_list}
 use Rattle.std.proofs.lemmas.Bool.{and_parts, cases_Bool, cases_eq, eq-eqb, eqb-false, le-leb, leb-true, le-ltb, lt-ltb, ltb-true, ne_eqb, or_left, or_parts, or_right, true≢false}
 use Rattle.lin_report.specs.declared.events.Event.{Event}
@@ -20,8 +20,24 @@ use Rattle.fast_slow_engine.specs.declared.phases.Phase.{Phase}
 use Rattle.fast_slow_engine.specs.declared.phases.Phase.TheVariants.{Idle, Begin, Look, Generate, Apply, Wrap, Announce, Enter, Drive, Help, Collect, Value, End}
 use Rattle.fast_slow_engine.specs.PhaseTable.{ends, event_in, mech_event, mech_request, request_in}
 use Rattle.run_overtaking.proofs.OrderLaws.{eight_low}
-use Rattle.event_core.specs.Noted.{completed_at, noted, published_at, tells_nothing}
+use Rattle.event_core.specs.declared.watching.Mark.{Mark}
+use Rattle.event_core.specs.Noted.{completed_at, marked, noted, published_at, tells_nothing}
+use Rattle.event_core.specs.Watching.{mark_of}
 use Rattle.event_core.proofs.Publications.{none_published}
+
+-- ---- marks
+
+the_mark : (b : Bool) (mark other : Mark) → Some mark ≡ (if b then None else Some other) → mark ≡ other
+the_mark true mark other is = absurd (search rules)
+the_mark false mark other is = ap (λ o. unwrap_or o mark) is
+
+no_mark : (b : Bool) (other : Mark) → None ≡ (if b then None else Some other) → b ≡ true
+no_mark true other is = refl
+no_mark false other is = absurd (search rules)
+
+pub none_is : (o : Option Mark) → ((mark : Mark) → o ≡ Some mark → ⊥) → None ≡ o
+none_is None other = refl
+none_is (Some mark) other = absurd (other mark refl)
 
 -- ---- completions
 
@@ -169,7 +185,7 @@ module _ {S W : Type 0} (form : NormalForm S W) where
   draws_none (End reply) mech nothing = absurd (search rules)
   draws_none Idle mech nothing = (refl, refl)
   draws_none Look mech nothing = (refl, refl)
-  draws_none (Generate search at) mech nothing = (refl, refl)
+  draws_none (Generate s at) mech nothing = (refl, refl)
   draws_none (Apply run stores at) mech nothing = (refl, refl)
   draws_none (Wrap wrap) mech nothing = (refl, refl)
   draws_none (Announce at) mech nothing = (refl, refl)
@@ -213,3 +229,60 @@ module _ {S W : Type 0} (form : NormalForm S W) where
     tells_none words now left =
         ap (step_events mech words) left
         ∙ nothing_told mech words (draws_none mech.phase mech (subst (λ r. tells_nothing r ≡ true) asks nothing)).0 request nothing
+
+  -- a step that draws no tick goes on with its call
+  undrawn : (phase : Phase S W) (mech : Mech S W) → is_some (event_in phase mech) ≡ false → (event_in phase mech ≡ None) × (ends phase ≡ false)
+  undrawn Begin mech none = absurd (search rules)
+  undrawn (End reply) mech none = absurd (search rules)
+  undrawn Idle mech none = (refl, refl)
+  undrawn Look mech none = (refl, refl)
+  undrawn (Generate s at) mech none = (refl, refl)
+  undrawn (Apply run stores at) mech none = (refl, refl)
+  undrawn (Wrap wrap) mech none = (refl, refl)
+  undrawn (Announce at) mech none = (refl, refl)
+  undrawn (Enter owner) mech none = (refl, refl)
+  undrawn Drive mech none = (refl, refl)
+  undrawn (Help drives help) mech none = (refl, refl)
+  undrawn Collect mech none = (refl, refl)
+  undrawn (Value reference) mech none = (refl, refl)
+
+  -- a tick is drawn at the tick counter, where nothing else is told
+  tick_alone : (phase : Phase S W) (mech : Mech S W) (before : ℕ) (words : List ℕ) → is_some (event_in phase mech) ≡ true
+      → noted (event_in phase mech) (place_of (request_in form phase mech)) before words ≡ option_to_list (event_in phase mech)
+  tick_alone Begin mech before words some = refl
+  tick_alone (End reply) mech before words some = refl
+  tick_alone Idle mech before words some = absurd (search rules)
+  tick_alone Look mech before words some = absurd (search rules)
+  tick_alone (Generate s at) mech before words some = absurd (search rules)
+  tick_alone (Apply run stores at) mech before words some = absurd (search rules)
+  tick_alone (Wrap wrap) mech before words some = absurd (search rules)
+  tick_alone (Announce at) mech before words some = absurd (search rules)
+  tick_alone (Enter owner) mech before words some = absurd (search rules)
+  tick_alone Drive mech before words some = absurd (search rules)
+  tick_alone (Help drives help) mech before words some = absurd (search rules)
+  tick_alone Collect mech before words some = absurd (search rules)
+  tick_alone (Value reference) mech before words some = absurd (search rules)
+
+  module _ (mech : Mech S W) (words now : List ℕ) (left : now ≡ words_after (mech_request form mech) words) where
+    told : step_events mech words now ≡ noted (mech_event mech) (place_of (mech_request form mech)) (slice_index words (place_of (mech_request form mech))) now
+    told =
+        ap (step_events mech words) left ∙ step_noted (mech_request form mech) words mech
+        ∙ ap (noted (mech_event mech) (place_of (mech_request form mech)) (slice_index words (place_of (mech_request form mech)))) (sym left)
+
+    -- a step that draws a tick tells that alone
+    pub tick_told : is_some (mech_event mech) ≡ true → option_to_list (mech_event mech) ≡ step_events mech words now
+    tick_told some = sym (told ∙ tick_alone mech.phase mech (slice_index words (place_of (mech_request form mech))) now some)
+
+    module _ (none : is_some (mech_event mech) ≡ false) where
+      pub goes_on_over : ends mech.phase ≡ false
+      goes_on_over = (undrawn mech.phase mech none).1
+
+      -- one with a mark tells what is read off that
+      pub mark_told : (mark : Mark) → Some mark ≡ mark_of (mech_request form mech) words → marked mark now ≡ step_events mech words now
+      mark_told mark is =
+          ap (λ m. marked m now) (the_mark (tells_nothing (mech_request form mech)) mark _ is)
+          ∙ sym (told ∙ ap (λ t. noted t (place_of (mech_request form mech)) (slice_index words (place_of (mech_request form mech))) now) (undrawn mech.phase mech none).0)
+
+      -- one without a mark tells nothing
+      pub unmarked_told : None ≡ mark_of (mech_request form mech) words → step_events mech words now ≡ []
+      unmarked_told is = tells_none mech (mech_request form mech) refl (no_mark (tells_nothing (mech_request form mech)) _ is) words now left

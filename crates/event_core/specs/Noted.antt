@@ -8,6 +8,7 @@ use Rattle.word_fields.specs.Records.{record_phase, record_number}
 use Rattle.word_fields.specs.Seats.{queue_seats}
 use Rattle.node_arena.specs.declared.places.TheConstants.{QUEUE, RECORDS}
 use Rattle.help_queue.specs.Gathers.{is_open}
+use Rattle.event_core.specs.declared.watching.Mark.{Mark}
 use Rattle.overtaking_law.specs.Order.{completion}
 use Rattle.fast_slow_engine.specs.Events.{published, queue_word, record_word_of}
 
@@ -35,3 +36,7 @@ published_at place before words = if place == QUEUE then published before (recor
 -- all that it tells, with the tick that it draws, if it draws one
 abbrev pub noted : Option Event → ℕ → ℕ → List ℕ → List Event
 noted tick place before words = option_to_list (completed_at place before (slice_index words place)) ++ (option_to_list tick ++ published_at place before words)
+
+-- what a step with this mark tells, where it draws no tick
+abbrev pub marked : Mark → List ℕ → List Event
+marked mark words = noted None mark.place mark.before words

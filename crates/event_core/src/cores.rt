@@ -1,10 +1,13 @@
 //! A run of seats over their command files.
-ghost use Rattle.std.specs.Prelude.{◌≡◌, ◌+◌, ◌++◌, ◌<◌, ◌≤◌, All, IfOk, Some, [], length, map, slice_get, sum_by, vec_len, vec_capacity};
+ghost use Rattle.std.specs.Prelude.{◌≡◌, ◌+◌, ◌++◌, ◌<◌, ◌≤◌, All, IfOk, Some, false, [], length, map, slice_get, sum_by, vec_len, vec_capacity};
 ghost use Rattle.node_arena.specs.Opening.{IsLaidOut};
 ghost use Rattle.lin_report.specs.CommandFiles.{IsCommandFile};
 ghost use Rattle.std.specs.Option.{option_to_list};
 ghost use Rattle.fast_slow_engine.specs.Runs.{returned};
+ghost use Rattle.step_memory.specs.Step.{seen_of, words_after};
+ghost use Rattle.fast_slow_engine.specs.PhaseTable.{mech_event, mech_fed, mech_request, mech_turn, rests};
 ghost use Rattle.event_core.specs.Cores.{core_new, core_turn_of, new_seats};
+ghost use Rattle.event_core.specs.Seats.{lines_owed};
 
 use crate::noting::{note, note_mark};
 use crate::seats::Seat;
@@ -96,9 +99,10 @@ impl<C: Normalized> Core<C> {
             return keep(&mut self.receipts, turn);
         }
         at.go_on_over(&mut self.cells);
-        if let Some(mark) = self.cells.mark() {
-            note_mark(&mut self.events, mark, self.cells.words());
-        }
+        let Some(mark) = self.cells.mark() else {
+            return CoreTurn::Going;
+        };
+        note_mark(&mut self.events, mark, self.cells.words());
         CoreTurn::Going
     }
 
@@ -221,7 +225,18 @@ fn add_pending(pending: &mut ArrayVec<PendingCall, 8>, call: Option<PendingCall>
 
 /// The step of a seat that draws a tick. Its event is put last.
 #[inline(never)]
-fn draw<C: Normalized>(at: &mut Seat<C>, cells: &mut Watched, events: &mut Vec<Event>) -> Turn {
+fn draw<C: Normalized>(at: &mut Seat<C>, cells: &mut Watched, events: &mut Vec<Event>) -> Turn
+    requires runs { rests at.old.mech.phase ≡ false }
+    requires room { vec_len events.old + length (option_to_list (mech_event at.old.mech)) ≤ vec_capacity events.old }
+    ensures words { cells.new.words ≡ words_after (mech_request C.form at.old.mech) cells.old.words }
+    ensures mech { at.new.mech ≡ mech_fed C.form at.old.mech (seen_of (mech_request C.form at.old.mech) cells.old.words) }
+    ensures turn { result ≡ mech_turn at.old.mech (seen_of (mech_request C.form at.old.mech) cells.old.words) }
+    ensures number { at.new.mech.number ≤ length at.new.file }
+    ensures file { at.new.file ≡ at.old.file }
+    ensures lines { lines_owed at.new + length (returned result) ≡ lines_owed at.old }
+    ensures items { events.new.items ≡ events.old.items ++ option_to_list (mech_event at.old.mech) }
+    ensures capacity { vec_capacity events.new ≡ vec_capacity events.old }
+{
     let tick = at.next_event();
     let seen = cells.play(at.request());
     note(events, tick);

@@ -3,14 +3,13 @@ ghost use Rattle.std.specs.Prelude.{◌≡◌, ◌+◌, ◌<◌, ◌≤◌, ◌+
 ghost use Rattle.std.specs.Option.{option_to_list};
 ghost use Rattle.word_fields.specs.Seats.{AreSeats};
 ghost use Rattle.fast_slow_engine.specs.Events.{published_by, record_word_of};
-ghost use Rattle.event_core.specs.Noted.{completed_at, is_member, noted, published_at, tells_nothing};
+ghost use Rattle.event_core.specs.Noted.{completed_at, is_member, marked, published_at};
 
 use crate::watching::Mark;
 use help_queue::gather::is_open;
 use lin_report::{Event, EventKind};
 use node_arena::places::{QUEUE, RECORDS};
 use node_arena::record_place;
-use step_memory::Request;
 use word_fields::queues::members;
 use word_fields::{QueueWord, RecordWord};
 
@@ -24,25 +23,12 @@ pub fn word_at(words: &[u64], place: u32) -> u64
     }
 }
 
-/// Whether a place is beyond the records, where no word of the engine's own stands.
+/// Whether a place is beyond the records, where neither the tick counter nor the queue word nor a record stands.
 #[inline(always)]
 pub fn is_beyond(place: u32) -> bool
     ensures { result ≡ nat_le (RECORDS + 8) place }
 {
     place >= RECORDS + 8
-}
-
-/// Whether a step tells no event, by its request: a load changes nothing, and beyond the records nothing is published or
-/// completed and no tick is drawn. So it is with most steps.
-#[inline(always)]
-pub fn tells_nothing(request: Request) -> bool
-    ensures { result ≡ tells_nothing request }
-{
-    match request {
-        Request::Load { .. } => true,
-        Request::Store { at, .. } | Request::Exchange { at, .. } | Request::Add { at, .. } =>
-            is_beyond(at),
-    }
 }
 
 /// The completion that a step at this place is, if it left this word for that one.
@@ -128,6 +114,9 @@ fn note_published(events: &mut Vec<Event>, place: u32, before: u64, words: &[u64
 /// Puts the events last that a step is which has this mark and left these words.
 #[inline(never)]
 pub fn note_mark(events: &mut Vec<Event>, mark: Mark, words: &[u64])
+    requires room { vec_len events.old + length (marked mark words.now) ≤ vec_capacity events.old }
+    ensures items { events.new.items ≡ events.old.items ++ marked mark words.now }
+    ensures capacity { vec_capacity events.new ≡ vec_capacity events.old }
 {
     let Mark { place, before } = mark;
     note(events, completed_at(place, before, word_at(words, place)));

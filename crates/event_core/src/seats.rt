@@ -1,5 +1,5 @@
 //! A seat with the file of its commands.
-ghost use Rattle.std.specs.Prelude.{◌≡◌, ◌+◌, ◌<◌, ◌≤◌, true, false, not, length};
+ghost use Rattle.std.specs.Prelude.{◌≡◌, ◌+◌, ◌<◌, ◌≤◌, true, false, is_some, not, length};
 ghost use Rattle.std.specs.Option.{option_to_list};
 ghost use Rattle.step_memory.specs.Step.{seen_of, words_after};
 ghost use Rattle.fast_slow_engine.specs.Runs.{CanMove, begun, returned};

@@ -1,5 +1,6 @@
 //! The memory of a run, which remembers of its last step what events can be read off.
-ghost use Rattle.std.specs.Prelude.{◌≡◌, ℕ, List, None};
+ghost use Rattle.std.specs.Prelude.{◌≡◌, ◌+◌, if◌then◌else◌, nat_le, slice_index, Some, None};
+ghost use Rattle.node_arena.specs.declared.places.TheConstants.{RECORDS};
 
 use crate::noting::{is_beyond, word_at};
 use fast_slow_engine::Plays;
