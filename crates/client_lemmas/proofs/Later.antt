@@ -1,5 +1,5 @@
 -- What every allowed step keeps, whoever makes it: the one summary of a step that what was learnt rests on.
-use Rattle.std.proofs.Common.{◌≡◌, ℕ, ◌∷◌, true, false, eqb, List, Some, refl, sym, ap, ◌∙◌, subst, inl, inr, ◌⊎◌}
+use Rattle.std.proofs.Common.{◌≡◌, ℕ, ◌<◌, ◌∷◌, true, false, eqb, List, Some, refl, sym, ap, ◌∙◌, subst, inl, inr, ◌⊎◌, arith}
 use Rattle.std.specs.Prelude.{slice_get}
 use Rattle.std.proofs.lemmas.Bool.{or_right}
 use Rattle.lin_report.specs.declared.calls.Op.{Op}
@@ -64,7 +64,7 @@ module _ {S W : Type 0} (form : NormalForm S W) (Extends : List Change → List 
     pub clears : (word : ℕ) → Moves word (cleared_word word)
     pub asks : (world : World) (search : S) (op : Op) (since : ℕ) → form.asks search → form.knows search op world since → IsMove (form.request_of search)
     pub wraps : (world : World) (wrap : W) (list : Listed) (stop : ℕ) → form.wraps wrap → form.follows wrap list stop world → IsMove (form.wrap_request_of wrap)
-    pub lists : (world : World) (list : Listed) (search : S) (since j : ℕ) (entry : Entry) (word : ℕ) → IsOffered form world list search since → slice_get list.entries j ≡ Some entry → IsExchanged entry word → Moves entry.from word
+    pub lists : (world : World) (list : Listed) (search : S) (since j : ℕ) (entry : Entry) (word : ℕ) → j < 2 → IsOffered form world list search since → slice_get list.entries j ≡ Some entry → IsExchanged entry word → Moves entry.from word
 
   module _ (facts : StepFacts) where
     pub later_same : (world : World) → Later world world
@@ -126,9 +126,9 @@ module _ {S W : Type 0} (form : NormalForm S W) (Extends : List Change → List 
     later world after shape (searches {seen = seen} search op since command asks knows requested) = requested_later (form.request_of search) world after seen shape (facts.asks world search op since asks knows) requested
     later world after shape (wraps {seen = seen} wrap list stop command going follows requested) = requested_later (form.wrap_request_of wrap) world after seen shape (facts.wraps world wrap list stop going follows) requested
     later world _ shape (first list search since entry word offered fresh none needs listed same change) =
-        won_later world _ (By list 0) entry word (form.cause_of world (By list 0) entry) same change (facts.lists world list search since 0 entry word offered listed change) refl (facts.first world list shape (inl needs)) (λ block u. u) refl
+        won_later world _ (By list 0) entry word (form.cause_of world (By list 0) entry) same change (facts.lists world list search since 0 entry word (omega arith) offered listed change) refl (facts.first world list shape (inl needs)) (λ block u. u) refl
     later world _ shape (first_of_block list search since entry word offered fresh some unused filled listed same change) =
-        won_later world _ (By list 0) entry word (form.cause_of world (By list 0) entry) same change (facts.lists world list search since 0 entry word offered listed change) refl (facts.first world list shape (inr unused))
+        won_later world _ (By list 0) entry word (form.cause_of world (By list 0) entry) same change (facts.lists world list search since 0 entry word (omega arith) offered listed change) refl (facts.first world list shape (inr unused))
         (λ block u. or_right (eqb block list.block) (world.used block) u) refl
     later world _ shape (second list search since entry word offered took unmade listed same change) =
-        won_later world _ (By list 1) entry word (form.cause_of world (By list 1) entry) same change (facts.lists world list search since 1 entry word offered listed change) refl (facts.second world list shape) (λ block u. u) refl
+        won_later world _ (By list 1) entry word (form.cause_of world (By list 1) entry) same change (facts.lists world list search since 1 entry word (omega arith) offered listed change) refl (facts.second world list shape) (λ block u. u) refl

@@ -45,7 +45,7 @@ facts =
       clears = λ word. tt;
       asks = λ world search op since asking knows. asked_moves search;
       wraps = λ world wrap list stop going follows. wrap_asked_moves wrap;
-      lists = λ world list search since j entry word offered listed change. tt;
+      lists = λ world list search since j entry word low offered listed change. tt;
     }
 
 pub later : (world after : World) → IsQueue world → IsStep queue_form world after → Later world after
