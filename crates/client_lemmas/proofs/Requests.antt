@@ -1,5 +1,5 @@
 -- What a request of a search or wrap-up beside its list amounts to, by its kind.
-use Rattle.std.proofs.Common.{◌≡◌, ◌≢◌, ℕ, ◌+◌, true, false, refl, sym, ap, subst, inl, inr, ◌⊎◌}
+use Rattle.std.proofs.Common.{◌≡◌, ◌≢◌, ℕ, ◌+◌, true, false, refl, sym, subst, inl, inr, ◌⊎◌}
 use Rattle.step_memory.specs.declared.steps.Request.{Request}
 use Rattle.step_memory.specs.declared.steps.Request.TheVariants.{Load, Store, Exchange, Add}
 use Rattle.step_memory.specs.declared.steps.Seen.{Seen}
@@ -17,10 +17,6 @@ HasLoaded world after seen place = (after ≡ world) × (seen ≡ record { befor
 -- what holds of the world and of what was loaded there holds afterwards
 pub from_load : (world after : World) (seen : Seen) (place : ℕ) (P : World → Seen → Type 0) → HasLoaded world after seen place → P world (record { before = world.words place; won = true }) → P after seen
 from_load world after seen place P w p = subst (λ (a : World). P a seen) (sym w.0) (subst (P world) (sym w.1) p)
-
--- the word that a load has seen
-pub word_seen : (world after : World) (seen : Seen) (place : ℕ) → HasLoaded world after seen place → seen.before ≡ world.words place
-word_seen world after seen place w = ap (λ (s : Seen). s.before) w.1
 
 module _ {S W : Type 0} (form : NormalForm S W) where
   -- an exchange is won, beside the lists
