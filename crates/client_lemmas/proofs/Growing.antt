@@ -1,5 +1,5 @@
 -- Journals and changes that grow in front: what is known of each stays so, where the new one meets it too.
-use Rattle.std.proofs.Common.{◌≡◌, ℕ, ◌-◌, List, [], ◌∷◌, length, refl, sym, ap, subst, inl, inr, ◌⊎◌, arith}
+use Rattle.std.proofs.Common.{◌≡◌, ℕ, suc, ◌-◌, ◌≤◌, List, [], ◌∷◌, length, refl, sym, ap, subst, inl, inr, ◌⊎◌, arith}
 use Rattle.std.specs.Prelude.{All, AllPairs, drop}
 use Rattle.std.proofs.lemmas.List.Elements.{All-nil, All-cons}
 use Rattle.std.proofs.lemmas.List.Kept.{AllPairs-cons}
@@ -25,6 +25,13 @@ pairs_more R new xs ys same apart before = subst (AllPairs R) (sym same) (AllPai
 -- of none each two meet anything
 pub pairs_none : {X : Type 0} (R : X → X → Type 0) → AllPairs R []
 pairs_none R = λ i j d order low. absurd (omega (arith, low))
+
+-- the first changes are the same with one more in front
+pub first_older : (change : Change) (changes : List Change) (count : ℕ) → count ≤ length changes → first_changes count (change ∷ changes) ≡ first_changes count changes
+first_older change changes count low = ap (λ n. drop n (change ∷ changes)) (one_more (length changes) count low)
+  where
+    one_more : (n count : ℕ) → count ≤ n → suc n - count ≡ suc (n - count)
+    one_more n count low = omega arith
 
 -- the first of all changes, as many as there are, are all
 pub first_all : (changes : List Change) → first_changes (length changes) changes ≡ changes

@@ -1,5 +1,5 @@
 -- Places of blocks: which are a client's words, and which places of the first nodes differ.
-use Rattle.std.proofs.Common.{◌≡◌, ◌≢◌, ℕ, ◌+◌, ◌<◌, Bool, true, false, not, eqb, leb, ◌||◌, ◌&&◌, refl, ap, ◌∙◌, arith}
+use Rattle.std.proofs.Common.{◌≡◌, ◌≢◌, ℕ, ◌+◌, ◌<◌, ◌≤◌, Bool, true, false, not, eqb, leb, ◌||◌, ◌&&◌, refl, ap, ◌∙◌, arith}
 use Rattle.std.proofs.lemmas.Bool.{false≢true, le-leb, ne_eqb}
 use Rattle.node_arena.specs.declared.places.TheConstants.{HEAD, TAIL, FIRST_WORDS}
 use Rattle.node_arena.specs.MemoryMap.{block_place, node_place, block_at, field_at, reference_to, NamesNode}
@@ -20,11 +20,15 @@ field_word world block field small used plain =
     let behind : leb FIRST_WORDS (block_place block field) ≡ true = le-leb FIRST_WORDS (block_place block field) (block_place_behind block field) in
     rw (behind, block_at-block_place block field small, field_at-block_place block field small, used, plain) (in_used (eqb (block_place block field) HEAD) (eqb (block_place block field) TAIL) (eqb block 0))
 
--- so is a field of its first node
+-- so is a field behind its notes
+pub behind_notes : (world : World) (block field : ℕ) → field < 32 → world.used block ≡ true → 12 ≤ field → is_word world (block_place block field) ≡ true
+behind_notes world block field small used high = field_word world block field small used (rw (ne_eqb field 9 (λ e. omega (arith, high, e)), ne_eqb field 10 (λ e. omega (arith, high, e))) refl)
+
+-- and a field of its first node
 pub node_word : (world : World) (block field : ℕ) → field < 5 → world.used block ≡ true → is_word world (node_place (reference_to block 1) field) ≡ true
 node_word world block field small used =
     ap (is_word world) (node_place-reference_to block 1 field (omega arith) (omega arith))
-    ∙ field_word world block (12 + field) (omega (arith, small)) used (rw (ne_eqb (12 + field) 9 (λ e. omega (arith, e)), ne_eqb (12 + field) 10 (λ e. omega (arith, e))) refl)
+    ∙ behind_notes world block (12 + field) (omega (arith, small)) used (omega arith)
 
 more_used : (first used more plain : Bool) (behind : Bool) → (used ≡ true → more ≡ true) → (first || (behind && used && plain)) ≡ true → (first || (behind && more && plain)) ≡ true
 more_used true used more plain behind grows e = refl
