@@ -9,11 +9,12 @@ use Rattle.list_laws.specs.Search.{led, is_marked, next_place, key_place}
 use Rattle.list_laws.specs.Nodes.{is_node, node_key, next_at, key_at, node_rank, place_rank, rank_of, LAST_RANK, IsOf, IsLink, IsNamed}
 use Rattle.list_laws.specs.Path.{stands}
 use Rattle.list_laws.specs.Shape.{AreSorted}
-use Rattle.list_laws.proofs.Places.{same_next, start_not_next, rank_start, rank_next, rank_named, stands_start, stands_next, key_plain, other_place}
+use Rattle.list_laws.proofs.Places.{same_next, start_not_next, rank_start, rank_next, rank_named, stands_start, stands_next, key_plain}
 use Rattle.node_arena.specs.MemoryMap.{reference_to}
 use Rattle.node_arena.proofs.PlaceLemmas.{block-reference_to}
 use Rattle.bucket_set.specs.BucketShape.{Reached, IsMember}
 use Rattle.bucket_set.specs.BucketShape.Reached.{begins, leads}
+use Rattle.normal_traits.proofs.Stays.{word_beside}
 
 -- a node that is no marked one
 pub even : (word : ℕ) → is_marked word ≡ false → versioned_value word % 2 ≡ 0
@@ -117,7 +118,7 @@ module _ (lists : Lists) (are : AreLists lists) (world : World) (shape : AreSort
     after = with_word place word world.words
 
     stays : (at : ℕ) → Reached world.words start at → after at ≡ world.words at
-    stays at reached = other_place place word world.words at (λ same. off (subst (Reached world.words start) same reached))
+    stays at reached = word_beside place word world.words at (λ same. off (subst (Reached world.words start) same reached))
 
     forth : (at : ℕ) → Reached world.words start at → Reached after start at
     forth at (begins same) = begins same
@@ -138,7 +139,7 @@ module _ (lists : Lists) (are : AreLists lists) (world : World) (shape : AreSort
       where
         by_name : IsNamed lists world.changes start (node_after before) → after (key_place (node_after before)) ≡ world.words (key_place (node_after before))
         by_name (inl null) = absurd (some null)
-        by_name (inr named) = other_place place word world.words (key_place (node_after before)) (λ same.
+        by_name (inr named) = word_beside place word world.words (key_place (node_after before)) (λ same.
             let plain : is_versioned lists (key_at named.0) ≡ false = key_plain lists are named.0 (shape.stored named.0 named.1.node).some in
             true≢false (sym versioned ∙ ap (is_versioned lists) (sym same ∙ ap key_place named.2) ∙ plain))
 

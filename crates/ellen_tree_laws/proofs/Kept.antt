@@ -1,5 +1,5 @@
 -- What a help follows stays true whatever anyone does, and a dead list stays dead.
-use Rattle.std.proofs.Common.{◌≡◌, ℕ, ◌+◌, ◌*◌, ◌^◌, ◌<◌, Bool, true, false, not, List, [], ◌∷◌, sym, ap, subst, ◌∙◌, inl, inr, ◌⊎◌, arith}
+use Rattle.std.proofs.Common.{◌≡◌, ℕ, ◌+◌, ◌*◌, ◌^◌, ◌<◌, Bool, true, false, not, List, sym, ap, subst, ◌∙◌, inl, inr, ◌⊎◌, arith}
 use Rattle.std.specs.Prelude.{nat_lt}
 use Rattle.word_fields.specs.Versioned.{versioned_value, versioned_version, cleared_word}
 use Rattle.word_fields.proofs.VersionedLemmas.{cleared-changed}
@@ -30,6 +30,8 @@ use Rattle.ellen_tree_laws.proofs.Asks.{field_high}
 use Rattle.ellen_tree_laws.proofs.Offers.{plain}
 use Rattle.ellen_tree_laws.proofs.Later.{Later, passed_on, later}
 use Rattle.ellen_tree_laws.proofs.Spares.{Spares, spares}
+use Rattle.std.specs.Prelude.{slice_get}
+use Rattle.client_lemmas.proofs.Entries.{the_entry}
 
 module _ (world after : World) (shape : Shape world) (l : Later world after) (s : Spares world after) (list : Listed) where
   -- ---- flags, notes, changes
@@ -163,14 +165,6 @@ follows_kept world after help list shape follows step = follows_later world afte
 
 -- ---- dead lists
 
-entry_or : Entry → List Entry → Entry
-entry_or other [] = other
-entry_or other (entry ∷ entries) = entry
-
-same_head : (entries : List Entry) (a b : Entry) → entries ≡ a ∷ [] → entries ≡ b ∷ [] → a ≡ b
-unfolding entry_or
-same_head entries a b is is' = ap (entry_or a) (sym is ∙ is')
-
 pub dead_kept : (world after : World) (list : Listed) → Shape world → Dead list world → IsStep tree_form world after → Dead list after
 dead_kept world after list shape dead step = record { entry = dead.entry; entries = dead.entries; fate = by_fate dead.fate }
   where
@@ -187,7 +181,7 @@ dead_kept world after list shape dead step = record { entry = dead.entry; entrie
       λ flagged. elim (s.flags list flagged) [
         | inl was ↦ lost.1 was
         | inr own ↦
-            let same : own.0 ≡ dead.entry = same_head list.entries own.0 dead.entry own.1 dead.entries in
+            let same : own.0 ≡ dead.entry = the_entry list.entries dead.entry own.0 (ap (λ (es : List Entry). slice_get es 0) dead.entries) own.1 in
             let here : world.words dead.entry.target ≡ dead.entry.from = subst (λ (e : Entry). world.words e.target ≡ e.from) same own.2 in
             omega (arith, lost.0, ap versioned_version here)
       ],

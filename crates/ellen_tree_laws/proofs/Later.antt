@@ -1,12 +1,11 @@
 -- What every allowed step keeps, whoever makes it: each word of a client stays, has its bit cleared or gets a higher
 -- version; words that are never exchanged stay; changes and journal grow in front; used blocks stay used.
-use Rattle.std.proofs.Common.{◌≡◌, ◌≢◌, ℕ, ◌<◌, true, false, eqb, List, [], ◌∷◌, Option, refl, sym, ap, subst, ◌∙◌, inl, inr, ◌⊎◌, arith}
-use Rattle.std.specs.Prelude.{if◌then◌else◌, slice_get, Some, None}
-use Rattle.std.proofs.lemmas.Bool.{true≢false, eq-eqb, ne_eqb, cases_eq, or_right}
+use Rattle.std.proofs.Common.{◌≡◌, ℕ, ◌<◌, true, false, eqb, List, ◌∷◌, Option, refl, sym, ap, ◌∙◌, inl, inr, ◌⊎◌, arith}
+use Rattle.std.specs.Prelude.{slice_get, Some, None}
+use Rattle.std.proofs.lemmas.Bool.{true≢false, or_right}
 use Rattle.word_fields.specs.Versioned.{versioned_version, cleared_word}
-use Rattle.word_fields.proofs.VersionedLemmas.{version-cleared, cleared-clear}
+use Rattle.word_fields.proofs.VersionedLemmas.{version-cleared}
 use Rattle.step_memory.specs.declared.steps.Request.{Request}
-use Rattle.step_memory.specs.declared.steps.Request.TheVariants.{Load, Store, Exchange, Add}
 use Rattle.step_memory.specs.declared.steps.Seen.{Seen}
 use Rattle.normal_traits.specs.declared.lists.Entry.{Entry}
 use Rattle.normal_traits.specs.World.{Listed, Maker, Won, Change, World, Among, WasSeen, is_word}
@@ -21,10 +20,9 @@ use Rattle.ellen_tree_laws.specs.Shape.{Shape}
 use Rattle.ellen_tree_laws.specs.Form.{tree_form}
 use Rattle.ellen_tree_laws.proofs.Plain.{offered_entries}
 use Rattle.ellen_tree_laws.proofs.Asks.{search_asks_well, wrap_asks_well, update_versioned}
-
--- what becomes of a word
-abbrev pub Rises : ℕ → ℕ → Type 0
-Rises word after = (after ≡ word) ⊎ ((after ≡ cleared_word word) ⊎ (versioned_version word < versioned_version after))
+use Rattle.normal_traits.proofs.Stays.{word_beside}
+use Rattle.client_lemmas.proofs.Words.{Rises, rises_version, rises_seen, rises_at, beside_word}
+use Rattle.client_lemmas.proofs.Entries.{the_entry, no_second}
 
 pub record Later (world after : World) : Type 0 where
   pub rises : (place : ℕ) → is_word world place ≡ true → Rises (world.words place) (after.words place)
@@ -33,24 +31,9 @@ pub record Later (world after : World) : Type 0 where
   pub journal : (item : Won) → Among item world.journal → Among item after.journal
   pub changes : (after.changes ≡ world.changes) ⊎ ((change : Change) × (after.changes ≡ change ∷ world.changes))
 
--- ---- a word that is written
-
-with_same : (place word : ℕ) (words : ℕ → ℕ) → with_word place word words place ≡ word
-with_same place word words = ap (λ b. if b then word else words place) (eq-eqb place place refl)
-
-pub with_apart : (place word : ℕ) (words : ℕ → ℕ) (at : ℕ) → at ≢ place → with_word place word words at ≡ words at
-with_apart place word words at differs = ap (λ b. if b then word else words at) (ne_eqb at place differs)
-
-rises_at : (words : ℕ → ℕ) (place word : ℕ) → Rises (words place) word → (at : ℕ) → Rises (words at) (with_word place word words at)
-rises_at words place word new at = by_place (cases_eq at place)
-  where
-    by_place : (at ≡ place) ⊎ (at ≡ place → ⊥) → Rises (words at) (with_word place word words at)
-    by_place (inl here) = subst (λ p. Rises (words p) (with_word place word words p)) (sym here) (subst (Rises (words place)) (sym (with_same place word words)) new)
-    by_place (inr differs) = inl (with_apart place word words at differs)
-
 -- a place of a versioned word is no other one
 stays_plain : (words : ℕ → ℕ) (place word : ℕ) → is_versioned place ≡ true → (at : ℕ) → is_versioned at ≡ false → with_word place word words at ≡ words at
-stays_plain words place word is at none = with_apart place word words at (λ e. true≢false (sym is ∙ ap is_versioned (sym e) ∙ none))
+stays_plain words place word is at none = word_beside place word words at (λ e. true≢false (sym is ∙ ap is_versioned (sym e) ∙ none))
 
 -- ---- steps
 
@@ -71,36 +54,17 @@ exchanged_later world maker added entry word is raised = record {
   changes = grown added world.changes;
 }
 
-load_later : (world : World) (at : ℕ) (after : World) (seen : Seen) → Requested tree_form (Load at) world after seen → Later world after
-load_later world at after seen (loaded place) = same_later world
-
-exchange_later : (world : World) (at from to : ℕ) (after : World) (seen : Seen) → is_versioned at ≡ true → Requested tree_form (Exchange at from to) world after seen → Later world after
-exchange_later world at from to after seen is (lost place from' to' differs) = same_later world
-exchange_later world at from to after seen is (won place from' to' stood raised) =
-    exchanged_later world Beside _ (record { target = at; from = from; to = to }) to is (omega (arith, raised, ap versioned_version stood))
-
 pub requested_later : (world after : World) (seen : Seen) (request : Request) → AsksWell tree_form world request → Requested tree_form request world after seen → Later world after
-requested_later world after seen (Load at) asks r = load_later world at after seen r
-requested_later world after seen (Exchange at from to) asks r = exchange_later world at from to after seen asks.1 r
-requested_later world after seen (Store at value) asks r = absurd asks
-requested_later world after seen (Add at by) asks r = absurd asks
+requested_later world _ _ _ asks (loaded place) = same_later world
+requested_later world _ _ _ asks (lost place from to differs) = same_later world
+requested_later world _ _ _ asks (won place from to stood raised) =
+    exchanged_later world Beside _ (record { target = place; from = from; to = to }) to asks.1 (omega (arith, raised, ap versioned_version stood))
 
 -- the one entry of a list that was offered sets a flag
-entry_or : Entry → Option Entry → Entry
-entry_or other None = other
-entry_or other (Some entry) = entry
-
 first_target : (world : World) (list : Listed) (search : TreeSearch) (since : ℕ) (entry : Entry) → IsOffered tree_form world list search since → slice_get list.entries 0 ≡ Some entry → (node : ℕ) × (entry.target ≡ update_at node)
-unfolding entry_or
 first_target world list search since entry offered listed =
     let one = offered_entries world list search since offered in
-    (one.0, ap (λ (o : Option Entry). (entry_or entry o).target) (sym listed ∙ ap (λ (es : List Entry). slice_get es 0) one.2))
-
-pub no_second : (entries : List Entry) (one' entry : Entry) → entries ≡ one' ∷ [] → slice_get entries 1 ≡ Some entry → ⊥
-no_second entries one' entry one listed = by_none (sym (ap (λ (es : List Entry). slice_get es 1) one) ∙ listed)
-  where
-    by_none : None ≡ Some entry → ⊥
-    by_none e = absurd cc
+    (one.0, sym (ap (λ (e : Entry). e.target) (the_entry list.entries entry _ listed one.2)))
 
 flag_later : (world : World) (list : Listed) (search : TreeSearch) (since : ℕ) (entry : Entry) (word : ℕ) → IsOffered tree_form world list search since → slice_get list.entries 0 ≡ Some entry → world.words entry.target ≡ entry.from → IsExchanged entry word
     → Later world (exchanged tree_form (By list 0) (listed_if false list) entry word world)
@@ -112,7 +76,7 @@ flag_later world list search since entry word offered listed stood to =
 pub later : (world after : World) → Shape world → IsStep tree_form world after → Later world after
 later world after shape nothing = same_later world
 later world after shape (elsewhere place word outside) =
-    let apart : (at : ℕ) → is_word world at ≡ true → with_word place word world.words at ≡ world.words at = λ at is. with_apart place word world.words at (λ e. true≢false (sym is ∙ ap (is_word world) e ∙ outside)) in
+    let apart : (at : ℕ) → is_word world at ≡ true → with_word place word world.words at ≡ world.words at = beside_word world place word outside in
     record { rises = λ at is. inl (apart at is); plain = λ at is none. apart at is; used = λ block used. used; journal = λ item among. among; changes = inl refl }
 later world after shape (clears place inside versioned listable) = record {
   rises = λ at is. rises_at world.words place (cleared_word (world.words place)) (inr (inl refl)) at;
@@ -139,24 +103,8 @@ later world after shape (second list search since entry word offered took untook
 
 -- a place that is past a word stays past it
 pub passed_on : {world after : World} (place word : ℕ) → is_word world place ≡ true → Later world after → versioned_version word < versioned_version (world.words place) → versioned_version word < versioned_version (after.words place)
-passed_on {world} {after} place word is l passed = elim (l.rises place is) [
-  | inl same ↦ omega (arith, passed, ap versioned_version same)
-  | inr changed ↦ elim changed [
-    | inl cleared ↦ omega (arith, passed, ap versioned_version cleared, version-cleared (world.words place))
-    | inr higher ↦ omega (arith, passed, higher)
-  ]
-]
+passed_on {world} {after} place word is l passed = omega (arith, passed, rises_version (world.words place) (after.words place) (l.rises place is))
 
 -- a word that was seen with its bit clear still stands or is passed
 pub seen_later : (world after : World) (place word : ℕ) → is_word world place ≡ true → Later world after → WasSeen world place word → WasSeen after place word
-seen_later world after place word is l seen clear = by_old (seen clear)
-  where
-    by_old : (world.words place ≡ word) ⊎ (versioned_version word < versioned_version (world.words place)) → (after.words place ≡ word) ⊎ (versioned_version word < versioned_version (after.words place))
-    by_old (inl stands) = elim (l.rises place is) [
-      | inl same ↦ inl (same ∙ stands)
-      | inr changed ↦ elim changed [
-        | inl cleared ↦ inl (cleared ∙ ap cleared_word stands ∙ cleared-clear word clear)
-        | inr higher ↦ inr (omega (arith, higher, ap versioned_version stands))
-      ]
-    ]
-    by_old (inr passed) = inr (passed_on place word is l passed)
+seen_later world after place word is l seen clear = rises_seen (world.words place) (after.words place) word (l.rises place is) clear (seen clear)

@@ -12,12 +12,11 @@ use Rattle.lin_report.specs.Commands.{KEY_LIMIT, IsCommandOf}
 use Rattle.node_arena.specs.declared.places.TheConstants.{FIRST_WORDS}
 use Rattle.node_arena.specs.MemoryMap.{block_place, field_at, reference_to}
 use Rattle.node_arena.proofs.PlaceLemmas.{field_at-block_place, same_field, node_place-reference_to}
-use Rattle.normal_traits.specs.declared.lists.Entry.{Entry}
 use Rattle.normal_traits.specs.World.{World}
 use Rattle.normal_traits.specs.Laws.{IsGoodEntry, IsGoodOffer, IsGoodStore}
 use Rattle.tree_help.specs.declared.states.TheConstants.{INSERTING, DELETING}
 use Rattle.ellen_tree_laws.specs.declared.states.TreeSearch.{TreeSearch}
-use Rattle.ellen_tree_laws.specs.declared.states.TreeSearch.TheVariants.{AtUpdate, AtKey, AtChild, AtLeaf, Again, AtValue, SetReady, RemReady, Helps}
+use Rattle.ellen_tree_laws.specs.declared.states.TreeSearch.TheVariants.{SetReady, RemReady}
 use Rattle.ellen_tree_laws.specs.declared.states.Passed.{Passed}
 use Rattle.ellen_tree_laws.specs.Words.{child_at, child_field, update_at, leaf_key_at, leaf_value_at, is_versioned, may_list}
 use Rattle.ellen_tree_laws.specs.Search.{IsReady, block_for, flag_entry, greater, leaf_of, leaf_on, offered, set_stores}
@@ -27,6 +26,7 @@ use Rattle.ellen_tree_laws.specs.Form.{tree_form}
 use Rattle.ellen_tree_laws.proofs.Fields.{field_word}
 use Rattle.ellen_tree_laws.proofs.Asks.{update_versioned, update_listed}
 use Rattle.ellen_tree_laws.proofs.Ways.{field_small}
+use Rattle.client_lemmas.proofs.Offers.{one_entry}
 
 -- ---- stores by their fields
 
@@ -134,37 +134,29 @@ module _ (world : World) (shape : Shape world) where
   node_small : (since key : ℕ) (at : Passed) → HasPassed world since key at → at.node < 2 ^ 17
   node_small since key at has = (shape.stored at.node has.is).small
 
-  alone : (entry : Entry) → AllPairs (λ (a b : Entry). a.target ≢ b.target) (entry ∷ [])
-  alone entry = AllPairs-cons (λ (a b : Entry). a.target ≢ b.target) entry [] (All-nil (λ (b : Entry). entry.target ≢ b.target)) (λ i j d order low. absurd (omega (arith, order, low)))
-
   -- ---- a removal
 
   rem_good : (since key : ℕ) (above last : Passed) (op : Op) (block : ℕ) → block < 2 ^ 17 → HasPassed world since key above → HasPassed world since key last → IsClear above
       → IsGoodOffer tree_form world block (offered (RemReady above last) op block)
-  rem_good since key above last op block small has_above has_last clear = record {
-    some = omega arith;
-    few = omega arith;
-    entries = All-cons (IsGoodEntry tree_form world) (flag_entry above (block_for op block) DELETING) [] (good_entry since key above op block DELETING small (omega arith) has_above clear) (All-nil (IsGoodEntry tree_form world));
-    apart = alone (flag_entry above (block_for op block) DELETING);
-    stores = all_good block fields (
-      (omega arith, omega arith, place_small last.node 21 (node_small since key last has_last) (omega arith), inl (inr (omega arith))),
-      (
-        (omega arith, omega arith, has_last.fits.0, inl (inr (omega arith))),
+  rem_good since key above last op block small has_above has_last clear =
+      one_entry tree_form world block (flag_entry above (block_for op block) DELETING) (placed block fields) (good_entry since key above op block DELETING small (omega arith) has_above clear)
+      (all_good block fields (
+        (omega arith, omega arith, place_small last.node 21 (node_small since key last has_last) (omega arith), inl (inr (omega arith))),
         (
-          (omega arith, omega arith, place_small above.node (child_field above.left) (node_small since key above has_above) (field_small above.left), inl (inr (omega arith))),
+          (omega arith, omega arith, has_last.fits.0, inl (inr (omega arith))),
           (
-            (omega arith, omega arith, has_above.fits.1, inl (inr (omega arith))),
+            (omega arith, omega arith, place_small above.node (child_field above.left) (node_small since key above has_above) (field_small above.left), inl (inr (omega arith))),
             (
-              (omega arith, omega arith, place_small last.node (child_field (not last.left)) (node_small since key last has_last) (field_small (not last.left)), inl (inr (omega arith))),
-              tt,
+              (omega arith, omega arith, has_above.fits.1, inl (inr (omega arith))),
+              (
+                (omega arith, omega arith, place_small last.node (child_field (not last.left)) (node_small since key last has_last) (field_small (not last.left)), inl (inr (omega arith))),
+                tt,
+              ),
             ),
           ),
         ),
-      ),
-    );
-    distinct = all_apart block fields refl;
-    count = omega arith;
-  }
+      ))
+      (all_apart block fields refl) (omega arith)
     where
       fields : List (ℕ × ℕ)
       fields = (27, update_at last.node) ∷ (28, last.update) ∷ (29, child_at above.node above.left) ∷ (30, above.child) ∷ (31, child_at last.node (not last.left)) ∷ []
@@ -191,32 +183,30 @@ module _ (world : World) (shape : Shape world) where
 
   set_good : (since : ℕ) (last : Passed) (op : Op) (key value block : ℕ) → block < 2 ^ 17 → op.key < 2 ^ 32 → op.value < 2 ^ 32 → key < 2 ^ 32 → value < 2 ^ 32 → HasPassed world since op.key last → IsClear last
       → IsGoodOffer tree_form world block (offered (SetReady last key value) op block)
-  set_good since last op key value block small key_small value_small old_key old_value has clear = record {
-    some = omega arith;
-    few = omega arith;
-    entries = All-cons (IsGoodEntry tree_form world) (flag_entry last (block_for op block) INSERTING) [] (good_entry since op.key last op block INSERTING small (omega arith) has clear) (All-nil (IsGoodEntry tree_form world));
-    apart = alone (flag_entry last (block_for op block) INSERTING);
-    stores = subst (All (IsGoodStore tree_form block)) (sym by_field) (all_good block fields (
-      (omega arith, omega arith, omega (arith, key_small), inl (inl (omega arith))),
-      (
-        (omega arith, omega arith, omega (arith, value_small), inl (inl (omega arith))),
+  set_good since last op key value block small key_small value_small old_key old_value has clear =
+      one_entry tree_form world block (flag_entry last (block_for op block) INSERTING) (set_stores last op key value block) (good_entry since op.key last op block INSERTING small (omega arith) has clear)
+      (subst (All (IsGoodStore tree_form block)) (sym by_field) (all_good block fields (
+        (omega arith, omega arith, omega (arith, key_small), inl (inl (omega arith))),
         (
-          (omega arith, omega arith, omega (arith, old_key), inl (inr (omega arith))),
+          (omega arith, omega arith, omega (arith, value_small), inl (inl (omega arith))),
           (
-            (omega arith, omega arith, omega (arith, old_value), inl (inr (omega arith))),
+            (omega arith, omega arith, omega (arith, old_key), inl (inr (omega arith))),
             (
-              (omega arith, omega arith, greater_small op.key key key_small old_key, inl (inl (omega arith))),
+              (omega arith, omega arith, omega (arith, old_value), inl (inr (omega arith))),
               (
-                (omega arith, omega arith, omega (arith, leaf_small (nat_lt op.key key) block small), inr (leaf_small (nat_lt op.key key) block small)),
+                (omega arith, omega arith, greater_small op.key key key_small old_key, inl (inl (omega arith))),
                 (
-                  (omega arith, omega arith, omega (arith, leaf_small (not (nat_lt op.key key)) block small), inr (leaf_small (not (nat_lt op.key key)) block small)),
+                  (omega arith, omega arith, omega (arith, leaf_small (nat_lt op.key key) block small), inr (leaf_small (nat_lt op.key key) block small)),
                   (
-                    (omega arith, omega arith, omega arith, inr (omega arith)),
+                    (omega arith, omega arith, omega (arith, leaf_small (not (nat_lt op.key key)) block small), inr (leaf_small (not (nat_lt op.key key)) block small)),
                     (
-                      (omega arith, omega arith, place_small last.node (child_field last.left) (node_small since op.key last has) (field_small last.left), inl (inr (omega arith))),
+                      (omega arith, omega arith, omega arith, inr (omega arith)),
                       (
-                        (omega arith, omega arith, has.fits.1, inl (inr (omega arith))),
-                        tt,
+                        (omega arith, omega arith, place_small last.node (child_field last.left) (node_small since op.key last has) (field_small last.left), inl (inr (omega arith))),
+                        (
+                          (omega arith, omega arith, has.fits.1, inl (inr (omega arith))),
+                          tt,
+                        ),
                       ),
                     ),
                   ),
@@ -225,11 +215,8 @@ module _ (world : World) (shape : Shape world) where
             ),
           ),
         ),
-      ),
-    ));
-    distinct = subst (AllPairs (λ (a b : ℕ × ℕ). a.0 ≢ b.0)) (sym by_field) (all_apart block fields refl);
-    count = omega arith;
-  }
+      )))
+      (subst (AllPairs (λ (a b : ℕ × ℕ). a.0 ≢ b.0)) (sym by_field) (all_apart block fields refl)) (omega arith)
     where
       fields : List (ℕ × ℕ)
       fields = (12, op.key) ∷ (13, op.value) ∷ (22, key) ∷ (23, value) ∷ (17, greater op.key key) ∷ (19, leaf_on (nat_lt op.key key) block) ∷ (20, leaf_on (not (nat_lt op.key key)) block) ∷ (21, 0)
@@ -250,10 +237,4 @@ module _ (world : World) (shape : Shape world) where
       let bounds = leaf_bounds (leaf_of last) knows.learnt.0.told.is in
       set_good since last op key value block small (omega (arith, key_limit op command)) (omega (arith, command.value)) (omega (arith, bounds.0, knows.learnt.3)) (omega (arith, bounds.1, knows.learnt.5)) knows.learnt.0.passed knows.learnt.2
   offers (RemReady above last) op since block command knows ready small = rem_good since op.key above last op block small knows.learnt.2.0 knows.learnt.0.passed knows.learnt.3
-  offers (AtUpdate o above node) op since block command knows ready small = absurd ready
-  offers (AtKey o above node update) op since block command knows ready small = absurd ready
-  offers (AtChild o above node update key) op since block command knows ready small = absurd ready
-  offers (AtLeaf o above last) op since block command knows ready small = absurd ready
-  offers (Again o last is) op since block command knows ready small = absurd ready
-  offers (AtValue last key) op since block command knows ready small = absurd ready
-  offers (Helps help) op since block command knows ready small = absurd ready
+  offers _ op since block command knows ready small = absurd ready

@@ -2,7 +2,6 @@
 use Rattle.std.proofs.Common.{◌≡◌, ◌≢◌, ℕ, zero, suc, ◌+◌, ◌*◌, ◌^◌, ◌<◌, Bool, true, false, not, ◌||◌, ◌&&◌, List, [], ◌∷◌, ◌++◌, length, Option, refl, sym, ap, subst, ◌∙◌, inl, inr, arith}
 use Rattle.std.specs.Prelude.{◌==◌, if◌then◌else◌, slice_get, Some, None, IsTrue, All, nat_le}
 use Rattle.std.proofs.lemmas.Bool.{eqb-true, ne_eqb, or_left, or_right}
-use Rattle.std.proofs.lemmas.List.Elements.{All-nil, All-cons}
 use Rattle.word_fields.specs.Versioned.{versioned_value, versioned_bit, versioned_version, is_modified}
 use Rattle.word_fields.proofs.VersionedLemmas.{value-changed}
 use Rattle.lin_report.specs.declared.calls.Op.{Op}
@@ -32,10 +31,8 @@ use Rattle.ellen_tree_laws.specs.Knowledge.{Knows, Dead, Keeps}
 use Rattle.ellen_tree_laws.specs.Knowledge.Reaches.{on}
 use Rattle.ellen_tree_laws.specs.Form.{tree_form}
 use Rattle.ellen_tree_laws.proofs.Journal.{took_of, flagger_flagged}
-
-pub all_among : {X : Type 0} (P : X → Type 0) (xs : List X) → ((x : X) → Among x xs → P x) → All P xs
-all_among P [] f = All-nil P
-all_among P (x ∷ xs) f = All-cons P x xs (f x (inl refl)) (all_among P xs (λ y a. f y (inr a)))
+use Rattle.client_lemmas.proofs.Growing.{all_among}
+use Rattle.client_lemmas.proofs.Entries.{the_entry}
 
 -- ---- changes and causes
 
@@ -87,17 +84,10 @@ beside world list entry shape e = by_test (is_child entry.target) e
 
 -- ---- dead lists
 
-abbrev entry_or : Entry → Option Entry → Entry
-entry_or other None = other
-entry_or other (Some entry) = entry
-
-first_is : (entries : List Entry) (first entry : Entry) → entries ≡ first ∷ [] → slice_get entries 0 ≡ Some entry → entry ≡ first
-first_is entries first entry one listed = ap (entry_or entry) (sym listed ∙ ap (λ (es : List Entry). slice_get es 0) one)
-
 pub dead_first : (world : World) (list : Listed) (entry : Entry) → Dead list world → IsFresh world list → slice_get list.entries 0 ≡ Some entry → world.words entry.target ≢ entry.from
 dead_first world list entry dead fresh listed = λ e. elim dead.fate [
   | inl lost ↦
-      let is : entry ≡ dead.entry = first_is list.entries dead.entry entry dead.entries listed in
+      let is : entry ≡ dead.entry = sym (the_entry list.entries entry dead.entry listed dead.entries) in
       let here : world.words dead.entry.target ≡ dead.entry.from = subst (λ (x : Entry). world.words x.target ≡ x.from) is e in
       omega (arith, lost.0, ap versioned_version here)
   | inr gone ↦ fresh list 0 refl (took_of world list gone.0)
@@ -136,15 +126,9 @@ may_rem : (op : Op) → is_rem op ≡ true → IsTrue (may_list op) × IsTrue (m
 may_rem op e = let code : op.code ≡ REM = eqb-true op.code REM e in rw code (refl, refl)
 
 pub lists : (world : World) (search : TreeSearch) (op : Op) (since : ℕ) → Knows search op world since → IsReady search → IsTrue (may_list op) × IsTrue (may_exhaust op)
-lists world (AtUpdate o above node) op since knows ready = absurd ready
-lists world (AtKey o above node update) op since knows ready = absurd ready
-lists world (AtChild o above node update key) op since knows ready = absurd ready
-lists world (AtLeaf o above last) op since knows ready = absurd ready
-lists world (Again o last is) op since knows ready = absurd ready
-lists world (AtValue last key) op since knows ready = absurd ready
 lists world (SetReady last key value) op since knows ready = may_set op knows.learnt.1
 lists world (RemReady above last) op since knows ready = may_rem op knows.learnt.1
-lists world (Helps help) op since knows ready = absurd ready
+lists world _ op since knows ready = absurd ready
 
 block_none : (op : Op) (block other : ℕ) → may_list op ≡ false → (if may_list op then block else 0) ≡ (if may_list op then other else 0)
 block_none op block other e = rw e refl
@@ -152,13 +136,7 @@ block_none op block other e = rw e refl
 pub same_entries : (search : TreeSearch) (op : Op) (block other : ℕ) → may_list op ≡ false → (offered search op block).entries ≡ (offered search op other).entries
 same_entries (SetReady last key value) op block other e = ap (λ b. flag_entry last b INSERTING ∷ []) (block_none op block other e)
 same_entries (RemReady above last) op block other e = ap (λ b. flag_entry above b DELETING ∷ []) (block_none op block other e)
-same_entries (AtUpdate o above node) op block other e = refl
-same_entries (AtKey o above node update) op block other e = refl
-same_entries (AtChild o above node update key) op block other e = refl
-same_entries (AtLeaf o above last) op block other e = refl
-same_entries (Again o last is) op block other e = refl
-same_entries (AtValue last key) op block other e = refl
-same_entries (Helps help) op block other e = refl
+same_entries _ op block other e = refl
 
 -- ---- why a search gives up
 
@@ -237,13 +215,7 @@ offered_entries world list (RemReady above last) since offered' =
 
     one : is_set list.call.op ≡ false → is_rem list.call.op ≡ true → (offered (RemReady above last) list.call.op list.block).entries ≡ flags_at above.node above.update list ∷ []
     one set rem = rw (set, rem) refl
-offered_entries world list (AtUpdate o above node) since offered' = absurd offered'.ready
-offered_entries world list (AtKey o above node update) since offered' = absurd offered'.ready
-offered_entries world list (AtChild o above node update key) since offered' = absurd offered'.ready
-offered_entries world list (AtLeaf o above last) since offered' = absurd offered'.ready
-offered_entries world list (Again o last is) since offered' = absurd offered'.ready
-offered_entries world list (AtValue last key) since offered' = absurd offered'.ready
-offered_entries world list (Helps help) since offered' = absurd offered'.ready
+offered_entries world list _ since offered' = absurd offered'.ready
 
 -- its flag is set from a clean word
 pub offered_clean : (world : World) (list : Listed) (search : TreeSearch) (since : ℕ) → IsOffered tree_form world list search since
@@ -253,23 +225,11 @@ offered_clean world list (SetReady last key value) since offered' =
     (last.node, last.update, (offered_entries world list (SetReady last key value) since offered').2, offered'.knows.learnt.2.clean)
 offered_clean world list (RemReady above last) since offered' =
     (above.node, above.update, (offered_entries world list (RemReady above last) since offered').2, offered'.knows.learnt.3.clean)
-offered_clean world list (AtUpdate o above node) since offered' = absurd offered'.ready
-offered_clean world list (AtKey o above node update) since offered' = absurd offered'.ready
-offered_clean world list (AtChild o above node update key) since offered' = absurd offered'.ready
-offered_clean world list (AtLeaf o above last) since offered' = absurd offered'.ready
-offered_clean world list (Again o last is) since offered' = absurd offered'.ready
-offered_clean world list (AtValue last key) since offered' = absurd offered'.ready
-offered_clean world list (Helps help) since offered' = absurd offered'.ready
+offered_clean world list _ since offered' = absurd offered'.ready
 
 -- at a node
 pub offered_used : (world : World) (list : Listed) (search : TreeSearch) (since : ℕ) → Shape world → (offered' : IsOffered tree_form world list search since) → world.used (offered_entries world list search since offered').0 ≡ true
 unfolding offered_entries
 offered_used world list (SetReady last key value) since shape offered' = (shape.stored last.node offered'.knows.learnt.0.passed.is).used
 offered_used world list (RemReady above last) since shape offered' = (shape.stored above.node offered'.knows.learnt.2.0.is).used
-offered_used world list (AtUpdate o above node) since shape offered' = absurd offered'.ready
-offered_used world list (AtKey o above node update) since shape offered' = absurd offered'.ready
-offered_used world list (AtChild o above node update key) since shape offered' = absurd offered'.ready
-offered_used world list (AtLeaf o above last) since shape offered' = absurd offered'.ready
-offered_used world list (Again o last is) since shape offered' = absurd offered'.ready
-offered_used world list (AtValue last key) since shape offered' = absurd offered'.ready
-offered_used world list (Helps help) since shape offered' = absurd offered'.ready
+offered_used world list _ since shape offered' = absurd offered'.ready

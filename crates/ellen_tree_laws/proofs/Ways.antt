@@ -1,6 +1,6 @@
 -- A key's way before and after a swing, and what a search has learnt of it.
-use Rattle.std.proofs.Common.{◌≡◌, ◌≢◌, ℕ, suc, ◌+◌, ◌-◌, ◌*◌, ◌/◌, ◌%◌, ◌<◌, ◌≤◌, Bool, true, false, not, List, ◌∷◌, length, refl, sym, ap, subst, ◌∙◌, inl, inr, ◌⊎◌, arith}
-use Rattle.std.specs.Prelude.{◌==◌, if◌then◌else◌, nat_lt, drop, Some, None}
+use Rattle.std.proofs.Common.{◌≡◌, ◌≢◌, ℕ, ◌+◌, ◌-◌, ◌*◌, ◌/◌, ◌%◌, ◌<◌, ◌≤◌, Bool, true, false, not, List, ◌∷◌, length, refl, sym, ap, subst, ◌∙◌, inl, inr, ◌⊎◌, arith}
+use Rattle.std.specs.Prelude.{◌==◌, if◌then◌else◌, nat_lt, Some, None}
 use Rattle.std.specs.FinMap as map
 use Rattle.std.proofs.lemmas.Bool.{eq-eqb, ne_eqb, cases_eq, ltb-true, ltb-false}
 use Rattle.word_fields.specs.Versioned.{versioned_value}
@@ -17,6 +17,7 @@ use Rattle.ellen_tree_laws.specs.Shape.{Shape, Ordered, is_node, IsLeaf, IsBelow
 use Rattle.ellen_tree_laws.specs.Shape.OnWay.{root, below}
 use Rattle.ellen_tree_laws.specs.Knowledge.{Reaches, WasTold}
 use Rattle.ellen_tree_laws.specs.Knowledge.Reaches.{on, off, told}
+use Rattle.client_lemmas.proofs.Growing.{first_older, first_all}
 
 -- ---- places
 
@@ -196,14 +197,6 @@ module _ (world after : World) (g gone : ℕ) (side leafside : Bool) (to : ℕ) 
   told_stays key reference =
       ap (λ k. if k == key then Some (after.words (leaf_value_at reference)) else None) (leaf_word reference 0 (omega arith))
       ∙ ap (λ v. if world.words (leaf_key_at reference) == key then Some v else None) (leaf_word reference 1 (omega arith))
-
-  first_older : (change : Change) (changes : List Change) (count : ℕ) → count ≤ length changes → first_changes count (change ∷ changes) ≡ first_changes count changes
-  first_older change changes count small =
-      let one : length (change ∷ changes) - count ≡ suc (length changes - count) = omega (arith, small) in
-      ap (λ n. drop n (change ∷ changes)) one
-
-  first_all : (changes : List Change) → first_changes (length changes) changes ≡ changes
-  first_all changes = let none : length changes - length changes ≡ 0 = omega arith in ap (λ n. drop n changes) none
 
   leaf_apart : (changes : List Change) (reference : ℕ) → IsLeaf changes reference → is_internal reference ≡ false
   leaf_apart changes reference leaf' = elim leaf'.names [

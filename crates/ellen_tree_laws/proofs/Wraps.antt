@@ -1,6 +1,6 @@
 -- The wrap-up of a list: how it begins, and how a removal that can't set its mark any more is given up.
 use Rattle.std.proofs.Common.{◌≡◌, ◌≢◌, ℕ, zero, suc, ◌+◌, ◌*◌, ◌^◌, ◌<◌, Bool, true, false, ◌||◌, ◌&&◌, List, [], ◌∷◌, length, Option, refl, sym, ap, subst, ◌∙◌, inl, inr, ◌⊎◌, arith}
-use Rattle.std.specs.Prelude.{◌==◌, if◌then◌else◌, slice_get, Some, None}
+use Rattle.std.specs.Prelude.{◌==◌, if◌then◌else◌, None}
 use Rattle.std.proofs.lemmas.Bool.{eqb-true, eq-eqb, ne_eqb, cases_eq}
 use Rattle.word_fields.specs.Versioned.{versioned_value, versioned_version}
 use Rattle.word_fields.proofs.VersionedLemmas.{value-changed}
@@ -34,6 +34,7 @@ use Rattle.std.specs.Prelude.{nat_le}
 use Rattle.ellen_tree_laws.proofs.Journal.{took_of, flagged_of}
 use Rattle.node_arena.proofs.PlaceLemmas.{field_at-block_place, same_field}
 use Rattle.ellen_tree_laws.proofs.Plain.{offered_entries, offered_used}
+use Rattle.client_lemmas.proofs.Entries.{the_entry}
 
 -- ---- the flag's word
 
@@ -73,15 +74,11 @@ begun_at world list node from stop small used may entries stopped took = by_stop
           entries = entries;
           fate = inl (
             subst (λ (e : Entry). versioned_version e.from < versioned_version (world.words e.target))
-                (ap (entry_or failed.entry) (sym failed.listed ∙ ap (λ (es : List Entry). slice_get es 0) entries)) failed.passed,
+                (sym (the_entry list.entries failed.entry (flags_at node from list) failed.listed entries)) failed.passed,
             λ flagged. failed.lost (took_of world list flagged),
             (node, refl, used),
           );
         }
-      where
-        entry_or : Entry → Option Entry → Entry
-        entry_or other None = other
-        entry_or other (Some entry) = entry
 
     state : state_of (flag_of list.entries).word ≡ flag_state list.call.op
     state = ap (λ (es : List Entry). state_of (flag_of es).word) entries ∙ flag_state_is list small node from

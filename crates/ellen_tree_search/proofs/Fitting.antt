@@ -23,11 +23,11 @@ use Rattle.ellen_tree_laws.specs.declared.states.TreeSearch.TheVariants.{AtUpdat
 use Rattle.ellen_tree_laws.specs.declared.states.Passed.{Passed}
 use Rattle.ellen_tree_laws.specs.Words.{update_at, is_set, is_rem, may_list}
 use Rattle.ellen_tree_laws.specs.Search.{fed, helped, set_at, rem_at, met_leaf, told, leaf_of, after_help, wrap_begun_of, wrapped_by, flags}
+use Rattle.client_lemmas.proofs.Outcomes.{either}
 
--- a choice fits where both ways do
-either : (b : Bool) (one other : TreeSearch × Found) → FoundFits one.1 → FoundFits other.1 → FoundFits (if b then one else other).1
-either true one other y n = y
-either false one other y n = n
+-- what a search found fits
+abbrev SearchFits : TreeSearch × Found → Type 0
+SearchFits result = FoundFits result.1
 
 told_fits : (op : Op) (last : Passed) (is : Bool) → FitsRecord (told op last is)
 told_fits op last is = by_tests (op.code == GET) is
@@ -39,21 +39,21 @@ told_fits op last is = by_tests (op.code == GET) is
 
 set_fits : (stay : TreeSearch) (last : Passed) (key : ℕ) → FoundFits (set_at stay last key).1
 set_fits stay last key =
-    either (is_modified last.update) (stay, found.Contended) (if is_clean last.update then (AtValue last key, found.Going) else helped (update_at last.node) last.update) tt
-    (either (is_clean last.update) (AtValue last key, found.Going) (helped (update_at last.node) last.update) tt tt)
+    either SearchFits (is_modified last.update) (stay, found.Contended) (if is_clean last.update then (AtValue last key, found.Going) else helped (update_at last.node) last.update) tt
+    (either SearchFits (is_clean last.update) (AtValue last key, found.Going) (helped (update_at last.node) last.update) tt tt)
 
 rem_fits : (stay : TreeSearch) (above : Option Passed) (last : Passed) → FoundFits (rem_at stay above last).1
 rem_fits stay None last = tt
 rem_fits stay (Some above) last =
-    either (is_modified above.update || is_modified last.update) (stay, found.Contended)
+    either SearchFits (is_modified above.update || is_modified last.update) (stay, found.Contended)
     (if not (is_clean above.update) then helped (update_at above.node) above.update else (if not (is_clean last.update) then helped (update_at last.node) last.update else (RemReady above last, found.Ready))) tt
-    (either (not (is_clean above.update)) (helped (update_at above.node) above.update) (if not (is_clean last.update) then helped (update_at last.node) last.update else (RemReady above last, found.Ready)) tt
-    (either (not (is_clean last.update)) (helped (update_at last.node) last.update) (RemReady above last, found.Ready) tt tt))
+    (either SearchFits (not (is_clean above.update)) (helped (update_at above.node) above.update) (if not (is_clean last.update) then helped (update_at last.node) last.update else (RemReady above last, found.Ready)) tt
+    (either SearchFits (not (is_clean last.update)) (helped (update_at last.node) last.update) (RemReady above last, found.Ready) tt tt))
 
 leaf_fits : (stay : TreeSearch) (op : Op) (above : Option Passed) (last : Passed) (key : ℕ) (is : Bool) → FoundFits (met_leaf stay op above last key is).1
 leaf_fits stay op above last key is =
-    either (is_set op && not is) (set_at stay last key) (if is_rem op && is then rem_at stay above last else (Again op last is, found.Going)) (set_fits stay last key)
-    (either (is_rem op && is) (rem_at stay above last) (Again op last is, found.Going) (rem_fits stay above last) tt)
+    either SearchFits (is_set op && not is) (set_at stay last key) (if is_rem op && is then rem_at stay above last else (Again op last is, found.Going)) (set_fits stay last key)
+    (either SearchFits (is_rem op && is) (rem_at stay above last) (Again op last is, found.Going) (rem_fits stay above last) tt)
 
 help_fits : (stay : TreeSearch) (help : Help) (helping : Helping) → FoundFits (after_help stay (help, helping)).1
 help_fits stay help Running = tt
@@ -65,7 +65,7 @@ found_fits (AtUpdate o above node) seen = tt
 found_fits (AtKey o above node update) seen = tt
 found_fits (AtChild o above node update key) seen = tt
 found_fits (AtLeaf o above last) seen = leaf_fits (AtLeaf o above last) o above last seen.before (seen.before == o.key)
-found_fits (Again o last is) seen = either (state_of seen.before == MARKED) (helped (update_at last.node) seen.before) (Again o last is, found.Answer (told o last is)) tt (told_fits o last is)
+found_fits (Again o last is) seen = either SearchFits (state_of seen.before == MARKED) (helped (update_at last.node) seen.before) (Again o last is, found.Answer (told o last is)) tt (told_fits o last is)
 found_fits (AtValue last key) seen = tt
 found_fits (SetReady last key value) seen = tt
 found_fits (RemReady above last) seen = tt

@@ -1,13 +1,13 @@
 -- A search on its way down: the update word, the key and the child of each node.
-use Rattle.std.proofs.Common.{◌≡◌, ◌≢◌, ℕ, ◌-◌, ◌/◌, ◌<◌, ◌≤◌, Bool, true, false, List, length, Option, refl, sym, ap, subst, ◌∙◌, inl, inr, arith}
-use Rattle.std.specs.Prelude.{◌==◌, if◌then◌else◌, nat_lt, drop, Some}
+use Rattle.std.proofs.Common.{◌≡◌, ◌≢◌, ℕ, ◌/◌, ◌<◌, ◌≤◌, Bool, true, false, List, length, Option, refl, sym, ap, subst, ◌∙◌, inl, inr, arith}
+use Rattle.std.specs.Prelude.{◌==◌, if◌then◌else◌, nat_lt, Some}
 use Rattle.std.specs.FinMap as map
 use Rattle.std.proofs.lemmas.Bool.{true≢false, or_right}
 use Rattle.word_fields.specs.Versioned.{versioned_value}
 use Rattle.lin_report.specs.declared.calls.Op.{Op}
 use Rattle.lin_report.specs.Commands.{KEY_LIMIT}
 use Rattle.lin_report.specs.Object.{map_object}
-use Rattle.normal_traits.specs.World.{Change, World, held_after, first_changes}
+use Rattle.normal_traits.specs.World.{Change, World, held_after}
 use Rattle.tree_help.specs.Updates.{inner}
 use Rattle.ellen_tree_laws.specs.declared.states.TreeSearch.{TreeSearch}
 use Rattle.ellen_tree_laws.specs.declared.states.TreeSearch.TheVariants.{AtUpdate, AtChild, AtLeaf}
@@ -21,6 +21,7 @@ use Rattle.ellen_tree_laws.specs.Knowledge.Reaches.{on, off, told}
 use Rattle.ellen_tree_laws.proofs.Ways.{inner_same, inner_is, inner_block, leaf_names, told_now}
 use Rattle.ellen_tree_steps.proofs.Waiting.{brought}
 use Rattle.ellen_tree_search.proofs.Known.{known_now}
+use Rattle.client_lemmas.proofs.Growing.{first_all}
 
 module _ (world : World) (shape : Shape world) (op : Op) (since : ℕ) (limit : op.key < KEY_LIMIT) (began : since ≤ length world.changes) where
   -- ---- from a node to its child
@@ -48,9 +49,6 @@ module _ (world : World) (shape : Shape world) (op : Op) (since : ℕ) (limit : 
             made = omega arith;
             told = ap (λ (cs : List Change). map.get (held_after map_object cs) op.key) (first_all world.changes) ∙ told_now world shape op.key node limit here out;
           })
-        where
-          first_all : (changes : List Change) → first_changes (length changes) changes ≡ changes
-          first_all changes = let none : length changes - length changes ≡ 0 = omega arith in ap (λ n. drop n changes) none
   step_down node reference e names (off other named is marked rest) = subst (λ n. Reaches world since op.key (way world.words op.key n)) (inner_same other node (sym named ∙ e)) rest
   step_down node reference e names (told out t) = absurd (true≢false (sym (inner_is node) ∙ ap is_internal (sym e) ∙ out))
 

@@ -1,8 +1,7 @@
 -- The shape after a step, put together from its parts: where no change was made, and behind one more change.
-use Rattle.std.proofs.Common.{◌≡◌, ◌≢◌, ℕ, ◌<◌, ◌≤◌, Bool, true, false, List, ◌∷◌, sym, ap, subst, ◌∙◌, inl, inr}
+use Rattle.std.proofs.Common.{◌≡◌, ◌≢◌, ℕ, ◌<◌, ◌≤◌, Bool, true, false, List, ◌∷◌, refl, sym, ap, subst, ◌∙◌}
 use Rattle.std.specs.Prelude.{AllPairs}
 use Rattle.std.specs.FinMap as map
-use Rattle.std.proofs.lemmas.List.Kept.{AllPairs-cons}
 use Rattle.lin_report.specs.declared.calls.Reply.TheVariants.{Yes}
 use Rattle.lin_report.specs.Commands.{KEY_LIMIT}
 use Rattle.lin_report.specs.Object.{map_object}
@@ -11,7 +10,6 @@ use Rattle.tree_help.specs.declared.states.TheConstants.{MARKED}
 use Rattle.tree_help.specs.Updates.{state_of, inner}
 use Rattle.ellen_tree_laws.specs.Words.{child_at, update_at, is_internal}
 use Rattle.ellen_tree_laws.specs.Shape.{Shape, Ordered, IsStored, IsNamed, Flagged, Changed, WasMade, EachChanges, is_node, keys, children, told_by}
-use Rattle.ellen_tree_laws.proofs.Plain.{all_among}
 use Rattle.ellen_tree_laws.proofs.Later.{Later}
 use Rattle.ellen_tree_laws.proofs.Spares.{Spares}
 use Rattle.ellen_tree_laws.proofs.Kept.{flagged_later}
@@ -19,6 +17,7 @@ use Rattle.ellen_tree_steps.proofs.Lasting.{named_later}
 use Rattle.ellen_tree_steps.proofs.Made.{was_made_later}
 use Rattle.ellen_tree_steps.proofs.Asides.{ordered_stays, living_stays, tells_stays}
 use Rattle.ellen_tree_steps.proofs.Journals.{Flags, Causes}
+use Rattle.client_lemmas.proofs.Growing.{each_more, pairs_more}
 
 -- the order and the map
 pub record Form (world : World) : Type 0 where
@@ -101,25 +100,14 @@ module _ (world after : World) (shape : Shape world) (l : Later world after) (s 
       flaggers = flags.flaggers;
       same_identity = flags.same_identity;
       same_block = flags.same_block;
-      flagged = λ change among. elim (subst (Among change) changes among) [
-        | inl same ↦ subst (λ (c : Change). Flagged after c.list) (sym same) (flagged_later world after shape l s list flagged)
-        | inr old ↦ was_flagged change old
-      ];
-      made = λ change among. elim (subst (Among change) changes among) [
-        | inl same ↦ subst (λ (c : Change). WasMade after c.list) (sym same) made
-        | inr old ↦ was_made change old
-      ];
-      yes = λ change among. elim (subst (Among change) changes among) [
-        | inl same ↦ ap (λ (c : Change). c.reply) same
-        | inr old ↦ shape.yes change old
-      ];
+      flagged = each_more (λ (c : Change). Flagged after c.list) (record { list = list; reply = Yes }) world.changes after.changes changes (flagged_later world after shape l s list flagged) was_flagged;
+      made = each_more (λ (c : Change). WasMade after c.list) (record { list = list; reply = Yes }) world.changes after.changes changes made was_made;
+      yes = each_more (λ (c : Change). c.reply ≡ Yes) (record { list = list; reply = Yes }) world.changes after.changes changes refl shape.yes;
       effective = subst EachChanges (sym changes) (effective, shape.effective);
-      one_list = subst (AllPairs (λ (a b : Change). a.list.identity ≢ b.list.identity)) (sym changes)
-          (AllPairs-cons (λ (a b : Change). a.list.identity ≢ b.list.identity) (record { list = list; reply = Yes }) world.changes
-          (all_among (λ (b : Change). list.identity ≢ b.list.identity) world.changes (λ old among e. own_change old among (shape.same_identity old.list list (shape.flagged old among) flagged (sym e)))) shape.one_list);
-      one_block = subst (AllPairs (λ (a b : Change). 0 < a.list.block → a.list.block ≢ b.list.block)) (sym changes)
-          (AllPairs-cons (λ (a b : Change). 0 < a.list.block → a.list.block ≢ b.list.block) (record { list = list; reply = Yes }) world.changes
-          (all_among (λ (b : Change). 0 < list.block → list.block ≢ b.list.block) world.changes (λ old among some e. own_change old among (shape.same_block old.list list (shape.flagged old among) flagged (sym e)))) shape.one_block);
+      one_list = pairs_more (λ (a b : Change). a.list.identity ≢ b.list.identity) (record { list = list; reply = Yes }) world.changes after.changes changes
+          (λ old among e. own_change old among (shape.same_identity old.list list (shape.flagged old among) flagged (sym e))) shape.one_list;
+      one_block = pairs_more (λ (a b : Change). 0 < a.list.block → a.list.block ≢ b.list.block) (record { list = list; reply = Yes }) world.changes after.changes changes
+          (λ old among some e. own_change old among (shape.same_block old.list list (shape.flagged old among) flagged (sym e))) shape.one_block;
       spent = causes.spent;
       causes_differ = causes.differ;
     }

@@ -1,16 +1,15 @@
 -- The journal, the flags and the causes after a step that exchanged nothing, or beside the lists.
 use Rattle.std.proofs.Common.{◌≡◌, ◌≢◌, ℕ, zero, suc, refl, sym, ap, subst, ◌∙◌, inl, inr}
 use Rattle.std.specs.Prelude.{AllPairs}
-use Rattle.std.proofs.lemmas.List.Kept.{AllPairs-cons}
 use Rattle.normal_traits.specs.World.{Listed, Maker, Won, Cause, World, Among}
 use Rattle.normal_traits.specs.World.Maker.{By, Beside}
 use Rattle.ellen_tree_laws.specs.Shape.{Shape, Flagged, IsFlagger, IsBy, IsSpent, IsOver, flag_won, cause_here}
-use Rattle.ellen_tree_laws.proofs.Plain.{all_among}
 use Rattle.ellen_tree_laws.proofs.Later.{Later}
 use Rattle.ellen_tree_laws.proofs.Spares.{Spares}
 use Rattle.ellen_tree_laws.proofs.Kept.{flagged_later}
 use Rattle.ellen_tree_steps.specs.Effects.{IsBeside}
 use Rattle.ellen_tree_steps.proofs.Made.{spent_later}
+use Rattle.client_lemmas.proofs.Growing.{each_more, pairs_more}
 
 -- what the shape says of flags
 pub record Flags (world : World) : Type 0 where
@@ -67,7 +66,8 @@ module _ (world after : World) (shape : Shape world) where
 
   module _ (l : Later world after) (s : Spares world after) (list : Listed) (kind place to : ℕ) (x : IsBeside world after list kind place to) where
     pub beside_flags : ((other : Listed) (flagged : Flagged world other) → IsFlagger after other flagged.node flagged.from) → Flags after
-    beside_flags each = flags_by before items each
+    beside_flags each =
+        flags_by before (each_more (λ (w : Won). IsBy after w w.maker) x.item world.journal after.journal x.journal (subst (IsBy after x.item) (sym x.maker) tt) (λ won old. by_still world after won won.maker (shape.items won old))) each
       where
         before : (node from : ℕ) (other : Listed) → Among (flag_won node from other) after.journal → Among (flag_won node from other) world.journal
         before node from other among = elim (subst (Among (flag_won node from other)) x.journal among) [
@@ -75,21 +75,12 @@ module _ (world after : World) (shape : Shape world) where
           | inr old ↦ old
         ]
 
-        items : (won : Won) → Among won after.journal → IsBy after won won.maker
-        items won among = elim (subst (Among won) x.journal among) [
-          | inl same ↦ subst (IsBy after won) (sym (ap (λ (w : Won). w.maker) same ∙ x.maker)) tt
-          | inr old ↦ by_still world after won won.maker (shape.items won old)
-        ]
-
     -- its cause is new, where it wasn't over
     pub beside_causes : Flagged world list → (IsOver world list kind → ⊥) → IsOver after list kind → Causes after
     beside_causes flagged yet over = record {
-      spent = λ won among. elim (subst (Among won) x.journal among) [
-        | inl same ↦ subst (IsSpent after) (sym (ap (λ (w : Won). w.cause) same ∙ x.cause)) (record { list = list; flagged = flagged_later world after shape l s list flagged; block = refl; over = over })
-        | inr old ↦ spent_later world after shape l s won.cause (shape.spent won old)
-      ];
-      differ = subst (AllPairs (λ (a b : Won). a.cause ≢ b.cause)) (sym x.journal)
-          (AllPairs-cons (λ (a b : Won). a.cause ≢ b.cause) x.item world.journal (all_among (λ (b : Won). x.item.cause ≢ b.cause) world.journal apart) shape.causes_differ);
+      spent = each_more (λ (w : Won). IsSpent after w.cause) x.item world.journal after.journal x.journal
+          (subst (IsSpent after) (sym x.cause) (record { list = list; flagged = flagged_later world after shape l s list flagged; block = refl; over = over })) (λ won old. spent_later world after shape l s won.cause (shape.spent won old));
+      differ = pairs_more (λ (a b : Won). a.cause ≢ b.cause) x.item world.journal after.journal x.journal apart shape.causes_differ;
     }
       where
         apart : (old : Won) → Among old world.journal → x.item.cause ≢ old.cause

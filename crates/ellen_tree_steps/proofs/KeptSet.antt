@@ -1,8 +1,6 @@
 -- The setting of a flag keeps the shape.
 use Rattle.std.proofs.Common.{◌≡◌, ◌≢◌, ℕ, zero, ◌+◌, ◌*◌, true, List, refl, sym, ap, subst, ◌∙◌, inl, inr, ◌⊎◌, arith}
-use Rattle.std.specs.Prelude.{AllPairs}
 use Rattle.std.proofs.lemmas.Bool.{cases_eq, true≢false}
-use Rattle.std.proofs.lemmas.List.Kept.{AllPairs-cons}
 use Rattle.word_fields.specs.Versioned.{versioned_value, versioned_version, cleared_word}
 use Rattle.word_fields.proofs.VersionedLemmas.{value-cleared, version-cleared}
 use Rattle.normal_traits.specs.World.{Listed, Maker, Won, Cause, Change, World, Among}
@@ -11,7 +9,7 @@ use Rattle.tree_help.specs.declared.states.TheConstants.{CLEAN}
 use Rattle.tree_help.specs.Updates.{state_of}
 use Rattle.ellen_tree_laws.specs.Words.{update_at}
 use Rattle.ellen_tree_laws.specs.Shape.{Shape, Flagged, IsFlagger, IsBy, IsSpent, Removes, RemoveStands, IsUp, flag_won, flag_state, noted, is_node}
-use Rattle.ellen_tree_laws.proofs.Plain.{all_among, update_same}
+use Rattle.ellen_tree_laws.proofs.Plain.{update_same}
 use Rattle.ellen_tree_laws.proofs.Journal.{took_of}
 use Rattle.ellen_tree_laws.proofs.Wraps.{flag_value}
 use Rattle.ellen_tree_laws.proofs.Later.{Later}
@@ -23,6 +21,7 @@ use Rattle.ellen_tree_steps.proofs.Waiting.{up_dirty, flag_states}
 use Rattle.ellen_tree_steps.proofs.UpdateWords.{update_here, child_same_word, inserts_other, waits_other, marked_other, stored_update}
 use Rattle.ellen_tree_steps.proofs.Journals.{Flags, Causes, by_still}
 use Rattle.ellen_tree_steps.proofs.Assembled.{shape_aside}
+use Rattle.client_lemmas.proofs.Growing.{each_more, pairs_more}
 
 -- the list of a maker
 list_or : Listed → Maker → Listed
@@ -108,10 +107,7 @@ module _ (world after : World) (shape : Shape world) (l : Later world after) (s 
 
   flags : Flags after
   flags = record {
-    items = λ won among. elim (subst (Among won) x.journal among) [
-      | inl same ↦ subst (λ (w : Won). IsBy after w w.maker) (sym same) (x.node, x.from, refl, x.entries)
-      | inr old ↦ by_still world after won won.maker (shape.items won old)
-    ];
+    items = each_more (λ (w : Won). IsBy after w w.maker) (flag_won x.node x.from x.list) world.journal after.journal x.journal (x.node, x.from, refl, x.entries) (λ won old. by_still world after won won.maker (shape.items won old));
     flaggers = λ list f. elim (subst (Among (flag_won f.node f.from list)) x.journal f.won) [
       | inl same ↦
           let e = same_won list x.list f.node f.from x.node x.from same in
@@ -144,14 +140,10 @@ module _ (world after : World) (shape : Shape world) (l : Later world after) (s 
 
   causes : Causes after
   causes = record {
-    spent = λ won among. elim (subst (Among won) x.journal among) [
-      | inl same ↦ subst (λ (w : Won). IsSpent after w.cause) (sym same) (record { list = x.list; flagged = new_flag; block = refl; over = tt })
-      | inr old ↦ spent_later world after shape l s won.cause (shape.spent won old)
-    ];
-    differ = subst (AllPairs (λ (a b : Won). a.cause ≢ b.cause)) (sym x.journal)
-        (AllPairs-cons (λ (a b : Won). a.cause ≢ b.cause) (flag_won x.node x.from x.list) world.journal
-        (all_among (λ (b : Won). (flag_won x.node x.from x.list).cause ≢ b.cause) world.journal (λ old among e. let spent = shape.spent old among in new_block spent.list spent.flagged (spent.block ∙ ap (λ (c : Cause). c.block) (sym e))))
-        shape.causes_differ);
+    spent = each_more (λ (w : Won). IsSpent after w.cause) (flag_won x.node x.from x.list) world.journal after.journal x.journal (record { list = x.list; flagged = new_flag; block = refl; over = tt })
+        (λ won old. spent_later world after shape l s won.cause (shape.spent won old));
+    differ = pairs_more (λ (a b : Won). a.cause ≢ b.cause) (flag_won x.node x.from x.list) world.journal after.journal x.journal
+        (λ old among e. let spent = shape.spent old among in new_block spent.list spent.flagged (spent.block ∙ ap (λ (c : Cause). c.block) (sym e))) shape.causes_differ;
   }
 
   pub shape_set : Shape after

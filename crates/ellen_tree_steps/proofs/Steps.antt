@@ -32,8 +32,8 @@ use Rattle.ellen_tree_laws.specs.Knowledge.{Knows, Follows, FollowsInsert, Follo
 use Rattle.ellen_tree_laws.specs.Form.{tree_form}
 use Rattle.ellen_tree_laws.proofs.Plain.{both_ops, offered_entries}
 use Rattle.ellen_tree_laws.proofs.Wraps.{with_here, with_other, state_below}
-use Rattle.ellen_tree_laws.proofs.Later.{Later, later, no_second}
-use Rattle.ellen_tree_laws.proofs.Spares.{Spares, spares, entry_is}
+use Rattle.ellen_tree_laws.proofs.Later.{Later, later}
+use Rattle.ellen_tree_laws.proofs.Spares.{Spares, spares}
 use Rattle.ellen_tree_steps.specs.Effects.{Effect}
 use Rattle.ellen_tree_steps.specs.Effects.Effect.{quiet, sets, links, marks, swings, ends}
 use Rattle.ellen_tree_steps.proofs.Exchanges.{same_quiet, link_effect, swing_effect, mark_effect, end_effect}
@@ -44,6 +44,7 @@ use Rattle.ellen_tree_steps.proofs.KeptLink.{shape_link}
 use Rattle.ellen_tree_steps.proofs.KeptMark.{shape_mark}
 use Rattle.ellen_tree_steps.proofs.KeptSwing.{shape_swing}
 use Rattle.ellen_tree_steps.proofs.KeptEnd.{shape_end}
+use Rattle.client_lemmas.proofs.Entries.{the_entry, no_second}
 
 -- ---- requests
 
@@ -99,7 +100,7 @@ module _ (world : World) (shape : Shape world) (list : Listed) (since : ℕ) (en
       → (world.words (update_at node) ≡ from → cleared_word word ≡ (flags_at node from list).to → Later world (won_by world list word (flags_at node from list)) → Spares world (won_by world list word (flags_at node from list)) → IsFlagger (won_by world list word (flags_at node from list)) list node from)
       → Effect world (won_by world list word entry)
   set_by node from entries clean flagger =
-      let same : flags_at node from list ≡ entry = entry_is list entry (flags_at node from list) entries listed in
+      let same : flags_at node from list ≡ entry = the_entry list.entries entry (flags_at node from list) listed entries in
       let l' = subst (λ (e : Entry). Later world (won_by world list word e)) (sym same) l in
       let s' = subst (λ (e : Entry). Spares world (won_by world list word e)) (sym same) s in
       let stood' : world.words (update_at node) ≡ from = subst (λ (e : Entry). world.words e.target ≡ e.from) (sym same) stood in

@@ -1,38 +1,21 @@
 -- Places, words and the map of one key.
-use Rattle.std.proofs.Common.{◌≡◌, ◌≢◌, ℕ, ◌^◌, ◌<◌, Bool, true, false, not, ◌||◌, ◌&&◌, List, [], ◌∷◌, refl, sym, ap, ◌∙◌, inl, inr, arith, None, is_some, Some, subst}
-use Rattle.std.specs.Prelude.{◌==◌, if◌then◌else◌, All, nat_le}
+use Rattle.std.proofs.Common.{◌≡◌, ◌≢◌, ℕ, ◌^◌, ◌<◌, Bool, true, false, not, refl, sym, ap, ◌∙◌, arith, None, is_some, Some, subst}
+use Rattle.std.specs.Prelude.{◌==◌, if◌then◌else◌}
 use Rattle.std.specs.FinMap as map
 use Rattle.std.specs.Ordering.{nat_cmp}
 use Rattle.std.specs.Cmp.{nat_cmp_total}
-use Rattle.std.proofs.lemmas.Bool.{eq-eqb, ne_eqb, le-leb}
-use Rattle.std.proofs.lemmas.List.Elements.{All-nil, All-cons}
 use Rattle.lin_report.specs.declared.calls.Op.{Op}
 use Rattle.lin_report.specs.declared.calls.Reply.{Reply}
 use Rattle.lin_report.specs.declared.calls.Reply.TheVariants.{Yes, No}
 use Rattle.lin_report.specs.declared.calls.TheConstants.{SET, REM}
 use Rattle.lin_report.specs.Object.{map_apply, set_absent, value_or_absent, yes_if}
-use Rattle.node_arena.specs.declared.places.TheConstants.{HEAD, TAIL, FIRST_WORDS}
-use Rattle.node_arena.specs.MemoryMap.{block_place}
-use Rattle.node_arena.proofs.PlaceLemmas.{block_place_behind, block_at-block_place, field_at-block_place, same_field, same_block}
+use Rattle.node_arena.proofs.PlaceLemmas.{same_field, same_block}
 use Rattle.word_fields.specs.Versioned.{versioned_value, versioned_bit}
 use Rattle.word_fields.proofs.VersionedLemmas.{value-changed, bit-changed}
-use Rattle.normal_traits.specs.World.{World, Among, is_word, is_state}
-use Rattle.normal_traits.specs.Steps.{with_word}
 use Rattle.flagged_register.specs.Register.{FLAG, REGISTER, note_place, flag_value, flag_word, is_in, toggles, decided, decided_value, decision_place, toggled_value, value_at}
-
--- ---- lists
-
-pub all_among : {X : Type 0} (P : X → Type 0) (xs : List X) → ((x : X) → Among x xs → P x) → All P xs
-all_among P [] f = All-nil P
-all_among P (x ∷ xs) f = All-cons P x xs (f x (inl refl)) (all_among P xs (λ y a. f y (inr a)))
+use Rattle.client_lemmas.proofs.Words.{value_small}
 
 -- ---- places
-
-pub at_same : (place word : ℕ) (words : ℕ → ℕ) → with_word place word words place ≡ word
-at_same place word words = ap (λ b. if b then word else words place) (eq-eqb place place refl)
-
-pub at_other : (place word : ℕ) (words : ℕ → ℕ) (at : ℕ) → at ≢ place → with_word place word words at ≡ words at
-at_other place word words at differs = ap (λ b. if b then word else words at) (ne_eqb at place differs)
 
 pub register_flag : REGISTER ≢ FLAG
 register_flag e = absurd (omega (arith, same_field 0 14 0 16 (omega arith) (omega arith) e))
@@ -67,19 +50,6 @@ value_decision block other e = absurd (omega (arith, same_field block 13 other 2
 pub same_decision : (block other : ℕ) → decision_place block ≡ decision_place other → block ≡ other
 same_decision block other e = same_block block 28 other 28 (omega arith) (omega arith) e
 
-in_used : (a b c : Bool) → (a || b || (true && true && (c || true))) ≡ true
-in_used true b c = refl
-in_used false true c = refl
-in_used false false true = refl
-in_used false false false = refl
-
-pub word_of : (world : World) (block field : ℕ) → field < 32 → world.used block ≡ true → not (is_state field) ≡ true → is_word world (block_place block field) ≡ true
-word_of world block field small used plain =
-    let behind : nat_le FIRST_WORDS (block_place block field) ≡ true = le-leb FIRST_WORDS (block_place block field) (block_place_behind block field) in
-    rw (behind, block_at-block_place block field small, field_at-block_place block field small, used, plain) (in_used (block_place block field == HEAD) (block_place block field == TAIL) (block == 0))
-
--- ---- words
-
 -- ---- decisions
 
 pub decided_value_below : (made : Bool) → decided_value made < 2 ^ 24
@@ -89,12 +59,8 @@ decided_value_below false = omega arith
 pub decided_is : (made : Bool) → versioned_value (decided made) ≡ decided_value made
 decided_is made = value-changed 0 (decided_value made) (decided_value_below made)
 
-value_0 : versioned_value 0 ≡ 0
-unfolding versioned_value
-value_0 = omega arith
-
 pub decided_some : (made : Bool) → decided made ≢ 0
-decided_some made e = by_made made (sym (decided_is made) ∙ ap versioned_value e ∙ value_0)
+decided_some made e = by_made made (sym (decided_is made) ∙ ap versioned_value e ∙ value_small 0 (omega arith))
   where
     by_made : (m : Bool) → decided_value m ≡ 0 → ⊥
     by_made true e' = omega (arith, e')

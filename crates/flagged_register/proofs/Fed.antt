@@ -22,25 +22,29 @@ use Rattle.flagged_register.specs.Register.{FLAG, REGISTER, note_place, toggled,
 use Rattle.flagged_register.specs.Register.Help.{Deciding, Checking, Reading, Changing, Clearing}
 use Rattle.flagged_register.specs.Register.Search.{AtFlag, AtRegister, Named, Helping}
 use Rattle.flagged_register.specs.Meanings.{Flagged, Made, Stands, Shape, IsUp, Helps, WasDown, Learnt, Knows, asks, flagged_form, IsGone}
-use Rattle.flagged_register.proofs.Basics.{word_of, at_same, register_flag, toggled_below, decided_some, decision_flag, decided_is, decided_once, decided_value_below}
+use Rattle.flagged_register.proofs.Basics.{register_flag, toggled_below, decided_some, decision_flag, decided_is, decided_once, decided_value_below}
 use Rattle.flagged_register.proofs.Effects.{Effect}
 use Rattle.flagged_register.proofs.Later.{helps_later, decided_later, Later, later, flag_clear, flagged_later, note_later}
-use Rattle.flagged_register.proofs.Steps.{named_block, Asked, asked, help_effect}
+use Rattle.flagged_register.proofs.Steps.{named_block, help_effect}
 use Rattle.flagged_register.proofs.Kept.EachEffect.{effect_keeps}
 use Rattle.std.specs.FinMap as map
 use Rattle.normal_traits.specs.World.{StandsFor}
 use Rattle.normal_traits.specs.Laws.{IsFixed}
 use Rattle.flagged_register.specs.Meanings.{IsName, content, IsGone}
-use Rattle.flagged_register.proofs.Observed.{observed, first_all}
+use Rattle.flagged_register.proofs.Observed.{observed}
+use Rattle.client_lemmas.proofs.Words.{same_place}
+use Rattle.client_lemmas.proofs.Places.{field_word}
+use Rattle.client_lemmas.proofs.Growing.{first_all}
+use Rattle.client_lemmas.proofs.Requests.{Went, went}
 
 -- ---- what is asked
 
 module _ (world : World) (shape : Shape world) where
   flag_is_word : is_word world FLAG ≡ true
-  flag_is_word = word_of world 0 16 (omega arith) shape.opened refl
+  flag_is_word = field_word world 0 16 (omega arith) shape.opened refl
 
   register_is_word : is_word world REGISTER ≡ true
-  register_is_word = word_of world 0 14 (omega arith) shape.opened refl
+  register_is_word = field_word world 0 14 (omega arith) shape.opened refl
 
   is_versioned_decision : (block : ℕ) → flagged_form.is_versioned (decision_place block) ≡ true
   is_versioned_decision block =
@@ -53,15 +57,15 @@ module _ (world : World) (shape : Shape world) where
   pub help_asks : (help : Help) (list : Listed) → Helps help world list → AsksWell flagged_form world (request_of_help help)
   help_asks (Deciding flag make) list h =
       subst (λ block. AsksWell flagged_form world (Exchange (decision_place block) 0 (decided make))) (sym (named_block world list flag shape h.0 h.1)) (
-        word_of world list.block 28 (omega arith) (shape.flaggers list h.0).used refl,
+        field_word world list.block 28 (omega arith) (shape.flaggers list h.0).used refl,
         is_versioned_decision list.block,
         λ listable. absurd (decision_flag list.block (eqb-true (decision_place list.block) FLAG listable)),
         (decided_value make, decided_value_below make, refl),
       )
   help_asks (Checking flag) list h =
-      subst (λ block. is_word world (decision_place block) ≡ true) (sym (named_block world list flag shape h.0 h.1)) (word_of world list.block 28 (omega arith) (shape.flaggers list h.0).used refl)
+      subst (λ block. is_word world (decision_place block) ≡ true) (sym (named_block world list flag shape h.0 h.1)) (field_word world list.block 28 (omega arith) (shape.flaggers list h.0).used refl)
   help_asks (Reading flag) list h =
-      subst (λ block. is_word world (note_place block) ≡ true) (sym (named_block world list flag shape h.0 h.1)) (word_of world list.block 27 (omega arith) (shape.flaggers list h.0).used refl)
+      subst (λ block. is_word world (note_place block) ≡ true) (sym (named_block world list flag shape h.0 h.1)) (field_word world list.block 27 (omega arith) (shape.flaggers list h.0).used refl)
   help_asks (Changing flag noted) list h =
       (register_is_word, or_left (REGISTER == FLAG || REGISTER == REGISTER) (field_at REGISTER == 28) (or_right (REGISTER == FLAG) (REGISTER == REGISTER) (eq-eqb REGISTER REGISTER refl)), λ listable. absurd (register_flag (eqb-true REGISTER FLAG listable)), (toggled_value noted (versioned_value flag / 4), toggled_below noted (versioned_value flag / 4) (omega (arith, named_block world list flag shape h.0 h.1, (shape.flaggers list h.0).small)), refl))
   help_asks (Clearing flag true) list h = clearing_asks flag list h.0 h.1
@@ -86,22 +90,22 @@ made_since world list shape flagged agreed differs = by_fate (shape.flaggers lis
 
 module _ (world after : World) (seen : Seen) (list : Listed) (shape : Shape world) where
   help_decided : (flag : ℕ) (make : Bool) → Helps (Deciding flag make) world list → Requested flagged_form (request_of_help (Deciding flag make)) world after seen → Helps (Checking flag) after list
-  help_decided flag make h r = by_cases (subst (λ block. Asked (Exchange (decision_place block) 0 (decided make)) world after seen) (named_block world list flag shape h.0 h.1) (asked (Exchange (decision_place (versioned_value flag / 4)) 0 (decided make)) r))
+  help_decided flag make h r = by_cases (subst (λ block. Went flagged_form (Exchange (decision_place block) 0 (decided make)) world after seen) (named_block world list flag shape h.0 h.1) (went flagged_form (Exchange (decision_place (versioned_value flag / 4)) 0 (decided make)) world after seen r))
     where
       l : Later world after
       l = later world after shape (help_effect world after seen (Deciding flag make) list shape h r)
 
-      by_cases : Asked (Exchange (decision_place list.block) 0 (decided make)) world after seen → Helps (Checking flag) after list
+      by_cases : Went flagged_form (Exchange (decision_place list.block) 0 (decided make)) world after seen → Helps (Checking flag) after list
       by_cases (inl lost) = subst (λ w. Helps (Checking flag) w list) (sym lost.1) (h.0, h.1, lost.0)
       by_cases (inr w) =
-          let new : after.words (decision_place list.block) ≡ decided make = ap (λ (x : World). x.words (decision_place list.block)) w.2 ∙ at_same (decision_place list.block) (decided make) world.words in
+          let new : after.words (decision_place list.block) ≡ decided make = ap (λ (x : World). x.words (decision_place list.block)) w.2 ∙ same_place (decision_place list.block) (decided make) world.words in
           (flagged_later world after shape l list h.0, h.1, λ e. decided_some make (sym new ∙ e))
 
   -- what was decided is what its word says
   help_checked : (flag : ℕ) → Helps (Checking flag) world list → Requested flagged_form (request_of_help (Checking flag)) world after seen → Helps (feed_help (Checking flag) seen) after list
   help_checked flag h r =
-      let a : (after ≡ world) × (seen.before ≡ world.words (decision_place (versioned_value flag / 4))) = asked (Load (decision_place (versioned_value flag / 4))) r in
-      let here : seen.before ≡ world.words (decision_place list.block) = a.1 ∙ ap (λ block. world.words (decision_place block)) (named_block world list flag shape h.0 h.1) in
+      let a = went flagged_form (Load (decision_place (versioned_value flag / 4))) world after seen r in
+      let here : seen.before ≡ world.words (decision_place list.block) = ap (λ (s : Seen). s.before) a.1 ∙ ap (λ block. world.words (decision_place block)) (named_block world list flag shape h.0 h.1) in
       subst (λ w. Helps (feed_help (Checking flag) seen) w list) (sym a.0) (by_test here (versioned_value seen.before == 1) refl (shape.flaggers list h.0).decision)
     where
       by_test : seen.before ≡ world.words (decision_place list.block) → (b : Bool) → (versioned_value seen.before == 1) ≡ b
@@ -114,11 +118,11 @@ module _ (world after : World) (seen : Seen) (list : Listed) (shape : Shape worl
 
   help_read : (flag : ℕ) → Helps (Reading flag) world list → Requested flagged_form (request_of_help (Reading flag)) world after seen → Helps (Changing flag seen.before) after list
   help_read flag h r =
-      let a : (after ≡ world) × (seen.before ≡ world.words (note_place (versioned_value flag / 4))) = asked (Load (note_place (versioned_value flag / 4))) r in
-      subst (λ w. Helps (Changing flag seen.before) w list) (sym a.0) (h.0, h.1, h.2, a.1 ∙ ap (λ block. world.words (note_place block)) (named_block world list flag shape h.0 h.1))
+      let a = went flagged_form (Load (note_place (versioned_value flag / 4))) world after seen r in
+      subst (λ w. Helps (Changing flag seen.before) w list) (sym a.0) (h.0, h.1, h.2, ap (λ (s : Seen). s.before) a.1 ∙ ap (λ block. world.words (note_place block)) (named_block world list flag shape h.0 h.1))
 
   help_changed : (flag noted : ℕ) → Helps (Changing flag noted) world list → Requested flagged_form (request_of_help (Changing flag noted)) world after seen → Helps (Clearing flag true) after list
-  help_changed flag noted h r = by_cases (asked (Exchange REGISTER noted (toggled noted (versioned_value flag / 4))) r)
+  help_changed flag noted h r = by_cases (went flagged_form (Exchange REGISTER noted (toggled noted (versioned_value flag / 4))) world after seen r)
     where
       e : Effect world after
       e = help_effect world after seen (Changing flag noted) list shape h r
@@ -126,10 +130,10 @@ module _ (world after : World) (seen : Seen) (list : Listed) (shape : Shape worl
       l : Later world after
       l = later world after shape e
 
-      by_cases : Asked (Exchange REGISTER noted (toggled noted (versioned_value flag / 4))) world after seen → Helps (Clearing flag true) after list
+      by_cases : Went flagged_form (Exchange REGISTER noted (toggled noted (versioned_value flag / 4))) world after seen → Helps (Clearing flag true) after list
       by_cases (inl lost) = subst (λ w. Helps (Clearing flag true) w list) (sym lost.1) (h.0, h.1, made_since world list shape h.0 h.2 (λ same. lost.0 (same ∙ sym h.3)))
       by_cases (inr w) =
-          let new : after.words REGISTER ≡ toggled noted (versioned_value flag / 4) = ap (λ (x : World). x.words REGISTER) w.2 ∙ at_same REGISTER (toggled noted (versioned_value flag / 4)) world.words in
+          let new : after.words REGISTER ≡ toggled noted (versioned_value flag / 4) = ap (λ (x : World). x.words REGISTER) w.2 ∙ same_place REGISTER (toggled noted (versioned_value flag / 4)) world.words in
           let note : after.words (note_place list.block) ≡ noted = note_later world after shape l list h.0 ∙ sym h.3 in (
             flagged_later world after shape l list h.0,
             h.1,
@@ -217,12 +221,12 @@ learnt_register world o op flag register since shape command before same down he
 pub search_fed_well : (world after : World) (seen : Seen) (search : Search) (op : Op) (since : ℕ) → IsCommandOf Tree op → Shape world → asks search → Knows search op world since → Requested flagged_form (request_of search) world after seen
     → Knows (feed_of search seen) op after since × FoundWell flagged_form after op since (feed_of search seen) (found_of search seen)
 search_fed_well world after seen (AtFlag o) op since command shape asking knows r =
-    let a : (after ≡ world) × (seen.before ≡ world.words FLAG) = asked (Load FLAG) r in
-    let learnt = learnt_flag world o op seen.before shape knows.1 a.1 in
+    let a = went flagged_form (Load FLAG) world after seen r in
+    let learnt = learnt_flag world o op seen.before shape knows.1 (ap (λ (s : Seen). s.before) a.1) in
     subst (λ w. Knows (after_flag o seen.before) op w since × FoundWell flagged_form w op since (after_flag o seen.before) found.Going) (sym a.0) ((knows.0, learnt.0), learnt.1)
 search_fed_well world after seen (AtRegister o flag) op since command shape asking knows r =
-    let a : (after ≡ world) × (seen.before ≡ world.words REGISTER) = asked (Load REGISTER) r in
-    let learnt = learnt_register world o op flag seen.before since shape command knows.0 knows.1.0 knows.1.1 a.1 in
+    let a = went flagged_form (Load REGISTER) world after seen r in
+    let learnt = learnt_register world o op flag seen.before since shape command knows.0 knows.1.0 knows.1.1 (ap (λ (s : Seen). s.before) a.1) in
     subst (λ w. Knows (feed_of (AtRegister o flag) seen) op w since × FoundWell flagged_form w op since (feed_of (AtRegister o flag) seen) (found_of (AtRegister o flag) seen)) (sym a.0) ((knows.0, learnt.0), learnt.1)
 search_fed_well world after seen (Named o flag register) op since command shape asking knows r = absurd asking
 search_fed_well world after seen (Helping o help) op since command shape asking knows r = by_help help (knows.1.1.1) r

@@ -2,12 +2,10 @@
 use Rattle.std.proofs.Common.{ℕ, ◌==◌, Bool, true, false, if◌then◌else◌, List, arith}
 use Rattle.lin_report.specs.declared.calls.TheConstants.{GET}
 use Rattle.lin_report.specs.declared.calls.Op.{Op}
-use Rattle.lin_report.specs.declared.calls.Outcome.{Outcome}
 use Rattle.lin_report.specs.declared.calls.Outcome.TheVariants.{Plain, ValueOf}
 use Rattle.lin_report.specs.declared.calls.Reply.TheVariants.{Absent, No}
 use Rattle.step_memory.specs.declared.steps.Seen.{Seen}
 use Rattle.word_fields.specs.Versioned.{versioned_value}
-use Rattle.normal_traits.specs.declared.form.Found.{Found}
 use Rattle.normal_traits.specs.declared.form.Found.TheVariants as found
 use Rattle.normal_traits.specs.declared.form.Wrapped.TheVariants as wrapped
 use Rattle.normal_traits.specs.declared.lists.Entry.{Entry}
@@ -15,25 +13,17 @@ use Rattle.normal_traits.specs.Laws.{FitsRecord, FoundFits, WrappedFits}
 use Rattle.flagged_register.specs.Register.{Help, Search, found_of, is_in, toggles, told, wrap_begun_of, wrap_found_of}
 use Rattle.flagged_register.specs.Register.Help.{Deciding, Checking, Reading, Changing, Clearing}
 use Rattle.flagged_register.specs.Register.Search.{AtFlag, AtRegister, Named, Helping}
-
--- a choice fits where both ways do
-either : (b : Bool) (one other : Outcome) → FitsRecord one → FitsRecord other → FitsRecord (if b then one else other)
-either true one other y n = y
-either false one other y n = n
-
-either_found : (b : Bool) (one other : Found) → FoundFits one → FoundFits other → FoundFits (if b then one else other)
-either_found true one other y n = y
-either_found false one other y n = n
+use Rattle.client_lemmas.proofs.Outcomes.{either}
 
 told_fits : (op : Op) (register : ℕ) → FitsRecord (told op register)
 told_fits op register =
-    either (op.code == GET) (if is_in register then ValueOf (versioned_value register) else Plain Absent) (Plain No) (either (is_in register) (ValueOf (versioned_value register)) (Plain Absent) tt (omega arith)) (omega arith)
+    either FitsRecord (op.code == GET) (if is_in register then ValueOf (versioned_value register) else Plain Absent) (Plain No) (either FitsRecord (is_in register) (ValueOf (versioned_value register)) (Plain Absent) tt (omega arith)) (omega arith)
 
 pub found_fits : (search : Search) (seen : Seen) → FoundFits (found_of search seen)
 found_fits (AtFlag op) seen = tt
 found_fits (AtRegister op flag) seen =
-    either_found (op.key == 0) (if toggles op seen.before then found.Ready else found.Answer (told op seen.before)) found.Going
-    (either_found (toggles op seen.before) found.Ready (found.Answer (told op seen.before)) tt (told_fits op seen.before)) tt
+    either FoundFits (op.key == 0) (if toggles op seen.before then found.Ready else found.Answer (told op seen.before)) found.Going
+    (either FoundFits (toggles op seen.before) found.Ready (found.Answer (told op seen.before)) tt (told_fits op seen.before)) tt
 found_fits (Named op flag register) seen = tt
 found_fits (Helping op help) seen = tt
 

@@ -2,8 +2,8 @@
 use Rattle.std.specs.Prelude.{if◌then◌else◌, ◌==◌, Some, None}
 use Rattle.std.proofs.lemmas.Bool.{eq-eqb}
 use Rattle.std.proofs.Common.{subst, ◌/◌, ◌≡◌, ◌≢◌, ℕ, ◌+◌, ◌<◌, ◌≤◌, true, false, length, sym, ap, ◌∙◌, inl, inr, ◌⊎◌, arith, Bool, None}
-use Rattle.word_fields.specs.Versioned.{versioned_value, versioned_bit, versioned_version, changed_word, cleared_word}
-use Rattle.word_fields.proofs.VersionedLemmas.{version-cleared, value-cleared, cleared-clear}
+use Rattle.word_fields.specs.Versioned.{versioned_value, versioned_bit, versioned_version, changed_word}
+use Rattle.word_fields.proofs.VersionedLemmas.{version-cleared, value-cleared}
 use Rattle.lin_report.specs.declared.calls.Op.{Op}
 use Rattle.normal_traits.specs.World.{Listed, Won, Change, World, Among}
 use Rattle.normal_traits.specs.Steps.{with_word}
@@ -11,15 +11,17 @@ use Rattle.flagged_register.specs.Register.{FLAG, REGISTER, note_place, flag_val
 use Rattle.flagged_register.specs.Register.Help.{Deciding, Checking, Reading, Changing, Clearing}
 use Rattle.flagged_register.specs.Register.Search.{AtFlag, AtRegister, Named, Helping}
 use Rattle.flagged_register.specs.Meanings.{Flagged, Made, Shape, flag_won, Helps, WasDown, WasRead, Learnt, Knows, content, IsName}
-use Rattle.flagged_register.proofs.Basics.{at_same, at_other, register_flag, flag_register, note_flag, note_register, flagged_value, flagged_bit, decision_flag, decided_some, decision_register, note_decision, same_decision, value_flag, value_register, value_decision}
+use Rattle.flagged_register.proofs.Basics.{register_flag, flag_register, note_flag, note_register, flagged_value, flagged_bit, decision_flag, decided_some, decision_register, note_decision, same_decision, value_flag, value_register, value_decision}
 use Rattle.flagged_register.proofs.Effects.{Effect}
 use Rattle.flagged_register.proofs.Effects.Effect.{quiet, sets, makes, decides, clears}
+use Rattle.normal_traits.proofs.Stays.{word_beside}
+use Rattle.client_lemmas.proofs.Words.{same_place, Rises, rises_version, rises_seen}
 
 pub record Later (world after : World) : Type 0 where
   pub journal : (won : Won) → Among won world.journal → Among won after.journal
   pub changes : (change : Change) → Among change world.changes → Among change after.changes
   pub count : length world.changes ≤ length after.changes
-  pub flag : (after.words FLAG ≡ world.words FLAG) ⊎ ((after.words FLAG ≡ cleared_word (world.words FLAG)) ⊎ (versioned_version (world.words FLAG) < versioned_version (after.words FLAG)))
+  pub flag : Rises (world.words FLAG) (after.words FLAG)
   pub register : versioned_version (world.words REGISTER) ≤ versioned_version (after.words REGISTER)
   pub still : versioned_value (world.words FLAG) ≡ 0 → after.words REGISTER ≡ world.words REGISTER
   pub notes : (block : ℕ) → world.used block ≡ true → after.words (note_place block) ≡ world.words (note_place block)
@@ -54,8 +56,8 @@ later world after shape (quiet words q) = record {
 }
 later world after shape (sets list from word s) =
     let word_version : versioned_version word ≡ versioned_version from + 1 = sym (version-cleared word) ∙ ap versioned_version s.exchanged.to ∙ s.exchanged.raised in
-    let new : with_word FLAG word world.words FLAG ≡ word = at_same FLAG word world.words in
-    let same : with_word FLAG word world.words REGISTER ≡ world.words REGISTER = at_other FLAG word world.words REGISTER register_flag in
+    let new : with_word FLAG word world.words FLAG ≡ word = same_place FLAG word world.words in
+    let same : with_word FLAG word world.words REGISTER ≡ world.words REGISTER = word_beside FLAG word world.words REGISTER register_flag in
     record {
       journal = λ won among. inr among;
       changes = λ change among. among;
@@ -63,43 +65,43 @@ later world after shape (sets list from word s) =
       flag = inr (inr (omega (arith, word_version, ap versioned_version new, ap versioned_version s.here)));
       register = omega (arith, ap versioned_version same);
       still = λ down. same;
-      notes = λ block used. at_other FLAG word world.words (note_place block) (note_flag block);
-      values = λ block used. at_other FLAG word world.words (value_at block) (value_flag block);
-      decisions = λ block used some. at_other FLAG word world.words (decision_place block) (decision_flag block);
+      notes = λ block used. word_beside FLAG word world.words (note_place block) (note_flag block);
+      values = λ block used. word_beside FLAG word world.words (value_at block) (value_flag block);
+      decisions = λ block used some. word_beside FLAG word world.words (decision_place block) (decision_flag block);
     }
 later world after shape (makes list m) =
     let word = toggled (world.words REGISTER) list.block in
-    let new : with_word REGISTER word world.words REGISTER ≡ word = at_same REGISTER word world.words in
+    let new : with_word REGISTER word world.words REGISTER ≡ word = same_place REGISTER word world.words in
     record {
       journal = λ won among. inr among;
       changes = λ change among. inr among;
       count = omega arith;
-      flag = inl (at_other REGISTER word world.words FLAG flag_register);
+      flag = inl (word_beside REGISTER word world.words FLAG flag_register);
       register = omega (arith, ap versioned_version new, m.raised);
       still = λ down. absurd (omega (arith, down, sym (value-cleared (world.words FLAG)) ∙ ap versioned_value m.stands.flag ∙ flag_names world list shape m.flagged));
-      notes = λ block used. at_other REGISTER word world.words (note_place block) (note_register block);
-      values = λ block used. at_other REGISTER word world.words (value_at block) (value_register block);
-      decisions = λ block used some. at_other REGISTER word world.words (decision_place block) (decision_register block);
+      notes = λ block used. word_beside REGISTER word world.words (note_place block) (note_register block);
+      values = λ block used. word_beside REGISTER word world.words (value_at block) (value_register block);
+      decisions = λ block used some. word_beside REGISTER word world.words (decision_place block) (decision_register block);
     }
 later world after shape (decides list made d) =
     let place = decision_place list.block in
-    let same : with_word place (decided made) world.words REGISTER ≡ world.words REGISTER = at_other place (decided made) world.words REGISTER (λ e. decision_register list.block (sym e)) in
+    let same : with_word place (decided made) world.words REGISTER ≡ world.words REGISTER = word_beside place (decided made) world.words REGISTER (λ e. decision_register list.block (sym e)) in
     record {
       journal = λ won among. inr among;
       changes = λ change among. among;
       count = omega arith;
-      flag = inl (at_other place (decided made) world.words FLAG (λ e. decision_flag list.block (sym e)));
+      flag = inl (word_beside place (decided made) world.words FLAG (λ e. decision_flag list.block (sym e)));
       register = omega (arith, ap versioned_version same);
       still = λ down. same;
-      notes = λ block used. at_other place (decided made) world.words (note_place block) (note_decision block list.block);
-      values = λ block used. at_other place (decided made) world.words (value_at block) (value_decision block list.block);
-      decisions = λ block used some. at_other place (decided made) world.words (decision_place block)
+      notes = λ block used. word_beside place (decided made) world.words (note_place block) (note_decision block list.block);
+      values = λ block used. word_beside place (decided made) world.words (value_at block) (value_decision block list.block);
+      decisions = λ block used some. word_beside place (decided made) world.words (decision_place block)
           (λ e. some (ap (λ b. world.words (decision_place b)) (same_decision block list.block e) ∙ d.undecided));
     }
 later world after shape (clears list flag c) =
     let word = changed_word flag 0 in
-    let new : with_word FLAG word world.words FLAG ≡ word = at_same FLAG word world.words in
-    let same : with_word FLAG word world.words REGISTER ≡ world.words REGISTER = at_other FLAG word world.words REGISTER register_flag in
+    let new : with_word FLAG word world.words FLAG ≡ word = same_place FLAG word world.words in
+    let same : with_word FLAG word world.words REGISTER ≡ world.words REGISTER = word_beside FLAG word world.words REGISTER register_flag in
     record {
       journal = λ won among. inr among;
       changes = λ change among. among;
@@ -107,9 +109,9 @@ later world after shape (clears list flag c) =
       flag = inr (inr (omega (arith, ap versioned_version new, c.raised, ap versioned_version c.here)));
       register = omega (arith, ap versioned_version same);
       still = λ down. same;
-      notes = λ block used. at_other FLAG word world.words (note_place block) (note_flag block);
-      values = λ block used. at_other FLAG word world.words (value_at block) (value_flag block);
-      decisions = λ block used some. at_other FLAG word world.words (decision_place block) (decision_flag block);
+      notes = λ block used. word_beside FLAG word world.words (note_place block) (note_flag block);
+      values = λ block used. word_beside FLAG word world.words (value_at block) (value_flag block);
+      decisions = λ block used some. word_beside FLAG word world.words (decision_place block) (decision_flag block);
     }
 
 -- ---- what is kept
@@ -158,26 +160,10 @@ module _ (world after : World) (shape : Shape world) (l : Later world after) whe
 
   -- the flag's version never falls
   pub flag_rises : versioned_version (world.words FLAG) ≤ versioned_version (after.words FLAG)
-  flag_rises = elim l.flag [
-    | inl same ↦ omega (arith, ap versioned_version same)
-    | inr (inl cleared) ↦ omega (arith, ap versioned_version cleared, version-cleared (world.words FLAG))
-    | inr (inr above) ↦ omega (arith, above)
-  ]
-
-  -- a clear word stays at the flag, or the flag gets past it
-  pub seen_later : (flag : ℕ) → versioned_bit flag ≡ 0 → world.words FLAG ≡ flag → (after.words FLAG ≡ flag) ⊎ (versioned_version flag < versioned_version (after.words FLAG))
-  seen_later flag clear here = elim l.flag [
-    | inl same ↦ inl (same ∙ here)
-    | inr (inl cleared) ↦ inl (cleared ∙ ap cleared_word here ∙ cleared-clear flag clear)
-    | inr (inr above) ↦ inr (omega (arith, above, ap versioned_version here))
-  ]
+  flag_rises = rises_version (world.words FLAG) (after.words FLAG) l.flag
 
   pub down_later : (flag : ℕ) → WasDown world flag → WasDown after flag
-  down_later flag was = record { clear = was.clear; down = was.down; seen = by_cases was.seen }
-    where
-      by_cases : (world.words FLAG ≡ flag) ⊎ (versioned_version flag < versioned_version (world.words FLAG)) → (after.words FLAG ≡ flag) ⊎ (versioned_version flag < versioned_version (after.words FLAG))
-      by_cases (inl here) = seen_later flag was.clear here
-      by_cases (inr past) = inr (omega (arith, past, flag_rises))
+  down_later flag was = record { clear = was.clear; down = was.down; seen = rises_seen (world.words FLAG) (after.words FLAG) flag l.flag was.clear was.seen }
 
   pub read_later : (op : Op) (flag register : ℕ) → WasRead world op flag register → WasRead after op flag register
   read_later op flag register was = record {

@@ -1,6 +1,6 @@
 -- An operation that finds the register as it would leave it only observes.
-use Rattle.std.proofs.Common.{◌≡◌, ℕ, ◌-◌, ◌/◌, Bool, true, false, not, ◌||◌, ◌&&◌, List, length, is_some, refl, sym, ap, subst, ◌∙◌, inl, inr, ◌⊎◌, arith}
-use Rattle.std.specs.Prelude.{◌==◌, if◌then◌else◌, drop, IsTrue, Some, None, nat_lt}
+use Rattle.std.proofs.Common.{◌≡◌, ℕ, ◌/◌, Bool, true, false, not, ◌||◌, ◌&&◌, is_some, refl, sym, ap, subst, ◌∙◌, inl, inr, ◌⊎◌, arith}
+use Rattle.std.specs.Prelude.{◌==◌, if◌then◌else◌, IsTrue, Some, None, nat_lt}
 use Rattle.std.specs.FinMap as map
 use Rattle.std.specs.Ordering.{nat_cmp}
 use Rattle.std.specs.Cmp.{nat_cmp_total, unsigned_tied}
@@ -18,15 +18,11 @@ use Rattle.node_arena.specs.declared.places.TheConstants.{NODE_VALUE}
 use Rattle.node_arena.specs.MemoryMap.{node_place, block_at}
 use Rattle.node_arena.proofs.PlaceLemmas.{node_place-reference_to, block_at-block_place, field_at-block_place}
 use Rattle.word_fields.specs.Versioned.{versioned_value}
-use Rattle.normal_traits.specs.World.{Change, World, first_changes, StandsFor}
+use Rattle.normal_traits.specs.World.{World, StandsFor}
 use Rattle.normal_traits.specs.Laws.{IsFixed}
 use Rattle.flagged_register.specs.Register.{FLAG, REGISTER, value_at, flag_value, is_in, toggles, told}
 use Rattle.flagged_register.specs.Meanings.{content, IsName, flagged_form}
 use Rattle.flagged_register.proofs.Basics.{value_flag, value_register}
-
--- the first of all changes, as many as there are, are all
-pub first_all : (changes : List Change) → first_changes (length changes) changes ≡ changes
-first_all changes = let none : length changes - length changes ≡ 0 = omega arith in ap (λ n. drop n changes) none
 
 remove_same : (pairs : map.FinMap nat_cmp ℕ) → map.get pairs 0 ≡ None → map.remove pairs 0 ≡ pairs
 remove_same pairs has = map.same_map nat_cmp_total map.nat_cmp-IsAntisymmetric (map.remove pairs 0) pairs (λ q.

@@ -1,5 +1,5 @@
 -- Each allowed step has one of the four effects.
-use Rattle.std.proofs.Common.{◌≡◌, ◌≢◌, ℕ, ◌+◌, ◌/◌, ◌<◌, true, false, not, List, [], ◌∷◌, Option, refl, sym, ap, subst, ◌∙◌, inl, inr, ◌⊎◌, arith, Bool}
+use Rattle.std.proofs.Common.{◌≡◌, ◌≢◌, ℕ, ◌+◌, ◌/◌, ◌<◌, true, false, not, ◌∷◌, Option, refl, sym, ap, subst, ◌∙◌, inl, inr, ◌⊎◌, arith, Bool}
 use Rattle.std.specs.Prelude.{◌==◌, if◌then◌else◌, slice_get, Some, None}
 use Rattle.std.proofs.lemmas.Bool.{eq-eqb, ne_eqb, eqb-true}
 use Rattle.node_arena.specs.MemoryMap.{block_place, block_at}
@@ -8,54 +8,32 @@ use Rattle.word_fields.specs.Versioned.{versioned_value, versioned_version, chan
 use Rattle.word_fields.proofs.VersionedLemmas.{value-cleared}
 use Rattle.lin_report.specs.declared.calls.Op.{Op}
 use Rattle.lin_report.specs.Object.{map_object}
-use Rattle.step_memory.specs.declared.steps.Request.{Request}
-use Rattle.step_memory.specs.declared.steps.Request.TheVariants.{Load, Store, Exchange, Add}
+use Rattle.step_memory.specs.declared.steps.Request.TheVariants.{Load, Exchange}
 use Rattle.step_memory.specs.declared.steps.Seen.{Seen}
 use Rattle.normal_traits.specs.declared.lists.Entry.{Entry}
 use Rattle.normal_traits.specs.World.{Listed, Cause, World, is_word, is_state}
 use Rattle.normal_traits.specs.World.Maker.{By, Beside}
 use Rattle.normal_traits.specs.Steps.{with_word, put_word, with_change, IsExchanged, IsFresh, IsFilled, IsOffered, Requested, IsStep, exchanged, using_block}
-use Rattle.normal_traits.specs.Steps.Requested.{loaded, lost, won}
 use Rattle.normal_traits.specs.Steps.IsStep.{nothing, elsewhere, clears, searches, wraps, first, first_of_block, second}
 use Rattle.flagged_register.specs.Register.{FLAG, REGISTER, note_place, flag_value, toggled, toggles, flag_entry, flag_of, offer_of, Help, Search, request_of, request_of_help, decision_place, decided, value_at}
 use Rattle.flagged_register.specs.Register.Help.{Deciding, Checking, Reading, Changing, Clearing}
 use Rattle.flagged_register.specs.Register.Search.{AtFlag, AtRegister, Named, Helping}
 use Rattle.flagged_register.specs.Meanings.{Flagged, Made, Stands, Shape, flagged_block, cause_here, cause_of, flagger, adds_beside, Helps, WasRead, Knows, flagged_form, asks, IsGone}
-use Rattle.flagged_register.proofs.Basics.{at_same, at_other, register_flag, flag_register, note_flag, word_of, decision_flag, decided_once, decision_register, value_flag}
+use Rattle.flagged_register.proofs.Basics.{register_flag, flag_register, note_flag, decision_flag, decided_once, decision_register, value_flag}
 use Rattle.flagged_register.proofs.Effects.{Effect, Sets, change_made, flag_cleared, change_decided}
 use Rattle.flagged_register.proofs.Effects.Effect.{quiet, sets, makes, decides}
 use Rattle.flagged_register.proofs.Journal.{took_of, flagger_is}
 use Rattle.flagged_register.proofs.Later.{flag_names}
+use Rattle.normal_traits.proofs.Stays.{word_beside}
+use Rattle.client_lemmas.proofs.Places.{field_word}
+use Rattle.client_lemmas.proofs.Words.{same_place, not_word}
+use Rattle.client_lemmas.proofs.Entries.{the_entry, no_second}
+use Rattle.client_lemmas.proofs.Requests.{HasWon, Went, went}
 
 -- ---- a request of a help
 
 abbrev entry_here : ℕ → ℕ → ℕ → Entry
 entry_here place from to = record { target = place; from = from; to = to }
-
-abbrev pub HasWon : World → World → ℕ → ℕ → ℕ → Type 0
-HasWon world after at from to =
-    (world.words at ≡ from) × (versioned_version to ≡ versioned_version from + 1)
-    × (after ≡ exchanged flagged_form Beside (adds_beside world (entry_here at from to)) (entry_here at from to) to world)
-
--- what a request did, by its kind
-abbrev pub Asked : Request → World → World → Seen → Type 0
-Asked (Load at) world after seen = (after ≡ world) × (seen.before ≡ world.words at)
-Asked (Exchange at from to) world after seen = ((world.words at ≢ from) × (after ≡ world)) ⊎ HasWon world after at from to
-Asked (Store at value) world after seen = ⊥
-Asked (Add at by) world after seen = ⊥
-
-asked_load : (world : World) (at : ℕ) (after : World) (seen : Seen) → Requested flagged_form (Load at) world after seen → Asked (Load at) world after seen
-asked_load world at after seen (loaded place) = (refl, refl)
-
-asked_exchange : (world : World) (at from to : ℕ) (after : World) (seen : Seen) → Requested flagged_form (Exchange at from to) world after seen → Asked (Exchange at from to) world after seen
-asked_exchange world at from to after seen (lost place from' to' differs) = inl (differs, refl)
-asked_exchange world at from to after seen (won place from' to' same raised) = inr (same, raised, refl)
-
-pub asked : {world after : World} {seen : Seen} (request : Request) → Requested flagged_form request world after seen → Asked request world after seen
-asked {world} {after} {seen} (Load at) r = asked_load world at after seen r
-asked {world} {after} {seen} (Exchange at from to) r = asked_exchange world at from to after seen r
-asked (Store at value) r = elim r [ ]
-asked (Add at by) r = elim r [ ]
 
 unchanged : (world : World) → Effect world world
 unchanged world = quiet world.words (record { flag = inl refl; register = refl; notes = λ block used. refl; values = λ block used. refl; decisions = λ block used. refl })
@@ -89,8 +67,8 @@ module _ (world : World) (list : Listed) (shape : Shape world) (flagged : Flagge
       ap (λ b. if b then cause_here (flagged_block (world.words FLAG)) 1 else (if REGISTER == FLAG then cause_here (flagged_block from) 2 else cause_here (block_at REGISTER) 3)) (eq-eqb REGISTER REGISTER refl)
       ∙ ap (λ block. cause_here block 1) up_block
 
-pub make_effect : (world after : World) (list : Listed) (noted : ℕ) → Shape world → Flagged world list → world.words (decision_place list.block) ≡ decided true → noted ≡ world.words (note_place list.block) → HasWon world after REGISTER noted (toggled noted list.block) → Effect world after
-make_effect world after list noted shape flagged agreed own w = by_fate (shape.flaggers list flagged).fate
+pub make_effect : (world after : World) (seen : Seen) (list : Listed) (noted : ℕ) → Shape world → Flagged world list → world.words (decision_place list.block) ≡ decided true → noted ≡ world.words (note_place list.block) → HasWon flagged_form world after seen REGISTER noted (toggled noted list.block) → Effect world after
+make_effect world after seen list noted shape flagged agreed own w = by_fate (shape.flaggers list flagged).fate
   where
     by_fate : Stands world list ⊎ (Made world list ⊎ IsGone world list) → Effect world after
     by_fate (inr (inr gone)) = absurd (decided_once (sym agreed ∙ gone))
@@ -114,8 +92,8 @@ with_cleared world flag added cause =
       journal = record { place = FLAG; before = flag; after = changed_word flag 0; maker = Beside; cause = cause } ∷ world.journal;
     }
 
-pub clear_effect : (world after : World) (list : Listed) (flag : ℕ) → Shape world → Flagged world list → flag ≡ flag_of list.entries → Made world list ⊎ IsGone world list → HasWon world after FLAG flag (changed_word flag 0) → Effect world after
-clear_effect world after list flag shape flagged own ends w =
+pub clear_effect : (world after : World) (seen : Seen) (list : Listed) (flag : ℕ) → Shape world → Flagged world list → flag ≡ flag_of list.entries → Made world list ⊎ IsGone world list → HasWon flagged_form world after seen FLAG flag (changed_word flag 0) → Effect world after
+clear_effect world after seen list flag shape flagged own ends w =
     let test : (FLAG == REGISTER) ≡ false = ne_eqb FLAG REGISTER flag_register in
     let adds : adds_beside world (entry_here FLAG flag (changed_word flag 0)) ≡ None = ap (λ b. if b then flagger (flagged_block (world.words FLAG)) world.journal else None) test in
     let value : versioned_value flag ≡ flag_value list.block = ap versioned_value own ∙ flag_names world list shape flagged in
@@ -138,8 +116,8 @@ with_decided world place made added cause =
       journal = record { place = place; before = 0; after = decided made; maker = Beside; cause = cause } ∷ world.journal;
     }
 
-pub decide_effect : (world after : World) (list : Listed) (made : Bool) → Shape world → Flagged world list → HasWon world after (decision_place list.block) 0 (decided made) → Effect world after
-decide_effect world after list made shape flagged w =
+pub decide_effect : (world after : World) (seen : Seen) (list : Listed) (made : Bool) → Shape world → Flagged world list → HasWon flagged_form world after seen (decision_place list.block) 0 (decided made) → Effect world after
+decide_effect world after seen list made shape flagged w =
     let place = decision_place list.block in
     let not_register : (place == REGISTER) ≡ false = ne_eqb place REGISTER (decision_register list.block) in
     let not_flag : (place == FLAG) ≡ false = ne_eqb place FLAG (decision_flag list.block) in
@@ -158,37 +136,29 @@ pub named_block : (world : World) (list : Listed) (flag : ℕ) → Shape world �
 named_block world list flag shape flagged own = omega (arith, ap versioned_value own, flag_names world list shape flagged)
 
 pub help_effect : (world after : World) (seen : Seen) (help : Help) (list : Listed) → Shape world → Helps help world list → Requested flagged_form (request_of_help help) world after seen → Effect world after
-help_effect world after seen (Deciding flag make) list shape h r = by_cases (asked (Exchange (decision_place (versioned_value flag / 4)) 0 (decided make)) r)
+help_effect world after seen (Deciding flag make) list shape h r = by_cases (went flagged_form (Exchange (decision_place (versioned_value flag / 4)) 0 (decided make)) world after seen r)
   where
-    by_cases : Asked (Exchange (decision_place (versioned_value flag / 4)) 0 (decided make)) world after seen → Effect world after
+    by_cases : Went flagged_form (Exchange (decision_place (versioned_value flag / 4)) 0 (decided make)) world after seen → Effect world after
     by_cases (inl l) = subst (Effect world) (sym l.1) (unchanged world)
-    by_cases (inr w) = decide_effect world after list make shape h.0 (subst (λ block. HasWon world after (decision_place block) 0 (decided make)) (named_block world list flag shape h.0 h.1) w)
-help_effect world after seen (Checking flag) list shape h r = subst (Effect world) (sym (asked (Load (decision_place (versioned_value flag / 4))) r).0) (unchanged world)
-help_effect world after seen (Reading flag) list shape h r = subst (Effect world) (sym (asked (Load (note_place (versioned_value flag / 4))) r).0) (unchanged world)
-help_effect world after seen (Changing flag noted) list shape h r = by_cases (asked (Exchange REGISTER noted (toggled noted (versioned_value flag / 4))) r)
+    by_cases (inr w) = decide_effect world after seen list make shape h.0 (subst (λ block. HasWon flagged_form world after seen (decision_place block) 0 (decided make)) (named_block world list flag shape h.0 h.1) w)
+help_effect world after seen (Checking flag) list shape h r = subst (Effect world) (sym (went flagged_form (Load (decision_place (versioned_value flag / 4))) world after seen r).0) (unchanged world)
+help_effect world after seen (Reading flag) list shape h r = subst (Effect world) (sym (went flagged_form (Load (note_place (versioned_value flag / 4))) world after seen r).0) (unchanged world)
+help_effect world after seen (Changing flag noted) list shape h r = by_cases (went flagged_form (Exchange REGISTER noted (toggled noted (versioned_value flag / 4))) world after seen r)
   where
-    by_cases : Asked (Exchange REGISTER noted (toggled noted (versioned_value flag / 4))) world after seen → Effect world after
+    by_cases : Went flagged_form (Exchange REGISTER noted (toggled noted (versioned_value flag / 4))) world after seen → Effect world after
     by_cases (inl l) = subst (Effect world) (sym l.1) (unchanged world)
-    by_cases (inr w) = make_effect world after list noted shape h.0 h.2 h.3 (subst (λ block. HasWon world after REGISTER noted (toggled noted block)) (named_block world list flag shape h.0 h.1) w)
-help_effect world after seen (Clearing flag made) list shape h r = by_cases (asked (Exchange FLAG flag (changed_word flag 0)) r)
+    by_cases (inr w) = make_effect world after seen list noted shape h.0 h.2 h.3 (subst (λ block. HasWon flagged_form world after seen REGISTER noted (toggled noted block)) (named_block world list flag shape h.0 h.1) w)
+help_effect world after seen (Clearing flag made) list shape h r = by_cases (went flagged_form (Exchange FLAG flag (changed_word flag 0)) world after seen r)
   where
-    by_cases : Asked (Exchange FLAG flag (changed_word flag 0)) world after seen → Effect world after
+    by_cases : Went flagged_form (Exchange FLAG flag (changed_word flag 0)) world after seen → Effect world after
     by_cases (inl l) = subst (Effect world) (sym l.1) (unchanged world)
     by_cases (inr w) = by_made made h w
       where
-        by_made : (m : Bool) → Helps (Clearing flag m) world list → HasWon world after FLAG flag (changed_word flag 0) → Effect world after
-        by_made true h' w' = clear_effect world after list flag shape h'.0 h'.1 (inl h'.2) w'
-        by_made false h' w' = clear_effect world after list flag shape h'.0 h'.1 (inr h'.2) w'
+        by_made : (m : Bool) → Helps (Clearing flag m) world list → HasWon flagged_form world after seen FLAG flag (changed_word flag 0) → Effect world after
+        by_made true h' w' = clear_effect world after seen list flag shape h'.0 h'.1 (inl h'.2) w'
+        by_made false h' w' = clear_effect world after seen list flag shape h'.0 h'.1 (inr h'.2) w'
 
 -- ---- the setting of a flag
-
-abbrev first_of : List Entry → Entry → Entry
-first_of [] other = other
-first_of (entry ∷ entries) other = entry
-
-abbrev entry_or : Entry → Option Entry → Entry
-entry_or other None = other
-entry_or other (Some entry) = entry
 
 -- the world after the first entry of a list with a block
 abbrev with_flag : World → Listed → Entry → ℕ → World
@@ -202,12 +172,9 @@ with_flag world list entry word =
 
 pub flag_effect : (world : World) (list : Listed) (search : Search) (since : ℕ) (entry : Entry) (word : ℕ) → IsOffered flagged_form world list search since → IsFresh world list → 0 < list.block → world.used list.block ≡ false
     → IsFilled world list (offer_of search list.call.op list.block).stores → slice_get list.entries 0 ≡ Some entry → world.words entry.target ≡ entry.from → IsExchanged entry word → Effect world (with_flag world list entry word)
-flag_effect world list (AtFlag op) since entry word offered fresh some unused filled listed here exchanged = absurd offered.ready
-flag_effect world list (AtRegister op flag) since entry word offered fresh some unused filled listed here exchanged = absurd offered.ready
-flag_effect world list (Helping op help) since entry word offered fresh some unused filled listed here exchanged = absurd offered.ready
 flag_effect world list (Named op flag register) since entry word offered fresh some unused filled listed here exchanged =
     let read : WasRead world list.call.op flag register = offered.knows.1.1 in
-    let is : entry ≡ flag_entry flag list.block = ap (entry_or entry) (sym listed ∙ ap (λ (entries : List Entry). slice_get entries 0) offered.entries) in
+    let is : entry ≡ flag_entry flag list.block = sym (the_entry list.entries entry (flag_entry flag list.block) listed offered.entries) in
     let here' : world.words FLAG ≡ flag = subst (λ (e : Entry). world.words e.target ≡ e.from) is here in
     let same : world.words REGISTER ≡ register = read.same here' in
     let noted : world.words (note_place list.block) ≡ register = filled.stored 1 (0, 0) (omega arith) in
@@ -229,41 +196,39 @@ flag_effect world list (Named op flag register) since entry word offered fresh s
       fresh = λ other equal flagged. fresh other 0 equal (took_of world other flagged);
     } in
     subst (λ (e : Entry). Effect world (with_flag world list e word)) (sym is) (sets list flag word s)
+flag_effect world list _ since entry word offered fresh some unused filled listed here exchanged = absurd offered.ready
 
 -- a list has one entry
 one_entry : (world : World) (list : Listed) (search : Search) (since : ℕ) (entry : Entry) → IsOffered flagged_form world list search since → slice_get list.entries 1 ≡ Some entry → ⊥
-one_entry world list (AtFlag op) since entry offered listed = absurd offered.ready
-one_entry world list (AtRegister op flag) since entry offered listed = absurd offered.ready
-one_entry world list (Helping op help) since entry offered listed = absurd offered.ready
-one_entry world list (Named op flag register) since entry offered listed =
-    let none : None ≡ Some entry = sym (ap (λ (entries : List Entry). slice_get entries 1) offered.entries) ∙ listed in absurd cc
+one_entry world list (Named op flag register) since entry offered listed = no_second list.entries (flag_entry flag list.block) entry offered.entries listed
+one_entry world list _ since entry offered listed = absurd offered.ready
 
 -- ---- any step
 
 elsewhere_effect : (world : World) (place word : ℕ) → Shape world → is_word world place ≡ false → Effect world (put_word place word world)
 elsewhere_effect world place word shape is = quiet (with_word place word world.words) (record {
-  flag = inl (at_other place word world.words FLAG (differs 0 16 (omega arith) shape.opened refl));
-  register = at_other place word world.words REGISTER (differs 0 14 (omega arith) shape.opened refl);
-  notes = λ block used. at_other place word world.words (note_place block) (differs block 27 (omega arith) used refl);
-  values = λ block used. at_other place word world.words (value_at block) (differs block 13 (omega arith) used refl);
-  decisions = λ block used. at_other place word world.words (decision_place block) (differs block 28 (omega arith) used refl);
+  flag = inl (word_beside place word world.words FLAG (differs 0 16 (omega arith) shape.opened refl));
+  register = word_beside place word world.words REGISTER (differs 0 14 (omega arith) shape.opened refl);
+  notes = λ block used. word_beside place word world.words (note_place block) (differs block 27 (omega arith) used refl);
+  values = λ block used. word_beside place word world.words (value_at block) (differs block 13 (omega arith) used refl);
+  decisions = λ block used. word_beside place word world.words (decision_place block) (differs block 28 (omega arith) used refl);
 })
   where
     differs : (block field : ℕ) → field < 32 → world.used block ≡ true → not (is_state field) ≡ true → block_place block field ≢ place
-    differs block field small used plain e = let word' = subst (λ p. is_word world p ≡ true) e (word_of world block field small used plain) in absurd cc
+    differs block field small used plain = not_word world place (block_place block field) is (field_word world block field small used plain)
 
 clears_effect : (world : World) (place : ℕ) → place ≡ FLAG → Effect world (put_word place (cleared_word (world.words place)) world)
 clears_effect world place e = subst (λ p. Effect world (put_word p (cleared_word (world.words p)) world)) (sym e) (quiet (with_word FLAG (cleared_word (world.words FLAG)) world.words) (record {
-  flag = inr (at_same FLAG (cleared_word (world.words FLAG)) world.words);
-  register = at_other FLAG (cleared_word (world.words FLAG)) world.words REGISTER register_flag;
-  notes = λ block used. at_other FLAG (cleared_word (world.words FLAG)) world.words (note_place block) (note_flag block);
-  values = λ block used. at_other FLAG (cleared_word (world.words FLAG)) world.words (value_at block) (value_flag block);
-  decisions = λ block used. at_other FLAG (cleared_word (world.words FLAG)) world.words (decision_place block) (decision_flag block);
+  flag = inr (same_place FLAG (cleared_word (world.words FLAG)) world.words);
+  register = word_beside FLAG (cleared_word (world.words FLAG)) world.words REGISTER register_flag;
+  notes = λ block used. word_beside FLAG (cleared_word (world.words FLAG)) world.words (note_place block) (note_flag block);
+  values = λ block used. word_beside FLAG (cleared_word (world.words FLAG)) world.words (value_at block) (value_flag block);
+  decisions = λ block used. word_beside FLAG (cleared_word (world.words FLAG)) world.words (decision_place block) (decision_flag block);
 }))
 
 search_effect : (world after : World) (seen : Seen) (search : Search) (op : Op) (since : ℕ) → Shape world → asks search → Knows search op world since → Requested flagged_form (request_of search) world after seen → Effect world after
-search_effect world after seen (AtFlag o) op since shape asking knows r = subst (Effect world) (sym (asked (Load FLAG) r).0) (unchanged world)
-search_effect world after seen (AtRegister o flag) op since shape asking knows r = subst (Effect world) (sym (asked (Load REGISTER) r).0) (unchanged world)
+search_effect world after seen (AtFlag o) op since shape asking knows r = subst (Effect world) (sym (went flagged_form (Load FLAG) world after seen r).0) (unchanged world)
+search_effect world after seen (AtRegister o flag) op since shape asking knows r = subst (Effect world) (sym (went flagged_form (Load REGISTER) world after seen r).0) (unchanged world)
 search_effect world after seen (Named o flag register) op since shape asking knows r = absurd asking
 search_effect world after seen (Helping o help) op since shape asking knows r = help_effect world after seen help knows.1.1.0 shape knows.1.1.1 r
 

@@ -1,5 +1,5 @@
 -- All laws of the flagged register.
-use Rattle.std.proofs.Common.{◌≡◌, ◌≢◌, ℕ, zero, suc, ◌^◌, ◌<◌, Bool, true, false, ◌||◌, List, [], ◌∷◌, ◌++◌, length, Option, refl, sym, ap, subst, ◌∙◌, inl, inr, ◌⊎◌, arith}
+use Rattle.std.proofs.Common.{◌≡◌, ◌≢◌, ℕ, zero, suc, ◌^◌, ◌<◌, Bool, true, false, ◌||◌, List, [], ◌∷◌, ◌++◌, length, refl, sym, ap, subst, ◌∙◌, inl, inr, ◌⊎◌, arith}
 use Rattle.std.specs.Prelude.{◌==◌, if◌then◌else◌, slice_get, Some, None, IsTrue}
 use Rattle.std.specs.FinMap as map
 use Rattle.std.specs.Ordering.{nat_cmp}
@@ -26,7 +26,7 @@ use Rattle.flagged_register.specs.Register.Help.{Deciding}
 use Rattle.flagged_register.specs.Register.Search.{AtFlag, AtRegister, Named, Helping}
 use Rattle.flagged_register.specs.Meanings.{Flagged, Shape, IsOver, IsSpent, EachChanges, flagged_block, flagger, adds_beside, WasRead, Knows, Dead, is_ready, flagged_form, IsGone}
 use Rattle.flagged_register.proofs.Fitting.{begun_fits, found_fits, wrapped_fits}
-use Rattle.flagged_register.proofs.Basics.{all_among, word_of, flag_value_below, note_register, note_flag, note_decision, value_decision, decided_once}
+use Rattle.flagged_register.proofs.Basics.{flag_value_below, note_register, note_flag, note_decision, value_decision, decided_once}
 use Rattle.flagged_register.proofs.Effects.{Effect, made_won, cleared_won, decided_won}
 use Rattle.flagged_register.proofs.Effects.Effect.{quiet, sets, makes, decides, clears}
 use Rattle.flagged_register.proofs.Journal.{took_of, flagged_of, flagger_flagged}
@@ -37,6 +37,11 @@ use Rattle.flagged_register.proofs.Kept.FlagLists.{flagged_from, older, newly}
 use Rattle.flagged_register.proofs.Basics.{value_flag, value_register}
 use Rattle.flagged_register.proofs.Observed.{none_content, listed}
 use Rattle.flagged_register.proofs.Fed.{search_asks, help_asks, search_fed_well, wrap_fed_well}
+use Rattle.client_lemmas.proofs.Places.{field_word}
+use Rattle.client_lemmas.proofs.Growing.{all_among}
+use Rattle.client_lemmas.proofs.Words.{value_small, zero_bit}
+use Rattle.client_lemmas.proofs.Entries.{the_entry}
+use Rattle.client_lemmas.proofs.Offers.{one_entry, two_apart}
 
 -- ---- the opening
 
@@ -48,14 +53,6 @@ opened_register : opening_word Tree REGISTER ≡ 0
 unfolding opening_word block_place
 opened_register = refl
 
-value_0 : versioned_value 0 ≡ 0
-unfolding versioned_value
-value_0 = omega arith
-
-bit_0 : versioned_bit 0 ≡ 0
-unfolding versioned_bit
-bit_0 = omega arith
-
 opens : Shape (opening_world flagged_form)
 opens = record {
   opened = refl;
@@ -63,10 +60,10 @@ opens = record {
   flaggers = λ list flagged. absurd flagged.won;
   same_identity = λ a b fa fb e. absurd fa.won;
   same_block = λ a b fa fb e. absurd fa.won;
-  flag = inl (ap versioned_value (opened_flag) ∙ value_0);
-  tells = map.get-empty nat_cmp 0 ∙ sym (none_content (opening_world flagged_form) (opening_word Tree REGISTER) (ap versioned_value (opened_register) ∙ value_0));
-  names = inl (ap versioned_value (opened_register) ∙ value_0);
-  clear = ap versioned_bit (opened_register) ∙ bit_0;
+  flag = inl (ap versioned_value (opened_flag) ∙ value_small 0 (omega arith));
+  tells = map.get-empty nat_cmp 0 ∙ sym (none_content (opening_world flagged_form) (opening_word Tree REGISTER) (ap versioned_value (opened_register) ∙ value_small 0 (omega arith)));
+  names = inl (ap versioned_value (opened_register) ∙ value_small 0 (omega arith));
+  clear = ap versioned_bit (opened_register) ∙ zero_bit;
   fits = omega (arith, opened_register);
   flagged = λ change among. absurd among;
   passed = λ change among. absurd among;
@@ -97,20 +94,16 @@ bounded world cause spent = (spent.used, by_kind cause.kind spent.over)
 -- ---- offers
 
 offered_entries : (world : World) (list : Listed) (search : Search) (since : ℕ) → IsOffered flagged_form world list search since → (from : ℕ) × (list.entries ≡ flag_entry from list.block ∷ [])
-offered_entries world list (AtFlag op) since offered = absurd offered.ready
-offered_entries world list (AtRegister op flag) since offered = absurd offered.ready
 offered_entries world list (Named op flag register) since offered = (flag, offered.entries)
-offered_entries world list (Helping op help) since offered = absurd offered.ready
+offered_entries world list _ since offered = absurd offered.ready
 
 lists : (world : World) (search : Search) (op : Op) (since : ℕ) → Knows search op world since → is_ready search → IsTrue (flagged_form.may_list op) × IsTrue (may_exhaust op)
-lists world (AtFlag o) op since knows ready = absurd ready
-lists world (AtRegister o flag) op since knows ready = absurd ready
 lists world (Named o flag register) op since knows ready = listed op register knows.1.1.toggles
-lists world (Helping o help) op since knows ready = absurd ready
+lists world _ op since knows ready = absurd ready
 
 good_entry : (world : World) (op : Op) (flag register block : ℕ) → Shape world → WasRead world op flag register → block < 2 ^ 17 → IsGoodEntry flagged_form world (flag_entry flag block)
 good_entry world op flag register block shape read small = record {
-  word = word_of world 0 16 (omega arith) shape.opened refl;
+  word = field_word world 0 16 (omega arith) shape.opened refl;
   versioned = or_left (FLAG == FLAG || FLAG == REGISTER) (field_at FLAG == 28) (or_left (FLAG == FLAG) (FLAG == REGISTER) (eq-eqb FLAG FLAG refl));
   listable = eq-eqb FLAG FLAG refl;
   clear = read.down.clear;
@@ -179,25 +172,16 @@ note_plain block field low =
     ) refl
 
 offers : (world : World) (search : Search) (op : Op) (since block : ℕ) → Shape world → Knows search op world since → is_ready search → block < 2 ^ 17 → IsGoodOffer flagged_form world block (offer_of search op block)
-offers world (AtFlag o) op since block shape knows ready small = absurd ready
-offers world (AtRegister o flag) op since block shape knows ready small = absurd ready
-offers world (Named o flag register) op since block shape knows ready small = record {
-  some = omega arith;
-  few = omega arith;
-  entries = All-cons (IsGoodEntry flagged_form world) (flag_entry flag block) [] (good_entry world op flag register block shape knows.1.1 small) (All-nil (IsGoodEntry flagged_form world));
-  apart = λ i j d lt below. absurd (omega (arith, lt, below));
-  stores = All-cons (IsGoodStore flagged_form block) (value_at block, op.value) ((note_place block, register) ∷ (decision_place block, 0) ∷ []) (good_value block op.value knows.1.1.value)
-      (All-cons (IsGoodStore flagged_form block) (note_place block, register) ((decision_place block, 0) ∷ []) (good_store block register knows.1.1.fits)
-      (All-cons (IsGoodStore flagged_form block) (decision_place block, 0) [] (good_decision block) (All-nil (IsGoodStore flagged_form block))));
-  distinct = AllPairs-cons (λ (a b : ℕ × ℕ). a.0 ≢ b.0) (value_at block, op.value) ((note_place block, register) ∷ (decision_place block, 0) ∷ [])
-      (All-cons (λ (b : ℕ × ℕ). value_at block ≢ b.0) (note_place block, register) ((decision_place block, 0) ∷ []) (value_note block)
-      (All-cons (λ (b : ℕ × ℕ). value_at block ≢ b.0) (decision_place block, 0) [] (value_decision block block) (All-nil (λ (b : ℕ × ℕ). value_at block ≢ b.0))))
-      (AllPairs-cons (λ (a b : ℕ × ℕ). a.0 ≢ b.0) (note_place block, register) ((decision_place block, 0) ∷ [])
-      (All-cons (λ (b : ℕ × ℕ). note_place block ≢ b.0) (decision_place block, 0) [] (note_decision block block) (All-nil (λ (b : ℕ × ℕ). note_place block ≢ b.0)))
-      (λ i j d order low. absurd (omega (arith, order, low))));
-  count = omega arith;
-}
-offers world (Helping o help) op since block shape knows ready small = absurd ready
+offers world (Named o flag register) op since block shape knows ready small =
+    one_entry flagged_form world block (flag_entry flag block) ((value_at block, op.value) ∷ (note_place block, register) ∷ (decision_place block, 0) ∷ []) (good_entry world op flag register block shape knows.1.1 small)
+    (All-cons (IsGoodStore flagged_form block) (value_at block, op.value) ((note_place block, register) ∷ (decision_place block, 0) ∷ []) (good_value block op.value knows.1.1.value)
+    (All-cons (IsGoodStore flagged_form block) (note_place block, register) ((decision_place block, 0) ∷ []) (good_store block register knows.1.1.fits)
+    (All-cons (IsGoodStore flagged_form block) (decision_place block, 0) [] (good_decision block) (All-nil (IsGoodStore flagged_form block)))))
+    (AllPairs-cons (λ (a b : ℕ × ℕ). a.0 ≢ b.0) (value_at block, op.value) ((note_place block, register) ∷ (decision_place block, 0) ∷ [])
+    (All-cons (λ (b : ℕ × ℕ). value_at block ≢ b.0) (note_place block, register) ((decision_place block, 0) ∷ []) (value_note block)
+    (All-cons (λ (b : ℕ × ℕ). value_at block ≢ b.0) (decision_place block, 0) [] (value_decision block block) (All-nil (λ (b : ℕ × ℕ). value_at block ≢ b.0))))
+    (two_apart (note_place block, register) (decision_place block, 0) (note_decision block block))) (omega arith)
+offers world _ op since block shape knows ready small = absurd ready
 
 contends : (search : Search) (seen : Seen) → found_of search seen ≡ found.Contended → ⊥
 contends (AtFlag o) seen e = absurd cc
@@ -215,13 +199,9 @@ contends (Helping o help) seen e = absurd cc
 
 -- ---- wrap-ups and dead lists
 
-abbrev entry_or : Entry → Option Entry → Entry
-entry_or other None = other
-entry_or other (Some entry) = entry
-
 -- the first entry of a list is the setting of its flag
 first_is : (list : Listed) (from : ℕ) (entry : Entry) → list.entries ≡ flag_entry from list.block ∷ [] → slice_get list.entries 0 ≡ Some entry → entry ≡ flag_entry from list.block
-first_is list from entry entries listed' = ap (entry_or entry) (sym listed' ∙ ap (λ (es : List Entry). slice_get es 0) entries)
+first_is list from entry entries listed' = sym (the_entry list.entries entry (flag_entry from list.block) listed' entries)
 
 failed_dead : (world : World) (list : Listed) (from : ℕ) → list.entries ≡ flag_entry from list.block ∷ [] → Failed world list 0 → Dead list world
 failed_dead world list from entries failed = record {
@@ -249,10 +229,6 @@ wrap_begun world list search since stop shape offered stopped = by_stop (stop ==
         by_zero zero e' = absurd cc
         by_zero (suc n) e' = omega arith
 
-abbrev first_or : List Entry → Entry → Entry
-first_or [] other = other
-first_or (entry ∷ entries) other = entry
-
 -- after no effect has a list newly set a flag whose first word was passed
 lost_later : (world : World) (list : Listed) (from : ℕ) → list.entries ≡ flag_entry from list.block ∷ [] → versioned_version from < versioned_version (world.words FLAG) → ¬ Flagged world list → (next : World) → Effect world next → ¬ Flagged next list
 lost_later world list from entries passed lost next (quiet words q) = λ flagged. lost (flagged_from next world list (λ item among. among) flagged)
@@ -261,8 +237,8 @@ lost_later world list from entries passed lost next (sets other from' word s) = 
     by_list : (list ≡ other) ⊎ Flagged world list → ⊥
     by_list (inr flagged) = lost flagged
     by_list (inl one) =
-        let to_entry : List Entry → Entry = λ es. first_or es (flag_entry from' other.block) in
-        let same : flag_entry from list.block ≡ flag_entry from' other.block = ap to_entry (sym entries ∙ ap (λ (x : Listed). x.entries) one ∙ s.entries) in
+        let same : flag_entry from' other.block ≡ flag_entry from list.block =
+        the_entry list.entries (flag_entry from list.block) (flag_entry from' other.block) (ap (λ (es : List Entry). slice_get es 0) entries) (ap (λ (x : Listed). x.entries) one ∙ s.entries) in
         omega (arith, passed, ap (λ (e : Entry). versioned_version e.from) same, ap versioned_version s.here)
 lost_later world list from entries passed lost next (makes other m) =
     λ flagged. lost (record { from = flagged.from; entries = flagged.entries; won = older list flagged.from (made_won other (world.words REGISTER)) world.journal refl flagged.won })

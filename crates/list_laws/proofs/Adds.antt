@@ -22,21 +22,20 @@ use Rattle.list_laws.specs.Nodes.{holds, is_node, next_at, key_at, rank_of, IsLi
 use Rattle.list_laws.specs.Path.{stands, IsPath, parity}
 use Rattle.list_laws.specs.Shape.{LINKED, MARKED, first_cause, IsStored, MadeChange, AreSorted}
 use Rattle.list_laws.specs.Knowledge.{Learnt}
-use Rattle.list_laws.proofs.Places.{same_place, other_place, same_next, start_not_next}
+use Rattle.list_laws.proofs.Places.{same_next, start_not_next}
 use Rattle.list_laws.proofs.Changes.{node_cases, node_own, key_own}
 use Rattle.list_laws.proofs.Paths.NodeLinked.{path_linked}
 use Rattle.list_laws.proofs.Links.{positive}
 use Rattle.list_laws.proofs.Entries.{add_entry, adds_is}
 use Rattle.list_laws.proofs.Sets.{object_is, change_told}
 use Rattle.list_laws.proofs.Marks.{stands_now, none_held, live_added}
-use Rattle.list_laws.proofs.Journal.{new_cause, journal_grows, made_more}
+use Rattle.list_laws.proofs.Journal.{new_cause, journal_grows}
 use Rattle.list_laws.proofs.Shapes.{key_not_link, stored_stays}
-use Rattle.list_laws.proofs.Later.{Later, item_of}
-
--- a small number is the versioned word of itself, with a clear bit and version 0
-pub value_small : (n : ℕ) → n < 2 ^ 24 → versioned_value n ≡ n
-unfolding versioned_value
-value_small n low = omega (arith, low)
+use Rattle.list_laws.proofs.Later.{Later}
+use Rattle.normal_traits.proofs.Stays.{word_beside}
+use Rattle.client_lemmas.proofs.Words.{same_place, value_small}
+use Rattle.client_lemmas.proofs.Later.{item_of}
+use Rattle.client_lemmas.proofs.Made.{made_more}
 
 module _ (lists : Lists) (are : AreLists lists) where
   -- after the exchange of a list's first entry
@@ -111,13 +110,13 @@ module _ (lists : Lists) (are : AreLists lists) where
         let after : versioned_value (with_word left.place word world.words place) ≡ 2 * reference_to list.block 1 =
         ap (λ p. versioned_value (with_word left.place word world.words p)) here ∙ ap versioned_value (same_place left.place word world.words) ∙ value in
         omega (arith, before, after)
-    parity_at place (inr other) = ap (λ w. versioned_value w % 2) (other_place left.place word world.words place other)
+    parity_at place (inr other) = ap (λ w. versioned_value w % 2) (word_beside left.place word world.words place other)
 
     at_left : led (with_word left.place word world.words left.place) ≡ reference_to list.block 1
     at_left = omega (arith, ap versioned_value (same_place left.place word world.words), value)
 
     new_value : versioned_value (with_word left.place word world.words (next_at list.block)) ≡ 2 * cur
-    new_value = ap versioned_value (other_place left.place word world.words (next_at list.block) not_left) ∙ old_value
+    new_value = ap versioned_value (word_beside left.place word world.words (next_at list.block) not_left) ∙ old_value
 
     at_new : led (with_word left.place word world.words (next_at list.block)) ≡ led (world.words left.place)
     at_new = omega (arith, new_value, leads_cur)
@@ -132,7 +131,7 @@ module _ (lists : Lists) (are : AreLists lists) where
 
     module _ (kept : Later lists are world (changed_world world list (add_entry left list.block) word (using_block list.block world.used))) where
       key_stays : (block : ℕ) → 0 < block → with_word left.place word world.words (key_at block) ≡ world.words (key_at block)
-      key_stays block positive_block = other_place left.place word world.words (key_at block) (key_not_link lists are world.changes start left.place block positive_block learnt.0.link)
+      key_stays block positive_block = word_beside left.place word world.words (key_at block) (key_not_link lists are world.changes start left.place block positive_block learnt.0.link)
 
       stored : (block : ℕ) → (list.block ≡ block) ⊎ (is_node world.changes block ≡ true) → IsStored (changed_world world list (add_entry left list.block) word (using_block list.block world.used)) block
       stored block (inl own) = subst (IsStored (changed_world world list (add_entry left list.block) word (using_block list.block world.used))) own here
@@ -171,12 +170,12 @@ module _ (lists : Lists) (are : AreLists lists) where
             first = or_right (eqb 0 list.block) (world.used 0) sorted.first;
             stored = λ block node. stored block (node_cases new world.changes block node);
             effective = (inl (code, absent), sorted.effective);
-            made = made_more lists are world after sorted kept sorted.path (using_block list.block sorted.path) off sorted.made new refl fresh
+            made = made_more world after kept.used kept.journal sorted.made new refl fresh
                 (record { entry = add_entry left list.block; cause = first_cause list (add_entry left list.block); listed = listed; won = inl refl }) own (λ block. unused);
             path = using_block list.block sorted.path;
             has_path = record {
               leading = path_linked lists are world.changes some (λ place. led (world.words place)) sorted.path is new add kept.extends unknown some_block left.place learnt.0.link on learnt.0.below high
-                  (λ place. led (with_word left.place word world.words place)) at_left at_new (λ place other other'. ap led (other_place left.place word world.words place other));
+                  (λ place. led (with_word left.place word world.words place)) at_left at_new (λ place other other'. ap led (word_beside left.place word world.words place other));
               living = live_added lists world.changes world.words sorted.path sorted.has_path.living new kept.extends (with_word left.place word world.words)
                   (λ place start'. parity_at place (cases_eq place left.place)) add (omega (arith, new_value)) (λ block node. parity_at (next_at block) (cases_eq (next_at block) left.place));
               journal = journal_grows lists are world after sorted kept sorted.path (using_block list.block sorted.path) off sorted.has_path.journal

@@ -1,11 +1,12 @@
 -- What one change more does to the nodes and to what is held: nothing to the nodes that there are.
-use Rattle.std.proofs.Common.{◌≡◌, ◌≢◌, ℕ, suc, ◌+◌, ◌-◌, ◌<◌, ◌≤◌, Bool, true, false, eqb, ◌||◌, ◌&&◌, List, ◌∷◌, length, drop, refl, sym, ap, ◌∙◌, inl, inr, ◌⊎◌, arith}
+use Rattle.std.proofs.Common.{◌≡◌, ◌≢◌, ℕ, ◌+◌, ◌<◌, ◌≤◌, Bool, true, false, eqb, ◌||◌, ◌&&◌, List, ◌∷◌, length, refl, sym, ap, ◌∙◌, inl, inr, ◌⊎◌, arith}
 use Rattle.std.proofs.lemmas.Bool.{true≢false, eqb-true, eq-eqb, ne_eqb, cond-true, cond-false, or_right, or_cases, and_from, and_left}
 use Rattle.normal_traits.specs.World.{Change, Among, first_changes}
 use Rattle.list_laws.specs.Lists.{Lists, AreLists}
 use Rattle.list_laws.specs.Search.{is_add}
 use Rattle.list_laws.specs.Nodes.{holds, brings, is_node, node_key, node_rank, place_rank, rank_of, IsOf, IsLink, IsNamed}
 use Rattle.list_laws.proofs.Places.{rank_start, rank_next, rank_named}
+use Rattle.client_lemmas.proofs.Growing.{first_older}
 
 -- the second has the changes of the first and maybe newer ones
 pub record Extends (old new : List Change) : Type 0 where
@@ -25,12 +26,9 @@ extends_more change changes new =
       nodes = λ block is. or_right (brings change block) (is_node changes block) is;
       keys = λ block is. cond-false (brings change block) change.list.call.op.key (node_key changes block) (new block is);
       longer = omega arith;
-      first = λ count low. ap (λ n. drop n (change ∷ changes)) (one_more (length changes) count low);
+      first = λ count low. first_older change changes count low;
       among = λ other a. inr a;
     }
-  where
-    one_more : (n count : ℕ) → count ≤ n → suc n - count ≡ suc (n - count)
-    one_more n count low = omega arith
 
 -- ---- the nodes of the longer changes
 

@@ -20,17 +20,21 @@ use Rattle.list_laws.specs.Nodes.{holds, is_node, node_key, next_at, key_at, ran
 use Rattle.list_laws.specs.Path.{IsPath, parity}
 use Rattle.list_laws.specs.Shape.{LINKED, MARKED, first_cause, MadeChange, AreSorted}
 use Rattle.list_laws.specs.Knowledge.{Learnt}
-use Rattle.list_laws.proofs.Places.{same_place, other_place, same_next, start_not_next, block_of_next, rank_named}
+use Rattle.list_laws.proofs.Places.{same_next, start_not_next, block_of_next, rank_named}
 use Rattle.list_laws.proofs.Changes.{node_del, key_del}
 use Rattle.list_laws.proofs.Paths.SameNodes.{SameNodes, path_same}
 use Rattle.list_laws.proofs.Links.{positive, node_of}
 use Rattle.list_laws.proofs.Entries.{mark_entry, dels_is}
 use Rattle.list_laws.proofs.Sets.{object_is, change_told}
 use Rattle.list_laws.proofs.Marks.{live_marked}
-use Rattle.list_laws.proofs.Journal.{new_cause, journal_grows, made_more}
+use Rattle.list_laws.proofs.Journal.{new_cause, journal_grows}
 use Rattle.list_laws.proofs.Shapes.{key_not_link, stored_stays}
 use Rattle.list_laws.proofs.Adds.{changed_world}
-use Rattle.list_laws.proofs.Later.{Later, item_of}
+use Rattle.list_laws.proofs.Later.{Later}
+use Rattle.normal_traits.proofs.Stays.{word_beside}
+use Rattle.client_lemmas.proofs.Words.{same_place}
+use Rattle.client_lemmas.proofs.Later.{item_of}
+use Rattle.client_lemmas.proofs.Made.{made_more}
 
 module _ (lists : Lists) (are : AreLists lists) (world : World) (sorted : AreSorted lists world) (list : Listed) (left : Left) (cur next since word : ℕ) (used : ℕ → Bool) (code : list.call.op.code ≡ DEL)
     (learnt : Learnt lists world list.call.op.key since (DelReady left cur next)) (same : world.words (next_place cur) ≡ next) (change : IsExchanged (mark_entry cur next) word) where
@@ -85,7 +89,7 @@ module _ (lists : Lists) (are : AreLists lists) (world : World) (sorted : AreSor
   written = ap (λ p. versioned_value (with_word (next_place cur) word world.words p)) (sym at_block) ∙ ap versioned_value (same_place (next_place cur) word world.words) ∙ value
 
   elsewhere : (place : ℕ) → place ≢ next_at node.0 → with_word (next_place cur) word world.words place ≡ world.words place
-  elsewhere place other = other_place (next_place cur) word world.words place (λ e. other (e ∙ at_block))
+  elsewhere place other = word_beside (next_place cur) word world.words place (λ e. other (e ∙ at_block))
 
   -- each reference is as it was
   leads_at : (place : ℕ) → (place ≡ next_at node.0) ⊎ (place ≡ next_at node.0 → ⊥) → led (with_word (next_place cur) word world.words place) ≡ led (world.words place)
@@ -137,7 +141,7 @@ module _ (lists : Lists) (are : AreLists lists) (world : World) (sorted : AreSor
               let was = sym (node_del new world.changes del b) ∙ is_one in
               stored_stays lists are world after kept b was (sorted.stored b was) (key_stays b (some b was));
           effective = (inr (code, present), sorted.effective);
-          made = made_more lists are world after sorted kept sorted.path sorted.path (λ b is_one off. off) sorted.made new refl fresh
+          made = made_more world after kept.used kept.journal sorted.made new refl fresh
               (record { entry = mark_entry cur next; cause = first_cause list (mark_entry cur next); listed = listed; won = inl refl }) own unused;
           path = sorted.path;
           has_path = record {

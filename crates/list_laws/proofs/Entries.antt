@@ -1,7 +1,7 @@
 -- The entries of a list that a ready search has named.
-use Rattle.std.proofs.Common.{◌≡◌, ℕ, Bool, true, false, eqb, List, sym, ap, ◌∙◌, Option, Some, None}
+use Rattle.std.proofs.Common.{◌≡◌, ℕ, true, false, eqb, List, ap, ◌∙◌, Some}
 use Rattle.std.specs.Prelude.{slice_get}
-use Rattle.std.proofs.lemmas.Bool.{true≢false, cond-true, eq-eqb}
+use Rattle.std.proofs.lemmas.Bool.{cond-true, eq-eqb}
 use Rattle.lin_report.specs.declared.calls.Op.{Op}
 use Rattle.lin_report.specs.declared.calls.TheConstants.{ADD, DEL}
 use Rattle.node_arena.specs.MemoryMap.{reference_to}
@@ -11,11 +11,12 @@ use Rattle.normal_traits.specs.World.{Listed, World}
 use Rattle.normal_traits.specs.Steps.{IsOffered}
 use Rattle.list_laws.specs.declared.states.Left.{Left}
 use Rattle.list_laws.specs.declared.states.ListSearch.{ListSearch}
-use Rattle.list_laws.specs.declared.states.ListSearch.TheVariants.{Start, Next, Key, Unlink, AddReady, DelReady}
+use Rattle.list_laws.specs.declared.states.ListSearch.TheVariants.{AddReady, DelReady}
 use Rattle.list_laws.specs.Lists.{Lists}
 use Rattle.list_laws.specs.Search.{is_add, led, leading, marking, next_place, IsReady, offered, add_offer}
 use Rattle.list_laws.specs.Knowledge.{Learnt, Knows}
 use Rattle.list_laws.specs.Form.{list_form}
+use Rattle.client_lemmas.proofs.Entries.{same_entry, no_second}
 
 -- the entry of an add, and the two of a del
 abbrev pub add_entry : Left → ℕ → Entry
@@ -26,18 +27,6 @@ mark_entry cur next = record { target = next_place cur; from = next; to = markin
 
 abbrev pub cut_entry : Left → ℕ → Entry
 cut_entry left next = record { target = left.place; from = left.word; to = leading left.word (led next) }
-
--- the entry that an option has, if any
-abbrev pub some_entry : Entry → Option Entry → Entry
-some_entry entry None = entry
-some_entry entry (Some other) = other
-
-pub same_entry : (entries : List Entry) (j : ℕ) (entry other : Entry) → slice_get entries j ≡ Some entry → slice_get entries j ≡ Some other → entry ≡ other
-same_entry entries j entry other first second = ap (some_entry entry) (sym first ∙ second)
-
-abbrev is_some : Option Entry → Bool
-is_some None = false
-is_some (Some entry) = true
 
 pub adds_is : (op : Op) → op.code ≡ ADD → is_add op ≡ true
 adds_is op e = eq-eqb op.code ADD e
@@ -75,16 +64,13 @@ module _ (lists : Lists) (world : World) (list : Listed) where
           (same_entry list.entries 0 (add_entry left list.block) entry (ap (λ (es : List Entry). slice_get es 0) (entries ∙ ap (λ (o : Offered). o.entries) is)) listed) is
       by_search (DelReady left cur next) ready knows entries =
           marks_it left cur next knows.serves knows.learnt (same_entry list.entries 0 (mark_entry cur next) entry (ap (λ (es : List Entry). slice_get es 0) entries) listed)
-      by_search (Start sought start) ready knows entries = absurd ready
-      by_search (Next sought left run cur) ready knows entries = absurd ready
-      by_search (Key sought left run cur next) ready knows entries = absurd ready
-      by_search (Unlink sought left cur next found) ready knows entries = absurd ready
+      by_search _ ready knows entries = absurd ready
 
   pub tried_second : (searched : ListSearch) (since : ℕ) (entry : Entry) → IsOffered (list_form lists) world list searched since → slice_get list.entries 1 ≡ Some entry → IsSecond since entry
   tried_second searched since entry offer listed = by_search searched offer.ready offer.knows offer.entries
     where
       by_search : (searched : ListSearch) → IsReady searched → Knows lists searched list.call.op world since → list.entries ≡ (offered searched list.call.op list.block).entries → IsSecond since entry
-      by_search (AddReady left cur) ready knows entries = absurd (true≢false (sym (ap is_some (sym (ap (λ (es : List Entry). slice_get es 1) entries) ∙ listed))))
+      by_search (AddReady left cur) ready knows entries = absurd (no_second list.entries _ entry entries listed)
       by_search (DelReady left cur next) ready knows entries =
           record {
             left = left;
@@ -95,7 +81,4 @@ module _ (lists : Lists) (world : World) (list : Listed) where
             first = ap (λ (es : List Entry). slice_get es 0) entries;
             is = same_entry list.entries 1 (cut_entry left next) entry (ap (λ (es : List Entry). slice_get es 1) entries) listed;
           }
-      by_search (Start sought start) ready knows entries = absurd ready
-      by_search (Next sought left run cur) ready knows entries = absurd ready
-      by_search (Key sought left run cur next) ready knows entries = absurd ready
-      by_search (Unlink sought left cur next found) ready knows entries = absurd ready
+      by_search _ ready knows entries = absurd ready

@@ -1,27 +1,19 @@
--- The won exchanges and the changes that they made: what is known of them stays so, and one more is known.
-use Rattle.std.proofs.Common.{◌≡◌, ◌≢◌, ℕ, zero, suc, ◌%◌, ◌<◌, Bool, true, false, List, [], ◌∷◌, refl, sym, ap, ◌∙◌, subst, inl, inr, ◌⊎◌, arith}
-use Rattle.std.specs.Prelude.{All, AllPairs}
+-- The won exchanges: what is known of them stays so, and one more is known.
+use Rattle.std.proofs.Common.{◌≡◌, ◌≢◌, ℕ, zero, suc, ◌%◌, Bool, true, false, ◌∷◌, sym, ap, ◌∙◌, subst, inl, inr, ◌⊎◌, arith}
+use Rattle.std.specs.Prelude.{AllPairs}
 use Rattle.std.proofs.lemmas.Bool.{true≢false}
-use Rattle.std.proofs.lemmas.List.Elements.{All-nil, All-cons}
-use Rattle.std.proofs.lemmas.List.Kept.{AllPairs-cons}
 use Rattle.lin_report.specs.declared.calls.TheConstants.{ADD, DEL}
 use Rattle.word_fields.specs.Versioned.{versioned_value}
-use Rattle.normal_traits.specs.World.{Listed, Maker, Cause, Won, Change, World, Among, Took}
+use Rattle.normal_traits.specs.World.{Listed, Maker, Cause, Won, World, Among}
 use Rattle.normal_traits.specs.World.Maker.{By, Beside}
-use Rattle.normal_traits.specs.Steps.{IsFresh}
 use Rattle.list_laws.specs.Lists.{Lists, AreLists}
 use Rattle.list_laws.specs.Nodes.{is_node, next_at}
 use Rattle.list_laws.specs.Path.{parity}
-use Rattle.list_laws.specs.Shape.{LINKED, MARKED, UNLINKED, AreMade, WasLinked, WasMarked, WasUnlinked, MadeChange, KnownBy, IsJournal, AreSorted}
+use Rattle.list_laws.specs.Shape.{LINKED, MARKED, UNLINKED, WasLinked, WasMarked, WasUnlinked, MadeChange, KnownBy, IsJournal, AreSorted}
 use Rattle.list_laws.proofs.Places.{next_versioned}
 use Rattle.list_laws.proofs.Links.{node_word}
 use Rattle.list_laws.proofs.Later.{Later}
-
--- ---- all of a list
-
-pub all_among : {X : Type 0} (P : X → Type 0) (xs : List X) → ((x : X) → Among x xs → P x) → All P xs
-all_among P [] f = All-nil P
-all_among P (x ∷ xs) f = All-cons P x xs (f x (inl refl)) (all_among P xs (λ y a. f y (inr a)))
+use Rattle.client_lemmas.proofs.Growing.{each_more, pairs_more}
 
 -- ---- for which node an exchange was won
 
@@ -68,7 +60,7 @@ new_cause world path block kind cause linked marked unlinked (node, is, inr (inr
 module _ (lists : Lists) (are : AreLists lists) (world after : World) (sorted : AreSorted lists world) (kept : Later lists are world after) (path path' : ℕ → Bool)
     (off : (block : ℕ) → is_node world.changes block ≡ true → path block ≡ false → path' block ≡ false) where
   value_stays : (block : ℕ) → is_node world.changes block ≡ true → parity world.words (next_at block) ≡ 1 → versioned_value (after.words (next_at block)) ≡ versioned_value (world.words (next_at block))
-  value_stays block node odd = kept.frozen (next_at block) (node_word lists are world sorted block node) (next_versioned lists are block) odd
+  value_stays block node odd = kept.moves (next_at block) (node_word lists are world sorted block node) (next_versioned lists are block) odd
 
   unlinked_stays : (won : Won) → WasUnlinked world path won → WasUnlinked after path' won
   unlinked_stays won was = record { block = was.block; node = kept.extends.nodes was.block was.node; off = off was.block was.node was.off; cause = was.cause }
@@ -110,50 +102,6 @@ module _ (lists : Lists) (are : AreLists lists) (world after : World) (sorted : 
   pub journal_grows : IsJournal world path → (item : Won) → after.journal ≡ item ∷ world.journal → KnownBy after path' item item.maker → ((cause : Cause) → IsCause world path cause → item.cause ≢ cause) → IsJournal after path'
   journal_grows journal item same known new =
       record {
-        known = λ won a. by_item won (subst (Among won) same a);
-        causes_differ = subst (AllPairs (λ (a b : Won). a.cause ≢ b.cause)) (sym same)
-            (AllPairs-cons (λ (a b : Won). a.cause ≢ b.cause) item world.journal
-            (all_among (λ (b : Won). item.cause ≢ b.cause) world.journal (λ b a. new b.cause (known_cause world path b b.maker (journal.known b a)))) journal.causes_differ);
+        known = each_more (λ (won : Won). KnownBy after path' won won.maker) item world.journal after.journal same known (λ won old. known_stays won won.maker (journal.known won old));
+        causes_differ = pairs_more (λ (a b : Won). a.cause ≢ b.cause) item world.journal after.journal same (λ b a. new b.cause (known_cause world path b b.maker (journal.known b a))) journal.causes_differ;
       }
-    where
-      by_item : (won : Won) → (won ≡ item) ⊎ Among won world.journal → KnownBy after path' won won.maker
-      by_item won (inl is) = subst (λ (w : Won). KnownBy after path' w w.maker) (sym is) known
-      by_item won (inr old) = known_stays won won.maker (journal.known won old)
-
-  -- ---- the changes and who made them
-
-  took_stays : (list : Listed) → Took world list 0 → Took after list 0
-  took_stays list t = record { entry = t.entry; cause = t.cause; listed = t.listed; won = kept.journal _ t.won }
-
-  pub made_stay : after.changes ≡ world.changes → AreMade world → AreMade after
-  made_stay same made =
-      record {
-        took = λ change a. took_stays change.list (made.took change (subst (Among change) same a));
-        blocks = λ change a. kept.used change.list.block (made.blocks change (subst (Among change) same a));
-        lists_differ = subst (AllPairs (λ (a b : Change). a.list.identity ≢ b.list.identity)) (sym same) made.lists_differ;
-        blocks_differ = subst (AllPairs (λ (a b : Change). 0 < a.list.block → a.list.block ≢ b.list.block)) (sym same) made.blocks_differ;
-      }
-
-  -- one more change, by a list that had not taken effect, with a block that was not used
-  pub made_more : AreMade world → (change : Change) → after.changes ≡ change ∷ world.changes → IsFresh world change.list → Took after change.list 0
-      → after.used change.list.block ≡ true → (0 < change.list.block → world.used change.list.block ≡ false) → AreMade after
-  made_more made change same fresh took used unused =
-      record {
-        took = λ other a. by_took other (subst (Among other) same a);
-        blocks = λ other a. by_block other (subst (Among other) same a);
-        lists_differ = subst (AllPairs (λ (a b : Change). a.list.identity ≢ b.list.identity)) (sym same)
-            (AllPairs-cons (λ (a b : Change). a.list.identity ≢ b.list.identity) change world.changes
-            (all_among (λ (b : Change). change.list.identity ≢ b.list.identity) world.changes (λ b a e. fresh b.list 0 (sym e) (made.took b a))) made.lists_differ);
-        blocks_differ = subst (AllPairs (λ (a b : Change). 0 < a.list.block → a.list.block ≢ b.list.block)) (sym same)
-            (AllPairs-cons (λ (a b : Change). 0 < a.list.block → a.list.block ≢ b.list.block) change world.changes
-            (all_among (λ (b : Change). 0 < change.list.block → change.list.block ≢ b.list.block) world.changes
-            (λ b a some e. true≢false (sym (made.blocks b a) ∙ ap world.used (sym e) ∙ unused some))) made.blocks_differ);
-      }
-    where
-      by_took : (other : Change) → (other ≡ change) ⊎ Among other world.changes → Took after other.list 0
-      by_took other (inl new) = subst (λ (c : Change). Took after c.list 0) (sym new) took
-      by_took other (inr old) = took_stays other.list (made.took other old)
-
-      by_block : (other : Change) → (other ≡ change) ⊎ Among other world.changes → after.used other.list.block ≡ true
-      by_block other (inl new) = subst (λ (c : Change). after.used c.list.block ≡ true) (sym new) used
-      by_block other (inr old) = kept.used other.list.block (made.blocks other old)

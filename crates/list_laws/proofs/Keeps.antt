@@ -24,25 +24,29 @@ use Rattle.list_laws.specs.Shape.{WasLinked, WasMarked, AreSorted}
 use Rattle.list_laws.specs.Knowledge.{IsRun, Learnt}
 use Rattle.list_laws.specs.Knowledge.IsRun.{ends}
 use Rattle.list_laws.specs.Form.{list_form}
-use Rattle.list_laws.proofs.Places.{other_place, same_next}
+use Rattle.list_laws.proofs.Places.{same_next}
 use Rattle.list_laws.proofs.Links.{node_of}
-use Rattle.list_laws.proofs.Entries.{IsFirst, IsSecond, tried_first, tried_second, add_entry, mark_entry, cut_entry, same_entry, adds_is}
+use Rattle.list_laws.proofs.Entries.{IsFirst, IsSecond, tried_first, tried_second, add_entry, mark_entry, cut_entry, adds_is}
 use Rattle.list_laws.proofs.Entries.IsFirst.{adds_it, marks_it}
 use Rattle.list_laws.proofs.Commands.{key_limit}
-use Rattle.list_laws.proofs.Later.{Later, Went, went, later, cleared_freezes, beside_word}
+use Rattle.list_laws.proofs.Later.{Later, later}
 use Rattle.list_laws.proofs.Shapes.{still, cut_world, cut_keeps}
 use Rattle.list_laws.proofs.Adds.{changed_world, add_keeps}
 use Rattle.list_laws.proofs.Dels.{mark_keeps}
+use Rattle.normal_traits.proofs.Stays.{word_beside}
+use Rattle.client_lemmas.proofs.Words.{beside_word, all_put}
+use Rattle.client_lemmas.proofs.Entries.{same_entry}
+use Rattle.client_lemmas.proofs.Requests.{Went, went}
 
 module _ (lists : Lists) (are : AreLists lists) where
   -- ---- a request of a search
 
   pub search_keeps : (world after : World) (seen : Seen) (key since : ℕ) (searched : ListSearch) → AreSorted lists world → Later lists are world after → Asks searched → Learnt lists world key since searched
-      → Went lists are (asked searched) world after seen → AreSorted lists after
+      → Went (list_form lists) (asked searched) world after seen → AreSorted lists after
   search_keeps world after seen key since (Start sought start) sorted kept asks l w = subst (AreSorted lists) (sym w.0) sorted
   search_keeps world after seen key since (Next sought left run cur) sorted kept asks l w = subst (AreSorted lists) (sym w.0) sorted
   search_keeps world after seen key since (Key sought left run cur next) sorted kept asks l w = subst (AreSorted lists) (sym w.0) sorted
-  search_keeps world after seen key since (Unlink sought left cur next found) sorted kept asks l (inl w) = subst (AreSorted lists) (sym w.0) sorted
+  search_keeps world after seen key since (Unlink sought left cur next found) sorted kept asks l (inl w) = subst (AreSorted lists) (sym w.1) sorted
   search_keeps world after seen key since (Unlink sought left cur next found) sorted kept asks l (inr w) =
       let entry : Entry = record { target = left.place; from = left.word; to = leading left.word cur } in
       subst (AreSorted lists) (sym w.2)
@@ -140,13 +144,13 @@ module _ (lists : Lists) (are : AreLists lists) where
   written_keeps : (world : World) (place word : ℕ) → AreSorted lists world → is_word world place ≡ false → Later lists are world (put_word place word world) → AreSorted lists (put_word place word world)
   written_keeps world place word sorted none kept =
       still lists are world (with_word place word world.words) sorted kept
-      (λ at some versioned. ap versioned_value (beside_word lists are world place word none at some)) (λ at some plain. beside_word lists are world place word none at some)
+      (λ at some versioned. ap versioned_value (beside_word world place word none at some)) (λ at some plain. beside_word world place word none at some)
 
   cleared_keeps : (world : World) (place : ℕ) → AreSorted lists world → is_versioned lists place ≡ true → Later lists are world (put_word place (cleared_word (world.words place)) world)
       → AreSorted lists (put_word place (cleared_word (world.words place)) world)
   cleared_keeps world place sorted versioned kept =
-      still lists are world (with_word place (cleared_word (world.words place)) world.words) sorted kept (λ at some is. cleared_freezes lists are world.words place at)
-      (λ at some plain. other_place place (cleared_word (world.words place)) world.words at (λ here. true≢false (sym versioned ∙ ap (is_versioned lists) (sym here) ∙ plain)))
+      still lists are world (with_word place (cleared_word (world.words place)) world.words) sorted kept (λ at some is. all_put (λ word after. versioned_value after ≡ versioned_value word) (λ word. refl) world.words place (cleared_word (world.words place)) (value-cleared (world.words place)) at)
+      (λ at some plain. word_beside place (cleared_word (world.words place)) world.words at (λ here. true≢false (sym versioned ∙ ap (is_versioned lists) (sym here) ∙ plain)))
 
   -- ---- each step
 
@@ -155,7 +159,7 @@ module _ (lists : Lists) (are : AreLists lists) where
   keeps world _ sorted kept (elsewhere place word none) = written_keeps world place word sorted none kept
   keeps world _ sorted kept (clears place some versioned listable) = cleared_keeps world place sorted versioned kept
   keeps world after sorted kept (searches {seen = seen} searched op since command asks knows requested) =
-      search_keeps world after seen op.key since searched sorted kept asks knows.learnt (went lists are (asked searched) world after seen requested)
+      search_keeps world after seen op.key since searched sorted kept asks knows.learnt (went (list_form lists) (asked searched) world after seen requested)
   keeps world after sorted kept (wraps {seen = seen} wrap list stop command going follows requested) = absurd follows
   keeps world _ sorted kept (first list searched since entry word offer fresh none needs listed same change) =
       first_step world sorted list since entry (offered searched list.call.op list.block) word (tried_first lists world list searched since entry offer listed) fresh none needs listed same change kept

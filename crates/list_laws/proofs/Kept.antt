@@ -1,14 +1,8 @@
--- What was learnt stays true, and a dead list stays dead, whatever anyone does.
-use Rattle.std.proofs.Common.{◌≡◌, ℕ, ◌+◌, ◌/◌, ◌%◌, ◌<◌, ◌≤◌, Bool, true, false, not, eqb, leb, ◌||◌, ◌&&◌, refl, sym, ap, ◌∙◌, subst, inl, inr, ◌⊎◌, Some, arith}
-use Rattle.std.specs.Prelude.{slice_get}
-use Rattle.std.proofs.lemmas.Bool.{false≢true}
+-- What was learnt stays true, whatever anyone does.
+use Rattle.std.proofs.Common.{◌≡◌, ℕ, ◌+◌, ◌/◌, ◌%◌, ◌<◌, Bool, true, false, sym, ap, ◌∙◌, subst, arith}
 use Rattle.lin_report.specs.declared.calls.Op.{Op}
-use Rattle.word_fields.specs.Versioned.{versioned_version, versioned_value, versioned_bit, cleared_word}
-use Rattle.word_fields.proofs.VersionedLemmas.{version-cleared, cleared-clear}
-use Rattle.node_arena.specs.declared.places.TheConstants.{HEAD, TAIL}
-use Rattle.node_arena.specs.MemoryMap.{block_at, field_at}
-use Rattle.normal_traits.specs.declared.lists.Entry.{Entry}
-use Rattle.normal_traits.specs.World.{Listed, World, is_word, is_state, WasSeen, Took}
+use Rattle.word_fields.specs.Versioned.{versioned_value}
+use Rattle.normal_traits.specs.World.{World, WasSeen}
 use Rattle.list_laws.specs.declared.states.Left.{Left}
 use Rattle.list_laws.specs.declared.states.ListSearch.{ListSearch}
 use Rattle.list_laws.specs.declared.states.ListSearch.TheVariants.{Start, Next, Key, Unlink, AddReady, DelReady}
@@ -17,40 +11,15 @@ use Rattle.list_laws.specs.Search.{led, next_place}
 use Rattle.list_laws.specs.Nodes.{holds, is_node, node_key, next_at, place_rank, rank_of, IsNamed, IsLink}
 use Rattle.list_laws.specs.Path.{parity}
 use Rattle.list_laws.specs.Shape.{AreSorted}
-use Rattle.list_laws.specs.Knowledge.{WasHeld, WasGap, AtLeft, AtCur, AtNext, IsRun, Between, Compared, Learnt, Knows, IsDead}
+use Rattle.list_laws.specs.Knowledge.{WasHeld, WasGap, AtLeft, AtCur, AtNext, IsRun, Between, Compared, Learnt, Knows}
 use Rattle.list_laws.specs.Knowledge.IsRun.{ends, goes}
 use Rattle.list_laws.proofs.Places.{next_versioned}
 use Rattle.list_laws.proofs.Changes.{link_grows, named_grows, rank_kept, place_kept}
 use Rattle.list_laws.proofs.Links.{positive, node_word, link_word, link_versioned, node_of, named_link, block_named}
-use Rattle.list_laws.proofs.Later.{Rises, Later}
-use Rattle.list_laws.proofs.Entries.{same_entry}
-
--- ---- words that rise
-
-rises_version : (word after : ℕ) → Rises word after → versioned_version word ≤ versioned_version after
-rises_version word after (inl same) = omega (arith, ap versioned_version same)
-rises_version word after (inr (inl cleared)) = omega (arith, ap versioned_version cleared, version-cleared word)
-rises_version word after (inr (inr higher)) = omega arith
-
-rises_seen : (word after seen : ℕ) → Rises word after → versioned_bit seen ≡ 0 → (word ≡ seen) ⊎ (versioned_version seen < versioned_version word) → (after ≡ seen) ⊎ (versioned_version seen < versioned_version after)
-rises_seen word after seen rises clear (inr past) = inr (omega (arith, rises_version word after rises))
-rises_seen word after seen (inl same) clear (inl at) = inl (same ∙ at)
-rises_seen word after seen (inr (inl cleared)) clear (inl at) = inl (cleared ∙ ap cleared_word at ∙ cleared-clear seen clear)
-rises_seen word after seen (inr (inr higher)) clear (inl at) = inr (omega (arith, ap versioned_version at))
-
--- a place that is a client's stays one, as blocks stay used
-more_used : (first used more plain : Bool) (behind : Bool) → (used ≡ true → more ≡ true) → (first || (behind && used && plain)) ≡ true → (first || (behind && more && plain)) ≡ true
-more_used true used more plain behind grows e = refl
-more_used false used more plain false grows e = e
-more_used false true more plain true grows e = rw (grows refl) e
-more_used false false more plain true grows e = absurd (false≢true e)
+use Rattle.list_laws.proofs.Later.{Later}
+use Rattle.client_lemmas.proofs.Words.{rises_seen}
 
 module _ (lists : Lists) (are : AreLists lists) where
-  pub word_stays : (world after : World) → Later lists are world after → (place : ℕ) → is_word world place ≡ true → is_word after place ≡ true
-  word_stays world after kept place some =
-      let block = block_at place in
-      more_used (eqb place HEAD || eqb place TAIL) (world.used block) (after.used block) (eqb block 0 || not (is_state (field_at place))) (leb 32 place) (kept.used block) some
-
   -- ---- what was learnt
 
   module _ (world after : World) (sorted : AreSorted lists world) (kept : Later lists are world after) where
@@ -82,7 +51,7 @@ module _ (lists : Lists) (are : AreLists lists) where
         }
 
     value_frozen : (block : ℕ) → is_node world.changes block ≡ true → parity world.words (next_at block) ≡ 1 → versioned_value (after.words (next_at block)) ≡ versioned_value (world.words (next_at block))
-    value_frozen block node marked = kept.frozen (next_at block) (node_word lists are world sorted block node) (next_versioned lists are block) marked
+    value_frozen block node marked = kept.moves (next_at block) (node_word lists are world sorted block node) (next_versioned lists are block) marked
 
     run_kept : (cur reference : ℕ) → IsRun world cur reference → IsRun after cur reference
     run_kept cur reference (ends block at node marked leads) =
@@ -156,23 +125,3 @@ module _ (lists : Lists) (are : AreLists lists) where
     pub knows_later : (searched : ListSearch) (op : Op) (since : ℕ) → Knows lists searched op world since → Knows lists searched op after since
     knows_later searched op since knows =
         record { serves = knows.serves; began = omega (arith, knows.began, kept.extends.longer); learnt = learnt_kept op.key since searched knows.learnt }
-
-  -- ---- a dead list
-
-  pub dead_later : (world after : World) (list : Listed) → Later lists are world after → IsDead lists list world → IsDead lists list after
-  dead_later world after list kept dead =
-      record {
-        entry = dead.entry;
-        listed = dead.listed;
-        word = word_stays world after kept dead.entry.target dead.word;
-        versioned = dead.versioned;
-        passed = omega (arith, dead.passed, rises_version (world.words dead.entry.target) (after.words dead.entry.target) (kept.rises dead.entry.target dead.word dead.versioned));
-        lost = λ t. by_took (kept.took list 0 t);
-      }
-    where
-      by_took : ¬ (Took world list 0 ⊎ ((entry : Entry) × (slice_get list.entries 0 ≡ Some entry) × (world.words entry.target ≡ entry.from)))
-      by_took (inl before) = dead.lost before
-      by_took (inr found) =
-          let same : dead.entry ≡ found.0 = same_entry list.entries 0 dead.entry found.0 dead.listed found.1 in
-          let at : world.words dead.entry.target ≡ dead.entry.from = subst (λ (entry : Entry). world.words entry.target ≡ entry.from) (sym same) found.2 in
-          omega (arith, dead.passed, ap versioned_version at)

@@ -1,46 +1,27 @@
 -- The laws of sorted lists: what their steps amount to, however many lists there are and wherever they begin.
-use Rattle.std.proofs.Common.{◌≡◌, ◌≢◌, ℕ, refl, sym, ap, subst, Option, Some, None, true, false, Bool, arith}
-use Rattle.std.specs.Prelude.{slice_get}
-use Rattle.std.proofs.lemmas.Bool.{true≢false, eqb-true}
-use Rattle.word_fields.specs.Versioned.{versioned_version}
+use Rattle.std.proofs.Common.{◌≡◌, ℕ, refl, arith}
+use Rattle.std.proofs.lemmas.Bool.{eqb-true}
 use Rattle.node_arena.specs.Opening.{opening_word}
-use Rattle.normal_traits.specs.declared.lists.Entry.{Entry}
-use Rattle.normal_traits.specs.World.{Listed, Change, World, Among, Took}
 use Rattle.normal_traits.specs.Laws.{Laws}
 use Rattle.list_laws.specs.Lists.{Lists, AreLists, the_list}
 use Rattle.list_laws.specs.Search.{asked}
-use Rattle.list_laws.specs.Shape.{AreSorted}
-use Rattle.list_laws.specs.Knowledge.{IsDead}
 use Rattle.list_laws.specs.Form.{list_form}
 use Rattle.list_laws.proofs.Fitting.{begun_fits, found_fits, wrapped_fits}
 use Rattle.list_laws.proofs.Places.{note_plain, second_block}
-use Rattle.list_laws.proofs.Entries.{same_entry}
 use Rattle.list_laws.proofs.Commands.{key_limit}
-use Rattle.list_laws.proofs.Later.{later, went, went_later, asked_clear}
-use Rattle.list_laws.proofs.Kept.{knows_later, dead_later}
+use Rattle.list_laws.proofs.Later.{Freezes, later, requested_later, asked_moves}
+use Rattle.list_laws.proofs.Kept.{knows_later}
 use Rattle.list_laws.proofs.Keeps.{shape_keeps, search_keeps}
 use Rattle.list_laws.proofs.Opening.{opens, effective_at, causes_within}
 use Rattle.list_laws.proofs.Searching.{begins_knowing, asks_well, fed_well}
 use Rattle.list_laws.proofs.Offers.{contends, lists_well, offers, same_entries}
 use Rattle.list_laws.proofs.Wrapping.{begun_well}
-
-none_beside : (list : Listed) → None ≢ Some list
-none_beside list e = true≢false (ap is_none e)
-  where
-    is_none : Option Listed → Bool
-    is_none None = true
-    is_none (Some other) = false
+use Rattle.list_laws.proofs.Changes.{Extends}
+use Rattle.client_lemmas.proofs.Entries.{none_beside}
+use Rattle.client_lemmas.proofs.Requests.{went}
+use Rattle.client_lemmas.proofs.Lost.{lost_first, lost_later, lost_unchanged}
 
 module _ (lists : Lists) (are : AreLists lists) where
-  dead_unchanged : (world : World) (list : Listed) (change : Change) → AreSorted lists world → IsDead lists list world → Among change world.changes → change.list ≢ list
-  dead_unchanged world list change sorted dead among same = dead.lost (subst (λ (other : Listed). Took world other 0) same (sorted.made.took change among))
-
-  dead_first : (world : World) (list : Listed) (entry : Entry) → IsDead lists list world → slice_get list.entries 0 ≡ Some entry → world.words entry.target ≢ entry.from
-  dead_first world list entry dead listed at =
-      let same : dead.entry ≡ entry = same_entry list.entries 0 dead.entry entry dead.listed listed in
-      let there : world.words dead.entry.target ≡ dead.entry.from = subst (λ (e : Entry). world.words e.target ≡ e.from) (sym same) at in
-      omega (arith, dead.passed, ap versioned_version there)
-
   pub laws : Laws (list_form lists)
   laws =
       record {
@@ -56,11 +37,11 @@ module _ (lists : Lists) (are : AreLists lists) where
         notes_plain = λ block field some low. note_plain lists are block field some low;
         knows_kept = λ world after searched op since command sorted knows step. knows_later lists are world after sorted (later lists are world after sorted step) searched op since knows;
         follows_kept = λ world after wrap list stop sorted follows step. follows;
-        dead_kept = λ world after list sorted dead step. dead_later lists are world after list (later lists are world after sorted step) dead;
+        dead_kept = λ world after list sorted dead step. lost_later (list_form lists) Extends Freezes world after list (later lists are world after sorted step) dead;
         search_asks_well = λ world searched op since command sorted asks knows. asks_well lists are world searched op.key since sorted asks knows.learnt;
         search_fed = λ world after seen searched op since command sorted asks knows requested.
-            let w = went lists are (asked searched) world after seen requested in
-            let kept = went_later lists are (asked searched) world after seen (asked_clear lists are world op.key since searched asks knows.learnt) w in
+            let w = went (list_form lists) (asked searched) world after seen requested in
+            let kept = requested_later lists are (asked searched) world after seen sorted (asked_moves lists are world op.key since searched asks knows.learnt) requested in
             fed_well lists are world after seen searched op since (key_limit lists.client are.sets op command) sorted (search_keeps lists are world after seen op.key since searched sorted kept asks knows.learnt w) asks knows
             (knows_later lists are world after sorted kept searched op since knows) w;
         contends = λ searched seen asks found. contends lists searched seen found;
@@ -71,8 +52,8 @@ module _ (lists : Lists) (are : AreLists lists) where
         wrap_asks_well = λ world wrap list stop sorted going follows. absurd follows;
         wrap_begun = λ world list searched since stop sorted offer stopped. begun_well lists are world sorted list searched since stop offer stopped;
         wrap_fed = λ world after seen wrap list stop command sorted going follows requested. absurd follows;
-        dead_unchanged = dead_unchanged;
-        dead_first = λ world list searched since entry sorted dead offer fresh listed. dead_first world list entry dead listed;
+        dead_unchanged = λ world list change sorted. lost_unchanged (list_form lists) world list change sorted.made;
+        dead_first = λ world list searched since entry sorted dead offer fresh listed. lost_first (list_form lists) world list entry dead listed;
         beside = λ world list entry sorted e. absurd (none_beside list e);
         answers_fit = λ world after seen searched op since command sorted asks knows requested. found_fits searched seen;
         begun_fits = λ world list searched since stop sorted offer stopped. begun_fits list.call.op list.entries stop;

@@ -1,6 +1,6 @@
 -- Why a search in a list gives up, and what is true of the list that it names.
-use Rattle.std.proofs.Common.{◌≡◌, ◌≢◌, ℕ, ◌+◌, ◌*◌, ◌^◌, ◌<◌, Bool, true, false, not, cond, eqb, leb, ◌||◌, [], ◌∷◌, refl, sym, ap, ◌∙◌, subst, inl, inr, ◌⊎◌, arith}
-use Rattle.std.specs.Prelude.{AllPairs, IsTrue}
+use Rattle.std.proofs.Common.{◌≡◌, ◌≢◌, ℕ, ◌+◌, ◌*◌, ◌^◌, ◌<◌, Bool, true, false, cond, eqb, leb, ◌||◌, [], ◌∷◌, refl, sym, ap, ◌∙◌, subst, inl, inr, ◌⊎◌, arith}
+use Rattle.std.specs.Prelude.{IsTrue}
 use Rattle.std.proofs.lemmas.Bool.{false≢true, eqb-true, cond-true, cond-false, or_left, or_right, or_cases, eq-eqb}
 use Rattle.std.proofs.lemmas.List.Elements.{All-nil, All-cons}
 use Rattle.std.proofs.lemmas.List.Kept.{AllPairs-cons}
@@ -13,7 +13,7 @@ use Rattle.node_arena.specs.declared.places.TheConstants.{NODE_KEY, NODE_NEXT}
 use Rattle.node_arena.specs.MemoryMap.{reference_to}
 use Rattle.node_arena.proofs.PlaceLemmas.{node_place-reference_to}
 use Rattle.normal_traits.specs.declared.form.Found.{Found}
-use Rattle.normal_traits.specs.declared.form.Found.TheVariants.{Going, Ready, Answer, Contended}
+use Rattle.normal_traits.specs.declared.form.Found.TheVariants.{Going, Ready, Contended}
 use Rattle.normal_traits.specs.declared.lists.Entry.{Entry}
 use Rattle.normal_traits.specs.World.{World}
 use Rattle.normal_traits.specs.Laws.{MayContend, IsGoodEntry, IsGoodStore, IsGoodOffer}
@@ -32,15 +32,10 @@ use Rattle.list_laws.specs.Form.{list_form}
 use Rattle.list_laws.proofs.Places.{key_is, next_is, rank_next, rank_named}
 use Rattle.list_laws.proofs.Links.{positive, link_word, link_versioned, node_of, named_link}
 use Rattle.list_laws.proofs.Entries.{adds_is}
+use Rattle.client_lemmas.proofs.Offers.{may_exhaust_at, one_entry, two_apart}
+use Rattle.client_lemmas.proofs.Outcomes.{gives_up}
 
 -- ---- giving up
-
--- each finding as a test, which tells giving up from the others
-abbrev gives_up : Found → Bool
-gives_up Going = false
-gives_up Ready = false
-gives_up (Answer outcome) = false
-gives_up Contended = true
 
 abbrev gives : ListSearch × Found → Bool
 gives result = gives_up result.1
@@ -132,73 +127,49 @@ module _ (lists : Lists) where
 
 -- ---- the list
 
-may_exhaust_at : (op : Op) (code : ℕ) → op.code ≡ code → not (eqb code 5 || eqb code 8) ≡ true → may_exhaust op ≡ true
-may_exhaust_at op code e some = ap (λ c. not (eqb c 5 || eqb c 8)) e ∙ some
-
 pub lists_well : (searched : ListSearch) (op : Op) → IsReady searched → Serves searched op → IsTrue (may_list op) × IsTrue (may_exhaust op)
 lists_well (AddReady left cur) op ready serves = (or_left (eqb op.code ADD) (eqb op.code DEL) (eq-eqb op.code ADD serves), may_exhaust_at op ADD serves refl)
 lists_well (DelReady left cur next) op ready serves = (or_right (eqb op.code ADD) (eqb op.code DEL) (eq-eqb op.code DEL serves), may_exhaust_at op DEL serves refl)
-lists_well (Start sought start) op ready serves = absurd ready
-lists_well (Next sought left run cur) op ready serves = absurd ready
-lists_well (Key sought left run cur next) op ready serves = absurd ready
-lists_well (Unlink sought left cur next found) op ready serves = absurd ready
+lists_well _ op ready serves = absurd ready
 
 -- only an add's list uses the block
 pub same_entries : (searched : ListSearch) (op : Op) (block other : ℕ) → is_add op ≡ false → (offered searched op block).entries ≡ (offered searched op other).entries
 same_entries (AddReady left cur) op block other del =
     ap (λ b. (add_offer left cur op.key b).entries) (cond-false (is_add op) block 0 del ∙ sym (cond-false (is_add op) other 0 del))
-same_entries (DelReady left cur next) op block other del = refl
-same_entries (Start sought start) op block other del = refl
-same_entries (Next sought left run cur) op block other del = refl
-same_entries (Key sought left run cur next) op block other del = refl
-same_entries (Unlink sought left cur next found) op block other del = refl
+same_entries _ op block other del = refl
 
 module _ (lists : Lists) (are : AreLists lists) (world : World) (sorted : AreSorted lists world) where
-  -- the places of an add's two stores differ
-  two_differ : (block key cur : ℕ) → AllPairs (λ (a b : ℕ × ℕ). a.0 ≢ b.0) ((key_at block, key) ∷ (next_at block, 2 * cur) ∷ [])
-  two_differ block key cur =
-      AllPairs-cons (λ (a b : ℕ × ℕ). a.0 ≢ b.0) (key_at block, key) ((next_at block, 2 * cur) ∷ [])
-      (All-cons (λ (b : ℕ × ℕ). key_at block ≢ b.0) (next_at block, 2 * cur) [] (λ e. omega (arith, e, key_is block, next_is block)) (All-nil (λ (b : ℕ × ℕ). key_at block ≢ b.0)))
-      (λ i j d order low. absurd (omega (arith, order, low)))
-
   pub add_offers : (key since : ℕ) (left : Left) (cur block : ℕ) → Learnt lists world key since (AddReady left cur) → cur < 2 ^ 23 → key < KEY_LIMIT → block < 2 ^ 17 → IsGoodOffer (list_form lists) world block (add_offer left cur key block)
   add_offers key since left cur block l fits limit small =
-      record {
-        some = omega arith;
-        few = omega arith;
-        entries = All-cons (IsGoodEntry (list_form lists) world) (record { target = left.place; from = left.word; to = leading left.word (reference_to block 1) }) []
-            (record {
-              word = link_word lists are world sorted (lists.start_of key) left.place l.0.link;
-              versioned = link_versioned lists are world sorted (lists.start_of key) left.place l.0.link;
-              listable = link_versioned lists are world sorted (lists.start_of key) left.place l.0.link;
-              clear = l.2;
-              seen = l.0.seen;
-              changed = (2 * reference_to block 1, omega (arith, small), refl);
-            })
-            (All-nil (IsGoodEntry (list_form lists) world));
-        apart = λ i j d order low. absurd (omega (arith, order, low));
-        stores = All-cons (IsGoodStore (list_form lists) block) (key_at block, key) ((next_at block, 2 * cur) ∷ [])
-            (record {
-              field = 12;
-              behind = omega arith;
-              within = omega arith;
-              place = node_place-reference_to block 1 NODE_KEY (omega arith) (omega arith);
-              word = omega (arith, limit);
-              versioned = λ is. omega (arith, limit);
-            })
-            (All-cons (IsGoodStore (list_form lists) block) (next_at block, 2 * cur) []
-            (record {
-              field = 14;
-              behind = omega arith;
-              within = omega arith;
-              place = node_place-reference_to block 1 NODE_NEXT (omega arith) (omega arith);
-              word = omega (arith, fits);
-              versioned = λ is. omega (arith, fits);
-            })
-            (All-nil (IsGoodStore (list_form lists) block)));
-        distinct = two_differ block key cur;
-        count = omega arith;
-      }
+      one_entry (list_form lists) world block (record { target = left.place; from = left.word; to = leading left.word (reference_to block 1) }) ((key_at block, key) ∷ (next_at block, 2 * cur) ∷ [])
+      (record {
+        word = link_word lists are world sorted (lists.start_of key) left.place l.0.link;
+        versioned = link_versioned lists are world sorted (lists.start_of key) left.place l.0.link;
+        listable = link_versioned lists are world sorted (lists.start_of key) left.place l.0.link;
+        clear = l.2;
+        seen = l.0.seen;
+        changed = (2 * reference_to block 1, omega (arith, small), refl);
+      })
+      (All-cons (IsGoodStore (list_form lists) block) (key_at block, key) ((next_at block, 2 * cur) ∷ [])
+      (record {
+        field = 12;
+        behind = omega arith;
+        within = omega arith;
+        place = node_place-reference_to block 1 NODE_KEY (omega arith) (omega arith);
+        word = omega (arith, limit);
+        versioned = λ is. omega (arith, limit);
+      })
+      (All-cons (IsGoodStore (list_form lists) block) (next_at block, 2 * cur) []
+      (record {
+        field = 14;
+        behind = omega arith;
+        within = omega arith;
+        place = node_place-reference_to block 1 NODE_NEXT (omega arith) (omega arith);
+        word = omega (arith, fits);
+        versioned = λ is. omega (arith, fits);
+      })
+      (All-nil (IsGoodStore (list_form lists) block))))
+      (two_apart (key_at block, key) (next_at block, 2 * cur) (λ e. omega (arith, e, key_is block, next_is block))) (omega arith)
 
   -- the two places of a del differ: the left one's rank is lower
   del_apart : (key since : ℕ) (left : Left) (cur next : ℕ) → Learnt lists world key since (DelReady left cur next) → next_place cur ≢ left.place
@@ -255,7 +226,4 @@ module _ (lists : Lists) (are : AreLists lists) (world : World) (sorted : AreSor
       subst (IsGoodOffer (list_form lists) world block) (sym (ap (add_offer left cur op.key) (cond-true (is_add op) block 0 (adds_is op serves))))
       (add_offers op.key since left cur block l ready limit small)
   offers (DelReady left cur next) op since block limit serves l ready small = del_offers op.key since left cur next block l
-  offers (Start sought start) op since block limit serves l ready small = absurd ready
-  offers (Next sought left run cur) op since block limit serves l ready small = absurd ready
-  offers (Key sought left run cur next) op since block limit serves l ready small = absurd ready
-  offers (Unlink sought left cur next found) op since block limit serves l ready small = absurd ready
+  offers _ op since block limit serves l ready small = absurd ready

@@ -14,8 +14,10 @@ use Rattle.list_laws.specs.Shape.{AreEffective, AreSorted}
 use Rattle.list_laws.specs.Form.{list_form}
 use Rattle.list_laws.proofs.Places.{rank_start}
 use Rattle.list_laws.proofs.Sets.{object_is, effective_behind}
-use Rattle.list_laws.proofs.Journal.{all_among, IsCause, known_cause}
-use Rattle.list_laws.proofs.Adds.{value_small}
+use Rattle.list_laws.proofs.Journal.{IsCause, known_cause}
+use Rattle.client_lemmas.proofs.Words.{value_small}
+use Rattle.client_lemmas.proofs.Growing.{all_among}
+use Rattle.client_lemmas.proofs.Made.{none_made}
 
 module _ (lists : Lists) (are : AreLists lists) where
   -- at the opening each list begins with null
@@ -36,7 +38,7 @@ module _ (lists : Lists) (are : AreLists lists) where
         first = refl;
         stored = λ block node. absurd (false≢true node);
         effective = tt;
-        made = record { took = λ change a. absurd a; blocks = λ change a. absurd a; lists_differ = λ i j d order low. absurd (omega arith); blocks_differ = λ i j d order low. absurd (omega arith) };
+        made = none_made (opening_world (list_form lists)) refl;
         path = λ block. false;
         has_path = record {
           leading = record {

@@ -1,25 +1,14 @@
 -- The places of lists: which are a client's words, which are versioned, and which differ.
-use Rattle.std.proofs.Common.{◌≡◌, ◌≢◌, ℕ, ◌+◌, ◌-◌, ◌*◌, ◌/◌, ◌%◌, ◌<◌, ◌≤◌, Bool, true, false, not, eqb, leb, ltb, ◌||◌, ◌&&◌, List, refl, sym, ap, ◌∙◌, arith}
-use Rattle.std.proofs.lemmas.Bool.{true≢false, ne_eqb, eq-eqb, le-leb, lt-ltb, le-ltb, cond-true, cond-false, or_left, or_right}
+use Rattle.std.proofs.Common.{◌≡◌, ◌≢◌, ℕ, ◌+◌, ◌-◌, ◌*◌, ◌/◌, ◌<◌, ◌≤◌, Bool, true, false, not, eqb, leb, ltb, ◌||◌, ◌&&◌, List, refl, sym, ap, ◌∙◌, arith}
+use Rattle.std.proofs.lemmas.Bool.{ne_eqb, eq-eqb, le-leb, lt-ltb, le-ltb, cond-true, cond-false, or_left, or_right}
 use Rattle.node_arena.specs.MemoryMap.{block_place, block_at, field_at, reference_to}
 use Rattle.node_arena.proofs.PlaceLemmas.{node_place-reference_to, block-reference_to, field_at-block_place}
 use Rattle.normal_traits.specs.World.{Change, World, is_word, is_state}
-use Rattle.normal_traits.specs.Steps.{with_word}
 use Rattle.list_laws.specs.Lists.{Lists, AreLists, is_versioned, is_next}
 use Rattle.list_laws.specs.Nodes.{next_at, key_at, node_rank, place_rank, rank_of, LAST_RANK}
 use Rattle.list_laws.specs.Path.{stands}
-
--- ---- words at places
-
-pub same_place : (place word : ℕ) (words : ℕ → ℕ) → with_word place word words place ≡ word
-same_place place word words = cond-true (eqb place place) word (words place) (eq-eqb place place refl)
-
-pub other_place : (place word : ℕ) (words : ℕ → ℕ) (at : ℕ) → at ≢ place → with_word place word words at ≡ words at
-other_place place word words at differs = cond-false (eqb at place) word (words at) (ne_eqb at place differs)
-
--- a client's word stands at no place that isn't one
-pub not_word : (world : World) (place at : ℕ) → is_word world place ≡ false → is_word world at ≡ true → at ≢ place
-not_word world place at none some e = true≢false (sym some ∙ ap (is_word world) e ∙ none)
+use Rattle.node_arena.specs.declared.places.TheConstants.{NODE_KEY, NODE_NEXT}
+use Rattle.client_lemmas.proofs.Places.{node_word, block_of_place, field_of_place}
 
 -- ---- the places of nodes as numbers
 
@@ -43,21 +32,8 @@ block_number : (place : ℕ) → block_at place ≡ (place - 32) / 32
 unfolding block_at
 block_number place = refl
 
-field_number : (place : ℕ) → field_at place ≡ (place - 32) % 32
-unfolding field_at
-field_number place = refl
-
 pub block_of_next : (block : ℕ) → block_at (next_at block) ≡ block
-block_of_next block = omega (arith, block_number (next_at block), next_is block)
-
-pub block_of_key : (block : ℕ) → block_at (key_at block) ≡ block
-block_of_key block = omega (arith, block_number (key_at block), key_is block)
-
-field_of_next : (block : ℕ) → field_at (next_at block) ≡ 14
-field_of_next block = omega (arith, field_number (next_at block), next_is block)
-
-field_of_key : (block : ℕ) → field_at (key_at block) ≡ 12
-field_of_key block = omega (arith, field_number (key_at block), key_is block)
+block_of_next block = block_of_place block NODE_NEXT (omega arith)
 
 pub same_next : (block other : ℕ) → next_at block ≡ next_at other → block ≡ other
 same_next block other e = omega (arith, e, next_is block, next_is other)
@@ -91,24 +67,11 @@ rank_some changes reference some = cond-false (eqb reference 0) LAST_RANK (node_
 
 -- ---- a client's words
 
-or_true : (a : Bool) → (a || true) ≡ true
-or_true true = refl
-or_true false = refl
-
-is_word_behind : (a b c d e : Bool) → a ≡ false → b ≡ false → c ≡ true → d ≡ true → e ≡ false → (z : Bool) → (a || b || (c && d && (z || not e))) ≡ true
-is_word_behind a b c d e low low' behind used plain z = rw (low, low', behind, used, plain) (or_true z)
-
-field_word : (world : World) (place block field : ℕ) → 32 ≤ place → block_at place ≡ block → field_at place ≡ field → 12 ≤ field → world.used block ≡ true → is_word world place ≡ true
-field_word world place block field low in_block at high used =
-    let plain : is_state (field_at place) ≡ false = rw at (rw (ne_eqb field 9 (λ e. omega (arith, high, e)), ne_eqb field 10 (λ e. omega (arith, high, e))) refl) in
-    is_word_behind (eqb place 20) (eqb place 21) (leb 32 place) (world.used (block_at place)) (is_state (field_at place))
-    (ne_eqb place 20 (λ e. omega (arith, low, e))) (ne_eqb place 21 (λ e. omega (arith, low, e))) (le-leb 32 place low) (ap world.used in_block ∙ used) plain (eqb (block_at place) 0)
-
 pub next_word : (world : World) (block : ℕ) → world.used block ≡ true → is_word world (next_at block) ≡ true
-next_word world block used = field_word world (next_at block) block 14 (omega (arith, next_is block)) (block_of_next block) (field_of_next block) (omega arith) used
+next_word world block used = node_word world block NODE_NEXT (omega arith) used
 
 pub key_word : (world : World) (block : ℕ) → world.used block ≡ true → is_word world (key_at block) ≡ true
-key_word world block used = field_word world (key_at block) block 12 (omega (arith, key_is block)) (block_of_key block) (field_of_key block) (omega arith) used
+key_word world block used = node_word world block NODE_KEY (omega arith) used
 
 in_first : (a b c d : Bool) → a ≡ false → b ≡ false → c ≡ true → d ≡ true → (e z : Bool) → e ≡ true → (a || b || (c && d && (e || z))) ≡ true
 in_first a b c d low low' behind used e z first = rw (low, low', behind, used, first) refl
@@ -129,7 +92,7 @@ module _ (lists : Lists) (are : AreLists lists) where
   pub next_versioned : (block : ℕ) → is_versioned lists (next_at block) ≡ true
   next_versioned block =
       or_right (lists.is_start (next_at block)) (is_next (next_at block))
-      (rw (le-leb 32 (next_at block) (omega (arith, next_is block)), eq-eqb (field_at (next_at block)) 14 (field_of_next block)) refl)
+      (rw (le-leb 32 (next_at block) (omega (arith, next_is block)), eq-eqb (field_at (next_at block)) 14 (field_of_place block NODE_NEXT (omega arith))) refl)
 
   -- only block 0 has beginnings
   pub not_start : (place : ℕ) → 64 ≤ place → lists.is_start place ≡ false
@@ -144,7 +107,7 @@ module _ (lists : Lists) (are : AreLists lists) where
       rw (not_start place high, ne_eqb (field_at place) 14 (λ e. other (sym at ∙ e)), le-leb 32 place (omega (arith, high))) refl
 
   pub key_plain : (block : ℕ) → 0 < block → is_versioned lists (key_at block) ≡ false
-  key_plain block some = plain_field (key_at block) 12 (omega (arith, key_is block, some)) (field_of_key block) (λ e. omega (arith, e))
+  key_plain block some = plain_field (key_at block) 12 (omega (arith, key_is block, some)) (field_of_place block NODE_KEY (omega arith)) (λ e. omega (arith, e))
 
   pub note_plain : (block field : ℕ) → 0 < block → field < 12 → is_versioned lists (block_place block field) ≡ false
   note_plain block field some low = plain_field (block_place block field) field (note_behind block field some) (field_at-block_place block field (omega (arith, low))) (λ e. omega (arith, low, e))

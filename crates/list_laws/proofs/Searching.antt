@@ -1,17 +1,16 @@
 -- The laws of the search: what it asks for, and what it learns from a step.
-use Rattle.std.proofs.Common.{◌≡◌, ◌≢◌, ℕ, ◌+◌, ◌-◌, ◌*◌, ◌/◌, ◌^◌, ◌<◌, ◌≤◌, Bool, true, false, cond, eqb, leb, ◌||◌, List, length, drop, refl, sym, ap, ◌∙◌, subst, inl, inr, arith}
+use Rattle.std.proofs.Common.{◌≡◌, ◌≢◌, ℕ, ◌+◌, ◌*◌, ◌/◌, ◌^◌, ◌<◌, ◌≤◌, Bool, true, false, cond, eqb, leb, ◌||◌, length, refl, sym, ap, ◌∙◌, subst, inl, inr, arith}
 use Rattle.std.proofs.lemmas.Bool.{true≢false, eqb-true, eqb-false, leb-true, leb-false, cond-false, ne_eqb, or_parts}
 use Rattle.lin_report.specs.declared.calls.Op.{Op}
 use Rattle.lin_report.specs.Commands.{KEY_LIMIT, IsCommandOf}
 use Rattle.lin_report.specs.Object.{object_of}
 use Rattle.step_memory.specs.declared.steps.Seen.{Seen}
-use Rattle.word_fields.specs.Versioned.{versioned_value, versioned_bit, is_modified, value_below}
-use Rattle.word_fields.proofs.VersionedLemmas.{bit_below, value-changed}
+use Rattle.word_fields.specs.Versioned.{versioned_value, is_modified, value_below}
+use Rattle.word_fields.proofs.VersionedLemmas.{value-changed}
 use Rattle.node_arena.specs.MemoryMap.{reference_to}
-use Rattle.normal_traits.specs.declared.form.Found.{Found}
 use Rattle.normal_traits.specs.declared.form.Found.TheVariants.{Going, Ready, Contended}
-use Rattle.normal_traits.specs.World.{Change, World, is_word, first_changes}
-use Rattle.normal_traits.specs.Laws.{AsksWell, FoundWell}
+use Rattle.normal_traits.specs.World.{World, is_word}
+use Rattle.normal_traits.specs.Laws.{AsksWell}
 use Rattle.list_laws.specs.declared.states.Aim.{Aim}
 use Rattle.list_laws.specs.declared.states.Aim.TheVariants.{Add, Del, Has}
 use Rattle.list_laws.specs.declared.states.Sought.{Sought}
@@ -26,26 +25,19 @@ use Rattle.list_laws.specs.Shape.{AreSorted}
 use Rattle.list_laws.specs.Knowledge.{WasHeld, WasGap, AtLeft, AtCur, AtNext, IsRun, Between, Compared, Learnt, code_of, IsFor, Knows}
 use Rattle.list_laws.specs.Knowledge.IsRun.{ends}
 use Rattle.list_laws.specs.Form.{list_form}
-use Rattle.list_laws.proofs.Places.{start_word, key_word, rank_start, rank_next, rank_named, same_place}
+use Rattle.list_laws.proofs.Places.{start_word, key_word, rank_start, rank_next, rank_named}
 use Rattle.list_laws.proofs.Links.{positive, link_word, link_versioned, node_of, named_link, block_named}
 use Rattle.list_laws.proofs.Commands.{aim_is}
 use Rattle.list_laws.proofs.Sets.{object_is, has_right, del_right, add_right}
 use Rattle.list_laws.proofs.Marks.{stands_now, none_held}
 use Rattle.list_laws.proofs.Runs.{run_more}
-use Rattle.list_laws.proofs.Later.{Went}
-
-clear_from : (word : ℕ) → is_modified word ≡ false → versioned_bit word ≡ 0
-clear_from word e = omega (arith, bit_below word, eqb-false (versioned_bit word) 1 e)
+use Rattle.client_lemmas.proofs.Words.{clear_from, same_place}
+use Rattle.client_lemmas.proofs.Growing.{first_all}
+use Rattle.client_lemmas.proofs.Requests.{Went, from_load}
+use Rattle.client_lemmas.proofs.Outcomes.{FedWell}
 
 pub led_below : (word : ℕ) → led word < 2 ^ 23
 led_below word = omega (arith, value_below word)
-
--- all changes are the first ones
-all_first : (changes : List Change) → first_changes (length changes) changes ≡ changes
-all_first changes = ap (λ n. drop n changes) (none_left (length changes))
-  where
-    none_left : (n : ℕ) → n - n ≡ 0
-    none_left n = omega arith
 
 module _ (lists : Lists) (are : AreLists lists) where
   -- ---- the beginning
@@ -73,28 +65,24 @@ module _ (lists : Lists) (are : AreLists lists) where
 
   -- ---- what it finds
 
-  -- what a fed search knows, and what it found, are right
-  abbrev FedWell : World → Op → ℕ → ListSearch × Found → Type 0
-  FedWell world op since result = Knows lists result.0 op world since × FoundWell (list_form lists) world op since result.0 result.1
-
   -- the state in which a search stays where it is over
   module _ (world : World) (sorted : AreSorted lists world) (op : Op) (since : ℕ) (limit : op.key < KEY_LIMIT) (stay : ListSearch) (stays : Knows lists stay op world since) (left : Left) (cur : ℕ)
       (small : cur < 2 ^ 23) (at : AtLeft lists world op.key left) (was : AtCur lists world op.key left cur) where
-    absent_well : (aim : Aim) → op.code ≡ code_of aim → led left.word ≡ cur → op.key + 1 < rank_of world.changes cur → WasHeld world.changes since op.key false → FedWell world op since (decided_absent stay aim left cur)
+    absent_well : (aim : Aim) → op.code ≡ code_of aim → led left.word ≡ cur → op.key + 1 < rank_of world.changes cur → WasHeld world.changes since op.key false → FedWell (list_form lists) world op since (decided_absent stay aim left cur)
     absent_well Add code leads above absent = by_bit (is_modified left.word) refl
       where
-        by_bit : (set : Bool) → is_modified left.word ≡ set → FedWell world op since (cond set (stay, Contended) (AddReady left cur, Ready))
+        by_bit : (set : Bool) → is_modified left.word ≡ set → FedWell (list_form lists) world op since (cond set (stay, Contended) (AddReady left cur, Ready))
         by_bit true e = (stays, tt)
         by_bit false e = (record { serves = code; began = stays.began; learnt = (at, was, clear_from left.word e, leads, above) }, small)
     absent_well Del code leads above absent = (stays, (del_right (object_of lists.client) (object_is lists.client are.sets) world sorted.effective op since code absent, tt))
     absent_well Has code leads above absent = (stays, (has_right (object_of lists.client) (object_is lists.client are.sets) world sorted.effective op since false code absent, tt))
 
     found_well : (next : ℕ) (aim : Aim) → op.code ≡ code_of aim → led left.word ≡ cur → rank_of world.changes cur ≡ op.key + 1 → AtNext lists world op.key since cur next → WasHeld world.changes since op.key true
-        → FedWell world op since (decided_found stay aim left cur next)
+        → FedWell (list_form lists) world op since (decided_found stay aim left cur next)
     found_well next Add code leads equal at_next present = (stays, (add_right (object_of lists.client) (object_is lists.client are.sets) world sorted.effective op since code present, tt))
     found_well next Del code leads equal at_next present = by_bit (is_modified left.word || is_modified next) refl
       where
-        by_bit : (set : Bool) → (is_modified left.word || is_modified next) ≡ set → FedWell world op since (cond set (stay, Contended) (DelReady left cur next, Ready))
+        by_bit : (set : Bool) → (is_modified left.word || is_modified next) ≡ set → FedWell (list_form lists) world op since (cond set (stay, Contended) (DelReady left cur next, Ready))
         by_bit true e = (stays, tt)
         by_bit false e =
             let clear = or_parts (is_modified left.word) (is_modified next) e in
@@ -107,16 +95,16 @@ module _ (lists : Lists) (are : AreLists lists) where
         omega (arith, equal, cond-false (eqb cur 0) LAST_RANK (node_rank world.changes (cur / 4)) (ne_eqb cur 0 some))
 
     decided_well : (sought : Sought) (next : ℕ) (found : Bool) → IsFor sought op → led left.word ≡ cur → (found ≡ false → WasHeld world.changes since op.key false) → Compared lists world op.key since cur next found
-        → FedWell world op since (decided stay sought left cur next found)
+        → FedWell (list_form lists) world op since (decided stay sought left cur next found)
     decided_well sought next true for leads absent compared =
         found_well next sought.aim for.0 leads compared.0 compared.1 (subst (λ k. WasHeld world.changes since k true) (key_of_cur compared.1.some compared.0) compared.1.held)
     decided_well sought next false for leads absent compared = absent_well sought.aim for.0 leads compared (absent refl)
 
     finished_well : (sought : Sought) (run : Bool) (next : ℕ) (found : Bool) → IsFor sought op → Between lists world op.key since left cur run → Compared lists world op.key since cur next found
-        → FedWell world op since (finished stay sought left run cur next found)
+        → FedWell (list_form lists) world op since (finished stay sought left run cur next found)
     finished_well sought true next found for between compared = by_bit (is_modified left.word) refl
       where
-        by_bit : (set : Bool) → is_modified left.word ≡ set → FedWell world op since (cond set (stay, Contended) (Unlink sought left cur next found, Going))
+        by_bit : (set : Bool) → is_modified left.word ≡ set → FedWell (list_form lists) world op since (cond set (stay, Contended) (Unlink sought left cur next found, Going))
         by_bit true e = (stays, tt)
         by_bit false e = (record { serves = for; began = stays.began; learnt = (at, was, clear_from left.word e, between, compared) }, small)
     finished_well sought false next true for between compared = decided_well sought next true for between.0 (λ e. absurd (true≢false e)) compared
@@ -124,10 +112,10 @@ module _ (lists : Lists) (are : AreLists lists) where
         decided_well sought next false for between.0
         (λ e. record { count = between.1.count; not_before = between.1.not_before; made = between.1.made; held = between.1.none op.key refl at.below compared }) compared
 
-    moved_well : (sought : Sought) (run : Bool) → IsFor sought op → Between lists world op.key since left cur run → FedWell world op since (moved_on stay sought left run cur)
+    moved_well : (sought : Sought) (run : Bool) → IsFor sought op → Between lists world op.key since left cur run → FedWell (list_form lists) world op since (moved_on stay sought left run cur)
     moved_well sought run for between = by_null (eqb cur 0) refl
       where
-        by_null : (null : Bool) → eqb cur 0 ≡ null → FedWell world op since (cond null (finished stay sought left run cur 0 false) (Next sought left run cur, Going))
+        by_null : (null : Bool) → eqb cur 0 ≡ null → FedWell (list_form lists) world op since (cond null (finished stay sought left run cur 0 false) (Next sought left run cur, Going))
         by_null true e =
             let last : rank_of world.changes cur ≡ LAST_RANK = ap (rank_of world.changes) (eqb-true cur 0 e) in
             finished_well sought run 0 false for between (omega (arith, last, limit))
@@ -148,13 +136,13 @@ module _ (lists : Lists) (are : AreLists lists) where
           not_before = began;
           made = omega arith;
           none = λ key list low high.
-              ap (λ changes. holds changes key) (all_first world.changes)
+              ap (λ changes. holds changes key) (first_all world.changes)
               ∙ none_held lists world.changes world.words sorted.path sorted.has_path.living (λ place. led (world.words place)) is start place key link
               (stands_now lists world.changes world.words sorted.path sorted.has_path.living are (positive lists are world sorted) start place link even) list low high;
         }
 
     start_met : (op : Op) (since start : ℕ) (sought : Sought) → op.key < KEY_LIMIT → Knows lists (Start sought start) op world since
-        → FedWell world op since (moved_on (Start sought start) sought (record { place = start; word = world.words start }) false (led (world.words start)))
+        → FedWell (list_form lists) world op since (moved_on (Start sought start) sought (record { place = start; word = world.words start }) false (led (world.words start)))
     start_met op since start sought limit knows =
         let link : IsLink lists world.changes (lists.start_of op.key) start = inl (are.starts op.key, knows.learnt) in
         let even = ap (parity world.words) knows.learnt ∙ sorted.has_path.living.starts (lists.start_of op.key) (are.starts op.key) in
@@ -185,7 +173,7 @@ module _ (lists : Lists) (are : AreLists lists) where
         by_run false direct block named node odd' = ends block (direct.0 ∙ named) node odd' refl
 
     next_met : (op : Op) (since cur : ℕ) (sought : Sought) (left : Left) (run : Bool) → op.key < KEY_LIMIT → cur < 2 ^ 23 → Knows lists (Next sought left run cur) op world since
-        → FedWell world op since (met_next (Next sought left run cur) sought left run cur (world.words (next_place cur)))
+        → FedWell (list_form lists) world op since (met_next (Next sought left run cur) sought left run cur (world.words (next_place cur)))
     next_met op since cur sought left run limit small knows = by_mark (is_marked (world.words (next_place cur))) refl
       where
         l : Learnt lists world op.key since (Next sought left run cur)
@@ -204,13 +192,13 @@ module _ (lists : Lists) (are : AreLists lists) where
               count = length world.changes;
               not_before = knows.began;
               made = omega arith;
-              held = ap (λ changes. holds changes (node_key world.changes (cur / 4))) (all_first world.changes)
+              held = ap (λ changes. holds changes (node_key world.changes (cur / 4))) (first_all world.changes)
                   ∙ ap (λ b. holds world.changes (node_key world.changes b)) (block_named cur node.0 node.2)
                   ∙ sorted.has_path.living.held node.0 node.1.node (sym (ap (λ r. parity world.words (next_place r)) node.2) ∙ even);
             }
 
         by_mark : (marked : Bool) → is_marked (world.words (next_place cur)) ≡ marked
-            → FedWell world op since (cond marked (moved_on (Next sought left run cur) sought left true (led (world.words (next_place cur)))) (Key sought left run cur (world.words (next_place cur)), Going))
+            → FedWell (list_form lists) world op since (cond marked (moved_on (Next sought left run cur) sought left true (led (world.words (next_place cur)))) (Key sought left run cur (world.words (next_place cur)), Going))
         by_mark true e =
             moved_well world sorted op since limit (Next sought left run cur) knows left (led (world.words (next_place cur))) (led_below (world.words (next_place cur))) l.0
             (record { named = is.leads (lists.start_of op.key) (next_place cur) link; behind = omega (arith, l.1.behind, rank, is.rises (lists.start_of op.key) (next_place cur) link) })
@@ -240,7 +228,7 @@ module _ (lists : Lists) (are : AreLists lists) where
             )
 
     key_met : (op : Op) (since cur next : ℕ) (sought : Sought) (left : Left) (run : Bool) → op.key < KEY_LIMIT → cur < 2 ^ 23 → Knows lists (Key sought left run cur next) op world since
-        → FedWell world op since (met_key (Key sought left run cur next) sought left run cur next (world.words (key_place cur)))
+        → FedWell (list_form lists) world op since (met_key (Key sought left run cur next) sought left run cur next (world.words (key_place cur)))
     key_met op since cur next sought left run limit small knows = by_order (leb sought.key (world.words (key_place cur))) refl
       where
         l : Learnt lists world op.key since (Key sought left run cur next)
@@ -254,7 +242,7 @@ module _ (lists : Lists) (are : AreLists lists) where
             omega (arith, ap (rank_of world.changes) node.2, rank_named world.changes node.0, loaded)
 
         by_key : leb sought.key (world.words (key_place cur)) ≡ true → (found : Bool) → eqb (world.words (key_place cur)) sought.key ≡ found
-            → FedWell world op since (finished (Key sought left run cur next) sought left run cur next found)
+            → FedWell (list_form lists) world op since (finished (Key sought left run cur next) sought left run cur next found)
         by_key high true e =
             finished_well world sorted op since limit (Key sought left run cur next) knows left cur small l.0 l.1 sought run next true knows.serves l.2
             (omega (arith, rank, eqb-true (world.words (key_place cur)) sought.key e, knows.serves.1), l.3)
@@ -263,7 +251,7 @@ module _ (lists : Lists) (are : AreLists lists) where
             (omega (arith, rank, eqb-false (world.words (key_place cur)) sought.key e, leb-true sought.key (world.words (key_place cur)) high, knows.serves.1))
 
         by_order : (high : Bool) → leb sought.key (world.words (key_place cur)) ≡ high
-            → FedWell world op since (cond high (finished (Key sought left run cur next) sought left run cur next (eqb (world.words (key_place cur)) sought.key))
+            → FedWell (list_form lists) world op since (cond high (finished (Key sought left run cur next) sought left run cur next (eqb (world.words (key_place cur)) sought.key))
             (moved_on (Key sought left run cur next) sought (record { place = next_place cur; word = next }) false (led next)))
         by_order true e = by_key e (eqb (world.words (key_place cur)) sought.key) refl
         by_order false e =
@@ -278,7 +266,7 @@ module _ (lists : Lists) (are : AreLists lists) where
 
   unlink_met : (after : World) (sorted : AreSorted lists after) (op : Op) (since cur next : ℕ) (sought : Sought) (left : Left) (found : Bool) → op.key < KEY_LIMIT → cur < 2 ^ 23
       → Knows lists (Unlink sought left cur next found) op after since → after.words left.place ≡ leading left.word cur
-      → FedWell after op since (decided (Unlink sought left cur next found) sought (record { place = left.place; word = leading left.word cur }) cur next found)
+      → FedWell (list_form lists) after op since (decided (Unlink sought left cur next found) sought (record { place = left.place; word = leading left.word cur }) cur next found)
   unlink_met after sorted op since cur next sought left found limit small knows written =
       decided_well after sorted op since limit (Unlink sought left cur next found) knows (record { place = left.place; word = leading left.word cur }) cur small
       (record { link = l.0.link; below = l.0.below; even = omega (arith, value); seen = λ clear. inl written })
@@ -309,23 +297,18 @@ module _ (lists : Lists) (are : AreLists lists) where
 
   -- ---- a step
 
-  from_load : (world after : World) (seen : Seen) (place : ℕ) (P : World → Seen → Type 0) → (after ≡ world) × (seen ≡ record { before = world.words place; won = true })
-      → P world (record { before = world.words place; won = true }) → P after seen
-  from_load world after seen place P w p = subst (λ (a : World). P a seen) (sym w.0) (subst (P world) (sym w.1) p)
-
   pub fed_well : (world after : World) (seen : Seen) (searched : ListSearch) (op : Op) (since : ℕ) → op.key < KEY_LIMIT → AreSorted lists world → AreSorted lists after → Asks searched
-      → Knows lists searched op world since → Knows lists searched op after since → Went lists are (asked searched) world after seen → FedWell after op since (fed searched seen)
+      → Knows lists searched op world since → Knows lists searched op after since → Went (list_form lists) (asked searched) world after seen → FedWell (list_form lists) after op since (fed searched seen)
   fed_well world after seen (Start sought start) op since limit sorted later asks knows still w =
-      from_load world after seen start (λ a s. FedWell a op since (fed (Start sought start) s)) w (start_met world sorted op since start sought limit knows)
+      from_load world after seen start (λ a s. FedWell (list_form lists) a op since (fed (Start sought start) s)) w (start_met world sorted op since start sought limit knows)
   fed_well world after seen (Next sought left run cur) op since limit sorted later asks knows still w =
-      from_load world after seen (next_place cur) (λ a s. FedWell a op since (fed (Next sought left run cur) s)) w (next_met world sorted op since cur sought left run limit asks knows)
+      from_load world after seen (next_place cur) (λ a s. FedWell (list_form lists) a op since (fed (Next sought left run cur) s)) w (next_met world sorted op since cur sought left run limit asks knows)
   fed_well world after seen (Key sought left run cur next) op since limit sorted later asks knows still w =
-      from_load world after seen (key_place cur) (λ a s. FedWell a op since (fed (Key sought left run cur next) s)) w (key_met world sorted op since cur next sought left run limit asks knows)
+      from_load world after seen (key_place cur) (λ a s. FedWell (list_form lists) a op since (fed (Key sought left run cur next) s)) w (key_met world sorted op since cur next sought left run limit asks knows)
   fed_well world after seen (Unlink sought left cur next found) op since limit sorted later asks knows still (inl w) =
-      subst (λ (s : Seen). FedWell after op since (fed (Unlink sought left cur next found) s)) (sym w.1) (still, tt)
+      subst (λ (s : Seen). FedWell (list_form lists) after op since (fed (Unlink sought left cur next found) s)) (sym w.2) (still, tt)
   fed_well world after seen (Unlink sought left cur next found) op since limit sorted later asks knows still (inr w) =
-      subst (λ (s : Seen). FedWell after op since (fed (Unlink sought left cur next found) s)) (sym w.3)
+      subst (λ (s : Seen). FedWell (list_form lists) after op since (fed (Unlink sought left cur next found) s)) (sym w.3)
       (unlink_met after later op since cur next sought left found limit asks still
       (ap (λ (a : World). a.words left.place) w.2 ∙ same_place left.place (leading left.word cur) world.words))
-  fed_well world after seen (AddReady left cur) op since limit sorted later asks knows still w = absurd asks
-  fed_well world after seen (DelReady left cur next) op since limit sorted later asks knows still w = absurd asks
+  fed_well world after seen _ op since limit sorted later asks knows still w = absurd asks

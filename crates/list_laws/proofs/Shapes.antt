@@ -11,15 +11,19 @@ use Rattle.list_laws.specs.Nodes.{is_node, node_key, next_at, key_at, node_rank,
 use Rattle.list_laws.specs.Path.{stands, IsPath, parity}
 use Rattle.list_laws.specs.Shape.{UNLINKED, unlinks, IsStored, WasUnlinked, KnownBy, AreSorted}
 use Rattle.list_laws.specs.Knowledge.{IsRun}
-use Rattle.list_laws.proofs.Places.{same_place, other_place, next_is, key_is, key_word, key_plain, start_word, start_versioned, next_versioned, second_block, rank_some}
+use Rattle.list_laws.proofs.Places.{next_is, key_is, key_word, key_plain, start_word, start_versioned, next_versioned, second_block, rank_some}
 use Rattle.list_laws.proofs.Paths.SameNodes.{SameNodes, path_same}
 use Rattle.list_laws.proofs.Paths.Between.{without_between, is_between, between, not_between}
 use Rattle.list_laws.proofs.Paths.NodesUnlinked.{path_cut}
 use Rattle.list_laws.proofs.Links.{positive, node_word, link_word, link_versioned, node_of, block_named}
 use Rattle.list_laws.proofs.Runs.{HasRun, has_run, run_some}
 use Rattle.list_laws.proofs.Marks.{stands_now, live_moved}
-use Rattle.list_laws.proofs.Journal.{new_cause, journal_stays, journal_grows, made_stay}
-use Rattle.list_laws.proofs.Later.{Later, item_of}
+use Rattle.list_laws.proofs.Journal.{new_cause, journal_stays, journal_grows}
+use Rattle.list_laws.proofs.Later.{Later}
+use Rattle.normal_traits.proofs.Stays.{word_beside}
+use Rattle.client_lemmas.proofs.Words.{same_place}
+use Rattle.client_lemmas.proofs.Later.{item_of}
+use Rattle.client_lemmas.proofs.Made.{made_stay}
 
 pub same_nodes : (changes : List Change) → SameNodes changes changes
 same_nodes changes = record { nodes = λ block. refl; keys = λ block. refl }
@@ -54,7 +58,7 @@ module _ (lists : Lists) (are : AreLists lists) where
               stored_stays world (with_words words world) kept block node (sorted.stored block node)
               (plain (key_at block) (key_word world block (sorted.stored block node).used) (key_plain lists are block (some block node)));
           effective = sorted.effective;
-          made = made_stay lists are world (with_words words world) sorted kept sorted.path sorted.path (λ block node off. off) refl sorted.made;
+          made = made_stay world (with_words words world) kept.used kept.journal refl sorted.made;
           path = sorted.path;
           has_path = record {
             leading = path_same world.changes world.changes (same_nodes world.changes) lists (λ place. led (world.words place)) (λ place. led (words place)) sorted.path sorted.has_path.leading
@@ -113,7 +117,7 @@ module _ (lists : Lists) (are : AreLists lists) where
         let before : parity world.words place ≡ 0 = ap (parity world.words) here ∙ ap (λ w. versioned_value w % 2) same ∙ even in
         let after : versioned_value (with_word entry.target word world.words place) ≡ 2 * cur = ap (λ p. versioned_value (with_word entry.target word world.words p)) here ∙ ap versioned_value (same_place entry.target word world.words) ∙ value in
         omega (arith, before, after)
-    parity_at place (inr other) = ap (λ w. versioned_value w % 2) (other_place entry.target word world.words place other)
+    parity_at place (inr other) = ap (λ w. versioned_value w % 2) (word_beside entry.target word world.words place other)
 
     -- an unmarked node is not among those that are unlinked
     live_stays : (block : ℕ) → is_node world.changes block ≡ true → parity world.words (next_at block) ≡ 0 → sorted.path block ≡ true → without_between lists world.changes start entry.target cur sorted.path block ≡ true
@@ -147,13 +151,13 @@ module _ (lists : Lists) (are : AreLists lists) where
           first = sorted.first;
           stored = λ block node.
               stored_stays world after kept block node (sorted.stored block node)
-              (other_place entry.target word world.words (key_at block) (key_not_link world.changes start entry.target block (some block node) link));
+              (word_beside entry.target word world.words (key_at block) (key_not_link world.changes start entry.target block (some block node) link));
           effective = sorted.effective;
-          made = made_stay lists are world after sorted kept sorted.path sorted.path (λ block node e. e) refl sorted.made;
+          made = made_stay world after kept.used kept.journal refl sorted.made;
           path = without_between lists world.changes start entry.target cur sorted.path;
           has_path = record {
             leading = path_cut lists are world.changes some (λ place. led (world.words place)) sorted.path is start entry.target cur link on runs.named cur_behind runs.on
-                (λ place. led (with_word entry.target word world.words place)) cut_leads (λ place other. ap led (other_place entry.target word world.words place other));
+                (λ place. led (with_word entry.target word world.words place)) cut_leads (λ place other. ap led (word_beside entry.target word world.words place other));
             living = live_moved lists world.changes world.words sorted.path sorted.has_path.living (with_word entry.target word world.words) (without_between lists world.changes start entry.target cur sorted.path)
                 (λ place start'. parity_at place (cases_eq place entry.target)) (λ block node. parity_at (next_at block) (cases_eq (next_at block) entry.target)) live_stays;
             journal = journal_grows lists are world after sorted kept sorted.path (without_between lists world.changes start entry.target cur sorted.path) off sorted.has_path.journal

@@ -7,10 +7,11 @@ use Rattle.list_laws.specs.Lists.{Lists, is_versioned}
 use Rattle.list_laws.specs.Search.{is_add, may_list, begun, asked, fed, Asks, IsReady, offered}
 use Rattle.list_laws.specs.Wrap.{wrap_begun, wrap_asked, wrap_fed, Wraps}
 use Rattle.list_laws.specs.Shape.{cause_of, AreSorted}
-use Rattle.list_laws.specs.Knowledge.{Knows, Keeps, Follows, IsDead}
+use Rattle.list_laws.specs.Knowledge.{Knows, Keeps, Follows}
+use Rattle.client_lemmas.specs.Lost.{IsLost}
 
 -- each change is made by a list's entry 0, and none beside the lists; a search gives up for a set bit or a
--- lost exchange alone
+-- lost exchange alone, and a list is dead where its first entry was passed
 abbrev pub list_form : Lists → NormalForm ListSearch ListWrap
 list_form lists =
     record {
@@ -40,5 +41,5 @@ list_form lists =
       cause_of = cause_of;
       knows = Knows lists;
       follows = Follows;
-      dead = IsDead lists;
+      dead = IsLost (is_versioned lists);
     }

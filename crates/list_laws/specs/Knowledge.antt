@@ -1,13 +1,12 @@
--- What a search in a list has learnt, and which lists are dead. None of it looks at the modified bit of a
+-- What a search in a list has learnt. None of it looks at the modified bit of a
 -- word that stands there now, but where a word was seen with its bit clear.
-use Rattle.std.specs.Prelude.{◌≡◌, ◌≢◌, ℕ, ◌+◌, ◌/◌, ◌%◌, ◌<◌, ◌≤◌, Bool, true, false, ◌⊎◌, List, length, slice_get, Some}
+use Rattle.std.specs.Prelude.{◌≡◌, ◌≢◌, ℕ, ◌+◌, ◌/◌, ◌%◌, ◌<◌, ◌≤◌, Bool, true, false, ◌⊎◌, List, length}
 use Rattle.lin_report.specs.declared.calls.Op.{Op}
 use Rattle.lin_report.specs.declared.calls.TheConstants.{ADD, DEL, HAS}
 use Rattle.step_memory.specs.declared.steps.Seen.{Seen}
 use Rattle.word_fields.specs.Versioned.{versioned_value, versioned_bit}
 use Rattle.node_arena.specs.MemoryMap.{reference_to}
-use Rattle.normal_traits.specs.declared.lists.Entry.{Entry}
-use Rattle.normal_traits.specs.World.{Listed, Change, World, is_word, WasSeen, IsPassed, Took, first_changes}
+use Rattle.normal_traits.specs.World.{Listed, Change, World, WasSeen, first_changes}
 use Rattle.list_laws.specs.declared.states.Aim.{Aim}
 use Rattle.list_laws.specs.declared.states.Aim.TheVariants.{Add, Del, Has}
 use Rattle.list_laws.specs.declared.states.Sought.{Sought}
@@ -15,7 +14,7 @@ use Rattle.list_laws.specs.declared.states.Left.{Left}
 use Rattle.list_laws.specs.declared.states.ListSearch.{ListSearch}
 use Rattle.list_laws.specs.declared.states.ListSearch.TheVariants.{Start, Next, Key, Unlink, AddReady, DelReady}
 use Rattle.list_laws.specs.declared.states.ListWrap.{ListWrap}
-use Rattle.list_laws.specs.Lists.{Lists, is_versioned}
+use Rattle.list_laws.specs.Lists.{Lists}
 use Rattle.list_laws.specs.Search.{led, leading, next_place}
 use Rattle.list_laws.specs.Nodes.{holds, is_node, node_key, next_at, place_rank, rank_of, IsLink, IsNamed}
 use Rattle.list_laws.specs.Path.{parity}
@@ -129,12 +128,3 @@ Keeps (DelReady left cur next) seen word = ⊥
 -- a wrap-up has no step, so there is nothing to learn
 abbrev pub Follows : ListWrap → Listed → ℕ → World → Type 0
 Follows wrap list stop world = ⊥
-
--- a list whose first entry didn't take effect and never will
-pub record IsDead (lists : Lists) (list : Listed) (world : World) : Type 0 where
-  pub entry : Entry
-  pub listed : slice_get list.entries 0 ≡ Some entry
-  pub word : is_word world entry.target ≡ true
-  pub versioned : is_versioned lists entry.target ≡ true
-  pub passed : IsPassed world entry
-  pub lost : ¬ Took world list 0

@@ -7,12 +7,13 @@ use Rattle.lin_report.specs.Commands.{KEY_LIMIT}
 use Rattle.word_fields.specs.Versioned.{versioned_value}
 use Rattle.node_arena.specs.MemoryMap.{block_at}
 use Rattle.normal_traits.specs.declared.lists.Entry.{Entry}
-use Rattle.normal_traits.specs.World.{Listed, Maker, Cause, Won, Change, World, Among, Took}
+use Rattle.normal_traits.specs.World.{Listed, Maker, Cause, Won, Change, World, Among}
 use Rattle.normal_traits.specs.World.Maker.{By, Beside}
 use Rattle.list_laws.specs.Lists.{Lists}
 use Rattle.list_laws.specs.Search.{is_add, led}
 use Rattle.list_laws.specs.Nodes.{holds, is_node, node_key, next_at, key_at}
 use Rattle.list_laws.specs.Path.{IsPath, AreLive, parity}
+use Rattle.client_lemmas.specs.Made.{AreMade}
 
 -- ---- causes
 
@@ -55,13 +56,6 @@ AreEffective [] = Unit {0}
 AreEffective (change ∷ older) =
     (((change.list.call.op.code ≡ ADD) × (holds older change.list.call.op.key ≡ false)) ⊎ ((change.list.call.op.code ≡ DEL) × (holds older change.list.call.op.key ≡ true)))
     × AreEffective older
-
--- each change was made by its list's first entry, and no two by one list or with one block
-pub record AreMade (world : World) : Type 0 where
-  pub took : (change : Change) → Among change world.changes → Took world change.list 0
-  pub blocks : (change : Change) → Among change world.changes → world.used change.list.block ≡ true
-  pub lists_differ : AllPairs (λ (a b : Change). a.list.identity ≢ b.list.identity) world.changes
-  pub blocks_differ : AllPairs (λ (a b : Change). 0 < a.list.block → a.list.block ≢ b.list.block) world.changes
 
 -- ---- the won exchanges
 

@@ -1,5 +1,5 @@
 -- What the queue tells of itself, and does not leave to a node, is Empty or Done: it fits the record of a call.
-use Rattle.std.proofs.Common.{ℕ, ◌==◌, Bool, true, false, if◌then◌else◌, List, slice_get, Option, Some, None, arith}
+use Rattle.std.proofs.Common.{ℕ, ◌==◌, if◌then◌else◌, List, slice_get, Option, Some, None, arith}
 use Rattle.lin_report.specs.declared.calls.Op.{Op}
 use Rattle.lin_report.specs.declared.calls.Outcome.TheVariants.{Plain, ValueOf}
 use Rattle.lin_report.specs.declared.calls.Reply.TheVariants.{Empty}
@@ -17,35 +17,34 @@ use Rattle.queue_laws.specs.declared.states.QueueWrap.{QueueWrap}
 use Rattle.queue_laws.specs.declared.states.QueueWrap.TheVariants.{Over, Tail, Swing}
 use Rattle.queue_laws.specs.Search.{fed, is_put, met_by_put, met_by_take, next_place}
 use Rattle.queue_laws.specs.Wrap.{after_entry, done, wrap_begun, wrap_fed}
+use Rattle.client_lemmas.proofs.Outcomes.{either}
 
 -- a choice fits where both ways do
-either : (b : Bool) (one other : QueueSearch × Found) → FoundFits one.1 → FoundFits other.1 → FoundFits (if b then one else other).1
-either true one other y n = y
-either false one other y n = n
+abbrev Fits : QueueSearch × Found → Type 0
+Fits result = FoundFits result.1
 
-either_end : (b : Bool) (one other : QueueWrap × Wrapped) → WrappedFits one.1 → WrappedFits other.1 → WrappedFits (if b then one else other).1
-either_end true one other y n = y
-either_end false one other y n = n
+abbrev EndFits : QueueWrap × Wrapped → Type 0
+EndFits result = WrappedFits result.1
 
 put_fits : (tail next : ℕ) → FoundFits (met_by_put tail next).1
 put_fits tail next =
-    either (versioned_value next == 0) (if is_modified next then (PutNext tail, Contended) else (PutReady tail next, Ready)) (PutHelp tail next, Going)
-    (either (is_modified next) (PutNext tail, Contended) (PutReady tail next, Ready) tt tt) tt
+    either Fits (versioned_value next == 0) (if is_modified next then (PutNext tail, Contended) else (PutReady tail next, Ready)) (PutHelp tail next, Going)
+    (either Fits (is_modified next) (PutNext tail, Contended) (PutReady tail next, Ready) tt tt) tt
 
 take_fits : (head tail next : ℕ) → FoundFits (met_by_take head tail next).1
 take_fits head tail next =
-    either (versioned_value next == 0) (TakeNext head tail, Answer (Plain Empty)) (if versioned_value tail == versioned_value head then (TakeHelp tail next, Going) else (TakeReady head next, Ready)) (omega arith)
-    (either (versioned_value tail == versioned_value head) (TakeHelp tail next, Going) (TakeReady head next, Ready) tt tt)
+    either Fits (versioned_value next == 0) (TakeNext head tail, Answer (Plain Empty)) (if versioned_value tail == versioned_value head then (TakeHelp tail next, Going) else (TakeReady head next, Ready)) (omega arith)
+    (either Fits (versioned_value tail == versioned_value head) (TakeHelp tail next, Going) (TakeReady head next, Ready) tt tt)
 
 pub found_fits : (search : QueueSearch) (seen : Seen) → FoundFits (fed search seen).1
 found_fits PutTail seen = tt
 found_fits (PutNext tail) seen = put_fits tail seen.before
-found_fits (PutHelp tail next) seen = either seen.won (PutTail, Going) (PutHelp tail next, Contended) tt tt
+found_fits (PutHelp tail next) seen = either Fits seen.won (PutTail, Going) (PutHelp tail next, Contended) tt tt
 found_fits (PutReady tail next) seen = tt
-found_fits TakeHead seen = either (is_modified seen.before) (TakeHead, Contended) (TakeTail seen.before, Going) tt tt
+found_fits TakeHead seen = either Fits (is_modified seen.before) (TakeHead, Contended) (TakeTail seen.before, Going) tt tt
 found_fits (TakeTail head) seen = tt
 found_fits (TakeNext head tail) seen = take_fits head tail seen.before
-found_fits (TakeHelp tail next) seen = either seen.won (TakeHead, Going) (TakeHelp tail next, Contended) tt tt
+found_fits (TakeHelp tail next) seen = either Fits seen.won (TakeHead, Going) (TakeHelp tail next, Contended) tt tt
 found_fits (TakeReady head next) seen = tt
 
 done_fits : WrappedFits done.1
@@ -53,14 +52,14 @@ done_fits = omega arith
 
 entry_fits : (op : Op) (entry : Option Entry) → WrappedFits (after_entry op entry).1
 entry_fits op None = done_fits
-entry_fits op (Some entry) = either_end (is_put op) (Tail entry.target entry.to, wrapped.Going) (Over, wrapped.Done (ValueOf (versioned_value entry.to))) tt tt
+entry_fits op (Some entry) = either EndFits (is_put op) (Tail entry.target entry.to, wrapped.Going) (Over, wrapped.Done (ValueOf (versioned_value entry.to))) tt tt
 
 pub begun_fits : (op : Op) (entries : List Entry) (stop : ℕ) → WrappedFits (wrap_begun op entries stop).1
 begun_fits op entries stop =
-    either_end (stop == 0) (Over, wrapped.Restart) (if stop == 1 then after_entry op (slice_get entries 0) else done) tt
-    (either_end (stop == 1) (after_entry op (slice_get entries 0)) done (entry_fits op (slice_get entries 0)) done_fits)
+    either EndFits (stop == 0) (Over, wrapped.Restart) (if stop == 1 then after_entry op (slice_get entries 0) else done) tt
+    (either EndFits (stop == 1) (after_entry op (slice_get entries 0)) done (entry_fits op (slice_get entries 0)) done_fits)
 
 pub wrapped_fits : (wrap : QueueWrap) (seen : Seen) → WrappedFits (wrap_fed wrap seen).1
 wrapped_fits Over seen = done_fits
-wrapped_fits (Tail target to) seen = either_end (next_place seen.before == target) (Swing seen.before to, wrapped.Going) done tt done_fits
+wrapped_fits (Tail target to) seen = either EndFits (next_place seen.before == target) (Swing seen.before to, wrapped.Going) done tt done_fits
 wrapped_fits (Swing tail to) seen = done_fits

@@ -1,27 +1,18 @@
--- The won exchanges and the changes that they made: what is known of them stays so, and one more is known.
-use Rattle.std.proofs.Common.{◌≡◌, ◌≢◌, ℕ, ◌+◌, ◌<◌, ◌≤◌, Bool, true, false, cond, eqb, List, [], ◌∷◌, refl, sym, ap, ◌∙◌, subst, inl, inr, ◌⊎◌, arith}
-use Rattle.std.specs.Prelude.{All, AllPairs}
-use Rattle.std.proofs.lemmas.Bool.{true≢false}
-use Rattle.std.proofs.lemmas.List.Elements.{All-nil, All-cons}
-use Rattle.std.proofs.lemmas.List.Kept.{AllPairs-cons}
+-- The won exchanges: what is known of them stays so, and one more is known.
+use Rattle.std.proofs.Common.{◌≡◌, ◌≢◌, ℕ, ◌+◌, ◌<◌, ◌≤◌, Bool, true, false, cond, eqb, ◌∷◌, sym, ap, ◌∙◌, subst, arith}
+use Rattle.std.specs.Prelude.{AllPairs}
 use Rattle.lin_report.specs.declared.calls.Reply.{Reply}
 use Rattle.lin_report.specs.declared.calls.Reply.TheVariants.{Done, Value}
 use Rattle.word_fields.specs.Versioned.{versioned_version}
 use Rattle.node_arena.specs.declared.places.TheConstants.{TAIL}
-use Rattle.normal_traits.specs.World.{Listed, Maker, Cause, Won, Change, World, Among, Took}
+use Rattle.normal_traits.specs.World.{Listed, Maker, Cause, Won, World, Among}
 use Rattle.normal_traits.specs.World.Maker.{By, Beside}
-use Rattle.normal_traits.specs.Steps.{IsFresh}
 use Rattle.queue_laws.specs.Search.{is_put}
 use Rattle.queue_laws.specs.Chain.{puts, takes, node_block}
-use Rattle.queue_laws.specs.Shape.{kind_of, IsChain, HasEnds, AreMade, reached, reply_at, MadeWell, BroughtIn, IsJournal}
+use Rattle.queue_laws.specs.Shape.{kind_of, IsChain, HasEnds, reached, reply_at, MadeWell, BroughtIn, IsJournal}
 use Rattle.queue_laws.proofs.Changes.{same_node_at, same_next_of}
 use Rattle.queue_laws.proofs.Later.{Later}
-
--- ---- all of a list
-
-pub all_among : {X : Type 0} (P : X → Type 0) (xs : List X) → ((x : X) → Among x xs → P x) → All P xs
-all_among P [] f = All-nil P
-all_among P (x ∷ xs) f = All-cons P x xs (f x (inl refl)) (all_among P xs (λ y a. f y (inr a)))
+use Rattle.client_lemmas.proofs.Growing.{each_more, pairs_more}
 
 -- ---- how far each kind has come
 
@@ -85,15 +76,10 @@ module _ (world after : World) (kept : Later world after) (tail : versioned_vers
       → known.before ≡ reached world (kind_of item.maker) → known.before + 1 ≤ puts after.changes → IsJournal after
   journal_grows ends journal chain item same known next within =
       record {
-        known = λ won a. by_item won (subst (Among won) same a);
-        causes_differ = subst (AllPairs (λ (a b : Won). a.cause ≢ b.cause)) (sym same)
-            (AllPairs-cons (λ (a b : Won). a.cause ≢ b.cause) item world.journal (all_among (λ (b : Won). item.cause ≢ b.cause) world.journal differs) journal.causes_differ);
+        known = each_more (BroughtIn after) item world.journal after.journal same known (λ won old. known_stays ends won (journal.known won old));
+        causes_differ = pairs_more (λ (a b : Won). a.cause ≢ b.cause) item world.journal after.journal same differs journal.causes_differ;
       }
     where
-      by_item : (won : Won) → (won ≡ item) ⊎ Among won world.journal → BroughtIn after won
-      by_item won (inl new) = subst (BroughtIn after) (sym new) known
-      by_item won (inr old) = known_stays ends won (journal.known won old)
-
       differs : (b : Won) → Among b world.journal → item.cause ≢ b.cause
       differs b old e =
           let was = journal.known b old in
@@ -103,41 +89,3 @@ module _ (world after : World) (kept : Later world after) (tail : versioned_vers
           let earlier : was.before < known.before = omega (arith, was.within, next, ap (reached world) kind) in
           let block : node_block after.changes (known.before + 1) ≡ node_block world.changes (was.before + 1) = ap (λ (cause : Cause). cause.block) both in
           chain.apart (was.before + 1) (known.before + 1) (omega arith) within (kept.extends.blocks (was.before + 1) low ∙ sym block)
-
--- ---- the changes and who made them
-
-took_stays : (world after : World) → Later world after → (list : Listed) → Took world list 0 → Took after list 0
-took_stays world after kept list t = record { entry = t.entry; cause = t.cause; listed = t.listed; won = kept.journal _ t.won }
-
-pub made_stay : (world after : World) → Later world after → after.changes ≡ world.changes → AreMade world → AreMade after
-made_stay world after kept same made =
-    record {
-      took = λ change a. took_stays world after kept change.list (made.took change (subst (Among change) same a));
-      blocks = λ change a. kept.used change.list.block (made.blocks change (subst (Among change) same a));
-      lists_differ = subst (AllPairs (λ (a b : Change). a.list.identity ≢ b.list.identity)) (sym same) made.lists_differ;
-      blocks_differ = subst (AllPairs (λ (a b : Change). 0 < a.list.block → a.list.block ≢ b.list.block)) (sym same) made.blocks_differ;
-    }
-
--- one more change, by a list that had not taken effect, with a block that was not used
-pub made_more : (world after : World) → Later world after → AreMade world → (change : Change) → after.changes ≡ change ∷ world.changes → IsFresh world change.list → Took after change.list 0
-    → after.used change.list.block ≡ true → (0 < change.list.block → world.used change.list.block ≡ false) → AreMade after
-made_more world after kept made change same fresh took used unused =
-    record {
-      took = λ other a. by_took other (subst (Among other) same a);
-      blocks = λ other a. by_block other (subst (Among other) same a);
-      lists_differ = subst (AllPairs (λ (a b : Change). a.list.identity ≢ b.list.identity)) (sym same)
-          (AllPairs-cons (λ (a b : Change). a.list.identity ≢ b.list.identity) change world.changes
-          (all_among (λ (b : Change). change.list.identity ≢ b.list.identity) world.changes (λ b a e. fresh b.list 0 (sym e) (made.took b a))) made.lists_differ);
-      blocks_differ = subst (AllPairs (λ (a b : Change). 0 < a.list.block → a.list.block ≢ b.list.block)) (sym same)
-          (AllPairs-cons (λ (a b : Change). 0 < a.list.block → a.list.block ≢ b.list.block) change world.changes
-          (all_among (λ (b : Change). 0 < change.list.block → change.list.block ≢ b.list.block) world.changes
-          (λ b a some e. true≢false (sym (made.blocks b a) ∙ ap world.used (sym e) ∙ unused some))) made.blocks_differ);
-    }
-  where
-    by_took : (other : Change) → (other ≡ change) ⊎ Among other world.changes → Took after other.list 0
-    by_took other (inl new) = subst (λ (c : Change). Took after c.list 0) (sym new) took
-    by_took other (inr old) = took_stays world after kept other.list (made.took other old)
-
-    by_block : (other : Change) → (other ≡ change) ⊎ Among other world.changes → after.used other.list.block ≡ true
-    by_block other (inl new) = subst (λ (c : Change). after.used c.list.block ≡ true) (sym new) used
-    by_block other (inr old) = kept.used other.list.block (made.blocks other old)

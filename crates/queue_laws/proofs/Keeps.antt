@@ -1,7 +1,7 @@
 -- Every allowed step keeps the shape of the queue.
-use Rattle.std.proofs.Common.{◌≡◌, ℕ, ◌^◌, ◌<◌, Bool, true, false, eqb, List, [], ◌∷◌, refl, sym, ap, ◌∙◌, subst, inl, inr, ◌⊎◌, Option, Some, None, arith}
+use Rattle.std.proofs.Common.{◌≡◌, ℕ, ◌^◌, ◌<◌, Bool, true, false, eqb, refl, sym, ap, ◌∙◌, subst, inl, inr, Some, arith}
 use Rattle.std.specs.Prelude.{slice_get, All}
-use Rattle.std.proofs.lemmas.Bool.{true≢false, cond-true, eq-eqb, cases_eq, or_left}
+use Rattle.std.proofs.lemmas.Bool.{true≢false, cond-true, eq-eqb, or_left}
 use Rattle.lin_report.specs.declared.calls.Op.{Op}
 use Rattle.lin_report.specs.declared.calls.TheConstants.{PUT, TAKE}
 use Rattle.step_memory.specs.declared.steps.Request.{Request}
@@ -17,7 +17,7 @@ use Rattle.normal_traits.specs.World.{Listed, World, is_word}
 use Rattle.normal_traits.specs.Steps.{IsStep, IsFresh, IsExchanged, IsOffered, IsFilled, with_word, put_word, using_block}
 use Rattle.normal_traits.specs.Steps.IsStep.{nothing, elsewhere, clears, searches, wraps, first, first_of_block, second}
 use Rattle.queue_laws.specs.declared.states.QueueSearch.{QueueSearch}
-use Rattle.queue_laws.specs.declared.states.QueueSearch.TheVariants.{PutTail, PutNext, PutHelp, PutReady, TakeHead, TakeTail, TakeNext, TakeHelp, TakeReady}
+use Rattle.queue_laws.specs.declared.states.QueueSearch.TheVariants.{PutTail, PutNext, PutHelp, PutReady, TakeTail, TakeNext, TakeHelp, TakeReady}
 use Rattle.queue_laws.specs.declared.states.QueueWrap.{QueueWrap}
 use Rattle.queue_laws.specs.declared.states.QueueWrap.TheVariants.{Over, Tail, Swing}
 use Rattle.queue_laws.specs.Search.{is_put, asked, IsReady, offered, put_offer, moved_word, next_place}
@@ -26,11 +26,14 @@ use Rattle.queue_laws.specs.Chain.{is_versioned}
 use Rattle.queue_laws.specs.Shape.{IsQueue}
 use Rattle.queue_laws.specs.Knowledge.{WasTail, WasNext, Learnt, Knows, Follows}
 use Rattle.queue_laws.specs.Form.{queue_form}
-use Rattle.queue_laws.proofs.Places.{same_place, other_place, not_word}
-use Rattle.queue_laws.proofs.Later.{Later, Went, went, later, some_entry}
+use Rattle.queue_laws.proofs.Later.{Later, later}
 use Rattle.queue_laws.proofs.Shapes.{still, tail_swings}
 use Rattle.queue_laws.proofs.Takes.{take_entry, taken, take_keeps}
 use Rattle.queue_laws.proofs.Puts.{put_entry, put_keeps}
+use Rattle.normal_traits.proofs.Stays.{word_beside}
+use Rattle.client_lemmas.proofs.Words.{beside_word, all_put}
+use Rattle.client_lemmas.proofs.Entries.{the_entry, no_second}
+use Rattle.client_lemmas.proofs.Requests.{Went, went}
 
 -- ---- operations
 
@@ -52,29 +55,24 @@ search_helps world PutTail l = loads TAIL
 search_helps world (PutNext tail) l = loads (next_place tail)
 search_helps world (PutHelp tail next) l = moves tail next l.0 l.1
 search_helps world (PutReady tail next) l = loads TAIL
-search_helps world TakeHead l = loads HEAD
 search_helps world (TakeTail head) l = loads TAIL
 search_helps world (TakeNext head tail) l = loads (next_place head)
 search_helps world (TakeHelp tail next) l = moves tail next l.0 l.1
-search_helps world (TakeReady head next) l = loads HEAD
+search_helps world _ l = loads HEAD
 
 wrap_helps : (world : World) (wrap : QueueWrap) (list : Listed) (stop : ℕ) → Follows wrap list stop world → IsHelp world (wrap_asked wrap)
 wrap_helps world Over list stop f = absurd f.learnt
 wrap_helps world (Tail target to) list stop f = loads TAIL
 wrap_helps world (Swing tail to) list stop f = moves tail to f.learnt.0 f.learnt.1
 
-help_keeps : (world after : World) (seen : Seen) (request : Request) → IsQueue world → Later world after → IsHelp world request → Went request world after seen → IsQueue after
+help_keeps : (world after : World) (seen : Seen) (request : Request) → IsQueue world → Later world after → IsHelp world request → Went queue_form request world after seen → IsQueue after
 help_keeps world after seen _ queue kept (loads place) w = subst IsQueue (sym w.0) queue
-help_keeps world after seen _ queue kept (moves tail next was behind) (inl w) = subst IsQueue (sym w.0) queue
+help_keeps world after seen _ queue kept (moves tail next was behind) (inl w) = subst IsQueue (sym w.1) queue
 help_keeps world after seen _ queue kept (moves tail next was behind) (inr w) =
     subst IsQueue (sym w.2)
     (tail_swings world queue tail (moved_word tail next) w.0 w.1 (value-changed tail (versioned_value next) (value_below next) ∙ behind.names) behind.within (subst (Later world) w.2 kept))
 
 -- ---- the entry of a list
-
--- the first of the entries that are one alone
-the_entry : (entries : List Entry) (entry only : Entry) → slice_get entries 0 ≡ Some entry → entries ≡ only ∷ [] → only ≡ entry
-the_entry entries entry only listed is = ap (some_entry only) (sym (ap (λ (es : List Entry). slice_get es 0) is) ∙ listed)
 
 -- a list whose entry is tried, with the offer and with what its search has learnt
 pub data IsTried (world : World) (list : Listed) (entry : Entry) (offer : Offered) : Type 0 where
@@ -95,13 +93,7 @@ tried world list searched since entry offer listed = by_search searched offer.re
         puts_it tail next put knows.learnt (the_entry list.entries entry (put_entry tail next list.block) listed (entries ∙ ap (λ (o : Offered). o.entries) is)) is
     by_search (TakeReady head next) ready knows entries =
         takes_it head next (takes_is list.call.op knows.serves) knows.learnt (the_entry list.entries entry (take_entry head next) listed entries)
-    by_search PutTail ready knows entries = absurd ready
-    by_search (PutNext tail) ready knows entries = absurd ready
-    by_search (PutHelp tail next) ready knows entries = absurd ready
-    by_search TakeHead ready knows entries = absurd ready
-    by_search (TakeTail head) ready knows entries = absurd ready
-    by_search (TakeNext head tail) ready knows entries = absurd ready
-    by_search (TakeHelp tail next) ready knows entries = absurd ready
+    by_search _ ready knows entries = absurd ready
 
 -- the exchange of an entry keeps the shape
 abbrev Keeps : World → Listed → ℕ → (ℕ → Bool) → Entry → Type 0
@@ -146,52 +138,27 @@ block_step world queue list entry offer word (takes_it head next take learnt is)
     take_step world queue list head next word (using_block list.block world.used) take learnt fresh (or_left (eqb list.block list.block) (world.used list.block) (eq-eqb list.block list.block refl)) (λ some. unused) entry is
 
 -- an offer has one entry
-pub no_second : (world : World) (list : Listed) (searched : QueueSearch) (since : ℕ) (entry : Entry) → IsOffered queue_form world list searched since → slice_get list.entries 1 ≡ Some entry → ⊥
-no_second world list searched since entry offer listed = by_search searched offer.ready offer.entries
+pub one_alone : (world : World) (list : Listed) (searched : QueueSearch) (since : ℕ) (entry : Entry) → IsOffered queue_form world list searched since → slice_get list.entries 1 ≡ Some entry → ⊥
+one_alone world list searched since entry offer listed = by_search searched offer.ready offer.entries
   where
-    none : Option Entry → Bool
-    none None = true
-    none (Some e) = false
-
     by_search : (searched : QueueSearch) → IsReady searched → list.entries ≡ (offered searched list.call.op list.block).entries → ⊥
-    by_search (PutReady tail next) ready entries = true≢false (ap (λ (es : List Entry). none (slice_get es 1)) (sym entries) ∙ ap none listed)
-    by_search (TakeReady head next) ready entries = true≢false (ap (λ (es : List Entry). none (slice_get es 1)) (sym entries) ∙ ap none listed)
-    by_search PutTail ready entries = absurd ready
-    by_search (PutNext tail) ready entries = absurd ready
-    by_search (PutHelp tail next) ready entries = absurd ready
-    by_search TakeHead ready entries = absurd ready
-    by_search (TakeTail head) ready entries = absurd ready
-    by_search (TakeNext head tail) ready entries = absurd ready
-    by_search (TakeHelp tail next) ready entries = absurd ready
+    by_search (PutReady tail next) ready entries = no_second list.entries _ entry entries listed
+    by_search (TakeReady head next) ready entries = no_second list.entries _ entry entries listed
+    by_search _ ready entries = absurd ready
 
 -- ---- a step on a word
 
 written_keeps : (world : World) (place word : ℕ) → IsQueue world → is_word world place ≡ false → Later world (put_word place word world) → IsQueue (put_word place word world)
 written_keeps world place word queue none kept =
     still world (with_word place word world.words) queue kept
-    (λ at some versioned. let same = other_place place word world.words at (not_word world place at none some) in (ap versioned_value same, ap versioned_version same))
-    (λ at some plain. other_place place word world.words at (not_word world place at none some))
+    (λ at some versioned. let same = beside_word world place word none at some in (ap versioned_value same, ap versioned_version same)) (λ at some plain. beside_word world place word none at some)
 
 cleared_keeps : (world : World) (place : ℕ) → IsQueue world → is_versioned place ≡ true → Later world (put_word place (cleared_word (world.words place)) world) → IsQueue (put_word place (cleared_word (world.words place)) world)
 cleared_keeps world place queue versioned kept =
-    still world (with_word place (cleared_word (world.words place)) world.words) queue kept (λ at some is. fields at (cases_eq at place)) (λ at some plain. elsewhere_same at plain)
-  where
-    cleared : ℕ → ℕ
-    cleared = with_word place (cleared_word (world.words place)) world.words
-
-    fields : (at : ℕ) → (at ≡ place) ⊎ (at ≡ place → ⊥)
-        → (versioned_value (with_word place (cleared_word (world.words place)) world.words at) ≡ versioned_value (world.words at)) × (versioned_version (with_word place (cleared_word (world.words place)) world.words at) ≡ versioned_version (world.words at))
-    fields at (inl here) =
-        let now = ap (with_word place (cleared_word (world.words place)) world.words) here ∙ same_place place (cleared_word (world.words place)) world.words in (
-          ap versioned_value now ∙ value-cleared (world.words place) ∙ ap (λ p. versioned_value (world.words p)) (sym here),
-          ap versioned_version now ∙ version-cleared (world.words place) ∙ ap (λ p. versioned_version (world.words p)) (sym here),
-        )
-    fields at (inr other) =
-        let same = other_place place (cleared_word (world.words place)) world.words at other in (ap versioned_value same, ap versioned_version same)
-
-    elsewhere_same : (at : ℕ) → is_versioned at ≡ false → with_word place (cleared_word (world.words place)) world.words at ≡ world.words at
-    elsewhere_same at plain =
-        other_place place (cleared_word (world.words place)) world.words at (λ here. true≢false (sym versioned ∙ ap is_versioned (sym here) ∙ plain))
+    still world (with_word place (cleared_word (world.words place)) world.words) queue kept
+    (λ at some is. all_put (λ word after. (versioned_value after ≡ versioned_value word) × (versioned_version after ≡ versioned_version word)) (λ word. (refl, refl)) world.words place (cleared_word (world.words place))
+    (value-cleared (world.words place), version-cleared (world.words place)) at)
+    (λ at some plain. word_beside place (cleared_word (world.words place)) world.words at (λ here. true≢false (sym versioned ∙ ap is_versioned (sym here) ∙ plain)))
 
 -- ---- each step
 
@@ -200,15 +167,15 @@ keeps world _ queue kept nothing = queue
 keeps world _ queue kept (elsewhere place word none) = written_keeps world place word queue none kept
 keeps world _ queue kept (clears place some versioned listable) = cleared_keeps world place queue versioned kept
 keeps world after queue kept (searches {seen = seen} searched op since command asks knows requested) =
-    help_keeps world after seen (asked searched) queue kept (search_helps world searched knows.learnt) (went (asked searched) world after seen requested)
+    help_keeps world after seen (asked searched) queue kept (search_helps world searched knows.learnt) (went queue_form (asked searched) world after seen requested)
 keeps world after queue kept (wraps {seen = seen} wrap list stop command going follows requested) =
-    help_keeps world after seen (wrap_asked wrap) queue kept (wrap_helps world wrap list stop follows) (went (wrap_asked wrap) world after seen requested)
+    help_keeps world after seen (wrap_asked wrap) queue kept (wrap_helps world wrap list stop follows) (went queue_form (wrap_asked wrap) world after seen requested)
 keeps world _ queue kept (first list searched since entry word offer fresh none needs listed same change) =
     first_step world queue list entry (offered searched list.call.op list.block) word (tried world list searched since entry offer listed) fresh none needs listed same change kept
 keeps world _ queue kept (first_of_block list searched since entry word offer fresh some unused filled listed same change) =
     block_step world queue list entry (offered searched list.call.op list.block) word (tried world list searched since entry offer listed) fresh offer.small unused filled listed same change kept
 keeps world _ queue kept (second list searched since entry word offer took unmade listed same change) =
-    absurd (no_second world list searched since entry offer listed)
+    absurd (one_alone world list searched since entry offer listed)
 
 pub shape_keeps : (world after : World) → IsQueue world → IsStep queue_form world after → IsQueue after
-shape_keeps world after queue step = keeps world after queue (later world after step) step
+shape_keeps world after queue step = keeps world after queue (later world after queue step) step

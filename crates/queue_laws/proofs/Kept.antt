@@ -1,14 +1,10 @@
--- What was learnt stays true, and a dead list stays dead, whatever anyone does.
-use Rattle.std.proofs.Common.{◌≡◌, ℕ, ◌+◌, ◌<◌, ◌≤◌, Bool, true, false, not, eqb, leb, ◌||◌, ◌&&◌, refl, sym, ap, ◌∙◌, subst, inl, inr, ◌⊎◌, Option, Some, arith}
-use Rattle.std.specs.Prelude.{slice_get}
-use Rattle.std.proofs.lemmas.Bool.{false≢true}
+-- What was learnt stays true, whatever anyone does.
+use Rattle.std.proofs.Common.{◌≡◌, ℕ, ◌+◌, ◌≤◌, true, refl, sym, ap, ◌∙◌, arith}
 use Rattle.lin_report.specs.declared.calls.Op.{Op}
-use Rattle.word_fields.specs.Versioned.{versioned_version, versioned_bit, cleared_word}
-use Rattle.word_fields.proofs.VersionedLemmas.{version-cleared, cleared-clear}
+use Rattle.word_fields.specs.Versioned.{versioned_version}
 use Rattle.node_arena.specs.declared.places.TheConstants.{HEAD, TAIL, NODE_NEXT}
-use Rattle.node_arena.specs.MemoryMap.{node_place, block_at, field_at}
-use Rattle.normal_traits.specs.declared.lists.Entry.{Entry}
-use Rattle.normal_traits.specs.World.{Listed, World, is_word, is_state, WasSeen, Took}
+use Rattle.node_arena.specs.MemoryMap.{node_place}
+use Rattle.normal_traits.specs.World.{Listed, World, is_word, WasSeen}
 use Rattle.queue_laws.specs.declared.states.QueueSearch.{QueueSearch}
 use Rattle.queue_laws.specs.declared.states.QueueSearch.TheVariants.{PutTail, PutNext, PutHelp, PutReady, TakeHead, TakeTail, TakeNext, TakeHelp, TakeReady}
 use Rattle.queue_laws.specs.declared.states.QueueWrap.{QueueWrap}
@@ -16,23 +12,12 @@ use Rattle.queue_laws.specs.declared.states.QueueWrap.TheVariants.{Over, Tail, S
 use Rattle.queue_laws.specs.Search.{next_place}
 use Rattle.queue_laws.specs.Chain.{node_block, next_of, is_versioned}
 use Rattle.queue_laws.specs.Shape.{IsQueue}
-use Rattle.queue_laws.specs.Knowledge.{WasTail, WasHead, WasNext, Learnt, Knows, WasLinked, LearntWrap, Follows, IsDead}
-use Rattle.queue_laws.proofs.Places.{node_word, next_versioned}
+use Rattle.queue_laws.specs.Knowledge.{WasTail, WasHead, WasNext, Learnt, Knows, WasLinked, LearntWrap, Follows}
+use Rattle.queue_laws.proofs.Places.{next_versioned}
 use Rattle.queue_laws.proofs.Changes.{same_node_at, same_next_of}
-use Rattle.queue_laws.proofs.Later.{Rises, Later, some_entry}
-
--- ---- words that rise
-
-rises_version : (word after : ℕ) → Rises word after → versioned_version word ≤ versioned_version after
-rises_version word after (inl same) = omega (arith, ap versioned_version same)
-rises_version word after (inr (inl cleared)) = omega (arith, ap versioned_version cleared, version-cleared word)
-rises_version word after (inr (inr higher)) = omega arith
-
-rises_seen : (word after seen : ℕ) → Rises word after → versioned_bit seen ≡ 0 → (word ≡ seen) ⊎ (versioned_version seen < versioned_version word) → (after ≡ seen) ⊎ (versioned_version seen < versioned_version after)
-rises_seen word after seen rises clear (inr past) = inr (omega (arith, rises_version word after rises))
-rises_seen word after seen (inl same) clear (inl at) = inl (same ∙ at)
-rises_seen word after seen (inr (inl cleared)) clear (inl at) = inl (cleared ∙ ap cleared_word at ∙ cleared-clear seen clear)
-rises_seen word after seen (inr (inr higher)) clear (inl at) = inr (omega (arith, ap versioned_version at))
+use Rattle.queue_laws.proofs.Later.{Later}
+use Rattle.client_lemmas.proofs.Words.{rises_version, rises_seen}
+use Rattle.client_lemmas.proofs.Places.{node_word}
 
 -- ---- the place of a next word
 
@@ -46,18 +31,6 @@ next_place_word world tail queue was =
 
 pub next_place_versioned : (world : World) (tail : ℕ) → WasTail world tail → is_versioned (next_place tail) ≡ true
 next_place_versioned world tail was = ap is_versioned (next_place_is world tail was) ∙ next_versioned (node_block world.changes (versioned_version tail))
-
--- a place that is a client's stays one, as blocks stay used
-more_used : (first used more plain : Bool) (behind : Bool) → (used ≡ true → more ≡ true) → (first || (behind && used && plain)) ≡ true → (first || (behind && more && plain)) ≡ true
-more_used true used more plain behind grows e = refl
-more_used false used more plain false grows e = e
-more_used false true more plain true grows e = rw (grows refl) e
-more_used false false more plain true grows e = absurd (false≢true e)
-
-pub word_stays : (world after : World) → Later world after → (place : ℕ) → is_word world place ≡ true → is_word after place ≡ true
-word_stays world after kept place some =
-    let block = block_at place in
-    more_used (eqb place HEAD || eqb place TAIL) (world.used block) (after.used block) (eqb block 0 || not (is_state (field_at place))) (leb 32 place) (kept.used block) some
 
 -- ---- what was learnt
 
@@ -126,27 +99,3 @@ module _ (world after : World) (queue : IsQueue world) (kept : Later world after
 
   pub follows_later : (wrap : QueueWrap) (list : Listed) (stop : ℕ) → Follows wrap list stop world → Follows wrap list stop after
   follows_later wrap list stop follows = record { change = kept.extends.among _ follows.change; learnt = wrap_kept wrap follows.learnt }
-
--- ---- a dead list
-
--- what one place of a list has is one entry
-same_listed : (a b : Option Entry) (entry other : Entry) → a ≡ Some entry → b ≡ Some other → a ≡ b → entry ≡ other
-same_listed a b entry other first second same = ap (some_entry entry) (sym first ∙ same ∙ second)
-
-pub dead_later : (world after : World) (list : Listed) → Later world after → IsDead list world → IsDead list after
-dead_later world after list kept dead =
-    record {
-      entry = dead.entry;
-      listed = dead.listed;
-      word = word_stays world after kept dead.entry.target dead.word;
-      versioned = dead.versioned;
-      passed = omega (arith, dead.passed, rises_version (world.words dead.entry.target) (after.words dead.entry.target) (kept.rises dead.entry.target dead.word dead.versioned));
-      lost = λ t. by_took (kept.took list 0 t);
-    }
-  where
-    by_took : ¬ (Took world list 0 ⊎ ((entry : Entry) × (slice_get list.entries 0 ≡ Some entry) × (world.words entry.target ≡ entry.from)))
-    by_took (inl before) = dead.lost before
-    by_took (inr found) =
-        let same : dead.entry ≡ found.0 = same_listed (slice_get list.entries 0) (slice_get list.entries 0) dead.entry found.0 dead.listed found.1 refl in
-        let at : world.words dead.entry.target ≡ dead.entry.from = subst (λ (entry : Entry). world.words entry.target ≡ entry.from) (sym same) found.2 in
-        omega (arith, dead.passed, ap versioned_version at)

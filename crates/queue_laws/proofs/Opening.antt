@@ -16,12 +16,11 @@ use Rattle.queue_laws.specs.Search.{is_put}
 use Rattle.queue_laws.specs.Chain.{puts}
 use Rattle.queue_laws.specs.Shape.{kind_of, AreEffective, IsQueue}
 use Rattle.queue_laws.specs.Form.{queue_form}
-use Rattle.queue_laws.proofs.Places.{behind_first}
-use Rattle.queue_laws.proofs.Journal.{all_among, reached_within}
-
-zero_value : versioned_value 0 ≡ 0
-unfolding versioned_value
-zero_value = refl
+use Rattle.queue_laws.proofs.Journal.{reached_within}
+use Rattle.client_lemmas.proofs.Words.{value_small}
+use Rattle.client_lemmas.proofs.Places.{behind_first}
+use Rattle.client_lemmas.proofs.Growing.{all_among}
+use Rattle.client_lemmas.proofs.Made.{none_made}
 
 dummy_value : versioned_value dummy_word ≡ 1
 dummy_value = value-word 1 0 0 (omega arith) (omega arith)
@@ -51,7 +50,7 @@ opens =
         used = λ k low. refl;
         apart = λ i k order low. absurd (omega arith);
         linked = λ k low. absurd (omega arith);
-        last = ap versioned_value opening_next ∙ zero_value;
+        last = ap versioned_value opening_next ∙ value_small 0 (omega arith);
         valued = λ k low. absurd (omega arith);
       };
       ends = record {
@@ -63,7 +62,7 @@ opens =
       };
       holds = record { count = refl; at = λ i low. absurd (omega arith) };
       effective = tt;
-      made = record { took = λ change a. absurd a; blocks = λ change a. absurd a; lists_differ = λ i j d order low. absurd (omega arith); blocks_differ = λ i j d order low. absurd (omega arith) };
+      made = none_made (opening_world queue_form) refl;
       journal = record { known = λ won a. absurd a; causes_differ = λ i j d order low. absurd (omega arith) };
     }
 

@@ -18,21 +18,21 @@ use Rattle.queue_laws.specs.Search.{is_put, next_place}
 use Rattle.queue_laws.specs.Chain.{puts, takes, node_block, put_value, node_at, next_of, value_of}
 use Rattle.queue_laws.specs.Shape.{kind_of, cause_of, reached, reply_at, IsChain, HasEnds, BroughtIn, IsQueue}
 use Rattle.queue_laws.specs.Knowledge.{WasTail}
-use Rattle.queue_laws.proofs.Places.{same_place, other_place, behind_first, apart_nodes, apart_fields}
 use Rattle.queue_laws.proofs.Changes.{Extends, extends_more, puts-put, takes-put, block-put, same_node_at, same_next_of}
 use Rattle.queue_laws.proofs.Chains.{chain_grows}
 use Rattle.queue_laws.proofs.History.{holds_put, effective_put, apply-put}
-use Rattle.queue_laws.proofs.Journal.{journal_grows, made_more}
-use Rattle.queue_laws.proofs.Later.{Later, item_of}
+use Rattle.queue_laws.proofs.Journal.{journal_grows}
+use Rattle.queue_laws.proofs.Later.{Later}
 use Rattle.queue_laws.proofs.Takes.{taken}
+use Rattle.normal_traits.proofs.Stays.{word_beside}
+use Rattle.client_lemmas.proofs.Words.{same_place, value_small}
+use Rattle.client_lemmas.proofs.Places.{behind_first, apart_nodes, apart_fields}
+use Rattle.client_lemmas.proofs.Later.{item_of}
+use Rattle.client_lemmas.proofs.Made.{made_more}
 
 -- node 1 of the block is linked behind the tail's node
 abbrev pub put_entry : ℕ → ℕ → ℕ → Entry
 put_entry tail next block = record { target = next_place tail; from = next; to = changed_word next (reference_to block 1) }
-
-zero_value : versioned_value 0 ≡ 0
-unfolding versioned_value
-zero_value = refl
 
 module _ (world : World) (queue : IsQueue world) (list : Listed) (tail next word : ℕ) (used : ℕ → Bool)
     (put : is_put list.call.op ≡ true) (same : world.words (next_place tail) ≡ next) (change : IsExchanged (put_entry tail next list.block) word)
@@ -97,16 +97,16 @@ module _ (world : World) (queue : IsQueue world) (list : Listed) (tail next word
     chain =
         chain_grows world (taken world list (put_entry tail next list.block) word used) queue.chain extends (change_of queue_object list world.changes) refl put kept.used own unused
         (ap (λ place. versioned_value (with_word (next_place tail) word world.words place)) (sym last_place) ∙ ap versioned_value (same_place (next_place tail) word world.words) ∙ word_value)
-        (ap versioned_value (other_place (next_place tail) word world.words (node_place (reference_to list.block 1) NODE_NEXT) own_next ∙ end) ∙ zero_value)
-        (other_place (next_place tail) word world.words (node_place (reference_to list.block 1) NODE_VALUE) (other_value list.block) ∙ value)
-        (λ k low. other_place (next_place tail) word world.words (next_of world.changes k) (other_next k low))
-        (λ k low. other_place (next_place tail) word world.words (value_of world.changes (k + 1)) (other_value (node_block world.changes (k + 1))))
+        (ap versioned_value (word_beside (next_place tail) word world.words (node_place (reference_to list.block 1) NODE_NEXT) own_next ∙ end) ∙ value_small 0 (omega arith))
+        (word_beside (next_place tail) word world.words (node_place (reference_to list.block 1) NODE_VALUE) (other_value list.block) ∙ value)
+        (λ k low. word_beside (next_place tail) word world.words (next_of world.changes k) (other_next k low))
+        (λ k low. word_beside (next_place tail) word world.words (value_of world.changes (k + 1)) (other_value (node_block world.changes (k + 1))))
 
     ends : HasEnds (taken world list (put_entry tail next list.block) word used)
     ends =
         let more = takes-put (change_of queue_object list world.changes) world.changes put in
-        let head = other_place (next_place tail) word world.words HEAD (end_place HEAD (omega arith)) in
-        let rear = other_place (next_place tail) word world.words TAIL (end_place TAIL (omega arith)) in
+        let head = word_beside (next_place tail) word world.words HEAD (end_place HEAD (omega arith)) in
+        let rear = word_beside (next_place tail) word world.words TAIL (end_place TAIL (omega arith)) in
         let nodes = same_node_at world.changes (change_of queue_object list world.changes ∷ world.changes) extends in
         let old = queue.ends in
         record {
@@ -155,8 +155,8 @@ module _ (world : World) (queue : IsQueue world) (list : Listed) (tail next word
           ends = ends;
           holds = holds_put (change_of queue_object list world.changes) world.changes queue.holds put;
           effective = (effective_put (change_of queue_object list world.changes) world.changes queue.holds put, queue.effective);
-          made = made_more world (taken world list (put_entry tail next list.block) word used) kept queue.made (change_of queue_object list world.changes) refl fresh
+          made = made_more world (taken world list (put_entry tail next list.block) word used) kept.used kept.journal queue.made (change_of queue_object list world.changes) refl fresh
               (record { entry = put_entry tail next list.block; cause = cause_of world (By list 0) (put_entry tail next list.block); listed = listed; won = inl refl }) own (λ some. unused);
-          journal = journal_grows world (taken world list (put_entry tail next list.block) word used) kept (omega (arith, ap versioned_version (other_place (next_place tail) word world.words TAIL (end_place TAIL (omega arith))))) queue.ends queue.journal chain _ refl known
+          journal = journal_grows world (taken world list (put_entry tail next list.block) word used) kept (omega (arith, ap versioned_version (word_beside (next_place tail) word world.words TAIL (end_place TAIL (omega arith))))) queue.ends queue.journal chain _ refl known
               (last ∙ sym (ap (reached world) kind_is)) (omega (arith, new_puts, last));
         }

@@ -1,5 +1,5 @@
 -- The laws of the queue's search: what it asks for, what it learns from a step, and why it gives up.
-use Rattle.std.proofs.Common.{◌≡◌, ◌≢◌, ℕ, ◌+◌, ◌-◌, ◌<◌, ◌≤◌, Bool, true, false, cond, eqb, ◌||◌, ◌&&◌, List, [], length, drop, refl, sym, ap, ◌∙◌, subst, inl, inr, ◌⊎◌, arith}
+use Rattle.std.proofs.Common.{◌≡◌, ◌≢◌, ℕ, ◌+◌, ◌<◌, ◌≤◌, Bool, true, false, cond, eqb, ◌||◌, ◌&&◌, List, [], length, refl, sym, ap, ◌∙◌, inl, inr, ◌⊎◌, arith}
 use Rattle.std.proofs.lemmas.Bool.{true≢false, false≢true, eqb-true, eqb-false, cases_lt}
 use Rattle.lin_report.specs.declared.calls.Op.{Op}
 use Rattle.lin_report.specs.declared.calls.Reply.{Reply}
@@ -11,12 +11,10 @@ use Rattle.lin_report.specs.Commands.{IsCommandOf, takes_nothing}
 use Rattle.lin_report.specs.Object.{queue_object, queue_apply}
 use Rattle.step_memory.specs.declared.steps.Seen.{Seen}
 use Rattle.word_fields.specs.Versioned.{versioned_value, versioned_bit, versioned_version, is_modified, value_below}
-use Rattle.word_fields.proofs.VersionedLemmas.{bit_below}
 use Rattle.node_arena.specs.declared.places.TheConstants.{HEAD, TAIL}
-use Rattle.normal_traits.specs.declared.form.Found.{Found}
 use Rattle.normal_traits.specs.declared.form.Found.TheVariants.{Going, Ready, Answer, Contended}
 use Rattle.normal_traits.specs.World.{World, held_after, first_changes, RightSince}
-use Rattle.normal_traits.specs.Laws.{AsksWell, FoundWell}
+use Rattle.normal_traits.specs.Laws.{AsksWell}
 use Rattle.queue_laws.specs.declared.states.QueueSearch.{QueueSearch}
 use Rattle.queue_laws.specs.declared.states.QueueSearch.TheVariants.{PutTail, PutNext, PutHelp, PutReady, TakeHead, TakeTail, TakeNext, TakeHelp, TakeReady}
 use Rattle.queue_laws.specs.Search.{is_put, begun, asked, fed, met_by_put, met_by_take, Asks, next_place}
@@ -27,7 +25,11 @@ use Rattle.queue_laws.specs.Form.{queue_form}
 use Rattle.queue_laws.proofs.History.{apply-take, take_empty}
 use Rattle.queue_laws.proofs.Kept.{next_place_is, next_place_word}
 use Rattle.queue_laws.proofs.Keeps.{takes_is}
-use Rattle.queue_laws.proofs.Later.{Later, Went}
+use Rattle.queue_laws.proofs.Later.{Later}
+use Rattle.client_lemmas.proofs.Words.{clear_from}
+use Rattle.client_lemmas.proofs.Growing.{first_all}
+use Rattle.client_lemmas.proofs.Requests.{Went, from_load}
+use Rattle.client_lemmas.proofs.Outcomes.{FedWell}
 
 -- ---- the beginning
 
@@ -66,9 +68,6 @@ asks_well world (TakeHelp tail next) queue asks l = (refl, refl, λ listable. ab
 asks_well world (TakeReady head next) queue asks l = absurd asks
 
 -- ---- what it learns from a load
-
-clear_from : (word : ℕ) → is_modified word ≡ false → versioned_bit word ≡ 0
-clear_from word e = omega (arith, bit_below word, eqb-false (versioned_bit word) 1 e)
 
 module _ (world : World) (queue : IsQueue world) where
   pub tail_loaded : WasTail world (world.words TAIL)
@@ -114,9 +113,7 @@ module _ (world : World) (queue : IsQueue world) where
       let last = last_loaded head was.was_tail null in
       let none : held_after queue_object world.changes ≡ [] =
       take_empty (held_after queue_object world.changes) (omega (arith, queue.holds.count, last, was.passed, queue.ends.taken)) in
-      let now : first_changes (length world.changes) world.changes ≡ world.changes =
-      ap (λ n. drop n world.changes) (omega_same (length world.changes)) in
-      let held : held_after queue_object (first_changes (length world.changes) world.changes) ≡ [] = ap (held_after queue_object) now ∙ none in
+      let held : held_after queue_object (first_changes (length world.changes) world.changes) ≡ [] = ap (held_after queue_object) (first_all world.changes) ∙ none in
       let applied = apply-take op [] (takes_is op serves) in
       record {
         count = length world.changes;
@@ -125,33 +122,22 @@ module _ (world : World) (queue : IsQueue world) where
         observes = ap (λ (values : List ℕ). (queue_apply op values).0) held ∙ ap (λ (r : List ℕ × Reply). r.0) applied ∙ sym held;
         told = sym (ap (λ (values : List ℕ). (queue_apply op values).1) held ∙ ap (λ (r : List ℕ × Reply). r.1) applied);
       }
-    where
-      omega_same : (n : ℕ) → n - n ≡ 0
-      omega_same n = omega arith
 
 -- ---- a step
 
--- what a fed search knows, and what it found, are right
-abbrev FedWell : World → Op → ℕ → QueueSearch × Found → Type 0
-FedWell world op since result = Knows result.0 op world since × FoundWell queue_form world op since result.0 result.1
-
-from_load : (world after : World) (seen : Seen) (place : ℕ) (P : World → Seen → Type 0) → (after ≡ world) × (seen ≡ record { before = world.words place; won = true })
-    → P world (record { before = world.words place; won = true }) → P after seen
-from_load world after seen place P w p = subst (λ (a : World). P a seen) (sym w.0) (subst (P world) (sym w.1) p)
-
-put_met : (world : World) → IsQueue world → (op : Op) (since tail : ℕ) → op.code ≡ PUT → since ≤ length world.changes → WasTail world tail → FedWell world op since (met_by_put tail (world.words (next_place tail)))
+put_met : (world : World) → IsQueue world → (op : Op) (since tail : ℕ) → op.code ≡ PUT → since ≤ length world.changes → WasTail world tail → FedWell queue_form world op since (met_by_put tail (world.words (next_place tail)))
 put_met world queue op since tail serves began was = by_null (eqb (versioned_value (world.words (next_place tail))) 0) refl
   where
     next : ℕ
     next = world.words (next_place tail)
 
     by_bit : versioned_value (world.words (next_place tail)) ≡ 0 → (set : Bool) → is_modified (world.words (next_place tail)) ≡ set
-        → FedWell world op since (cond set (PutNext tail, Contended) (PutReady tail (world.words (next_place tail)), Ready))
+        → FedWell queue_form world op since (cond set (PutNext tail, Contended) (PutReady tail (world.words (next_place tail)), Ready))
     by_bit null true e = (record { serves = serves; began = began; learnt = was }, tt)
     by_bit null false e = (record { serves = serves; began = began; learnt = (was, λ clear. inl refl, null, clear_from (world.words (next_place tail)) e) }, tt)
 
     by_null : (null : Bool) → eqb (versioned_value (world.words (next_place tail))) 0 ≡ null
-        → FedWell world op since (cond null (cond (is_modified (world.words (next_place tail))) (PutNext tail, Contended) (PutReady tail (world.words (next_place tail)), Ready)) (PutHelp tail (world.words (next_place tail)), Going))
+        → FedWell queue_form world op since (cond null (cond (is_modified (world.words (next_place tail))) (PutNext tail, Contended) (PutReady tail (world.words (next_place tail)), Ready)) (PutHelp tail (world.words (next_place tail)), Going))
     by_null true e = by_bit (eqb-true (versioned_value (world.words (next_place tail))) 0 e) (is_modified (world.words (next_place tail))) refl
     by_null false e =
         (record { serves = serves; began = began; learnt = (was, next_loaded world queue tail was (eqb-false (versioned_value (world.words (next_place tail))) 0 e)) }, tt)
@@ -167,11 +153,11 @@ same_version world queue tail head was was' same order = by_order (cases_lt (ver
     by_order (inr after) = omega arith
 
 take_met : (world : World) → IsQueue world → (op : Op) (since head tail : ℕ) → op.code ≡ TAKE → since ≤ length world.changes → WasHead world head → WasTail world tail → versioned_version head ≤ versioned_version tail
-    → FedWell world op since (met_by_take head tail (world.words (next_place head)))
+    → FedWell queue_form world op since (met_by_take head tail (world.words (next_place head)))
 take_met world queue op since head tail serves began was was_tail order = by_null (eqb (versioned_value (world.words (next_place head))) 0) refl
   where
     by_node : versioned_value (world.words (next_place head)) ≢ 0 → (same : Bool) → eqb (versioned_value tail) (versioned_value head) ≡ same
-        → FedWell world op since (cond same (TakeHelp tail (world.words (next_place head)), Going) (TakeReady head (world.words (next_place head)), Ready))
+        → FedWell queue_form world op since (cond same (TakeHelp tail (world.words (next_place head)), Going) (TakeReady head (world.words (next_place head)), Ready))
     by_node some true e =
         let next = next_loaded world queue head was.was_tail some in
         let version = same_version world queue tail head was_tail was.was_tail (eqb-true (versioned_value tail) (versioned_value head) e) order in (
@@ -189,44 +175,44 @@ take_met world queue op since head tail serves began was was_tail order = by_nul
         (record { serves = serves; began = began; learnt = (was, next, omega (arith, differ, order, was_tail.passed)) }, tt)
 
     by_null : (null : Bool) → eqb (versioned_value (world.words (next_place head))) 0 ≡ null
-        → FedWell world op since (cond null (TakeNext head tail, Answer (Plain Empty)) (cond (eqb (versioned_value tail) (versioned_value head)) (TakeHelp tail (world.words (next_place head)), Going) (TakeReady head (world.words (next_place head)), Ready)))
+        → FedWell queue_form world op since (cond null (TakeNext head tail, Answer (Plain Empty)) (cond (eqb (versioned_value tail) (versioned_value head)) (TakeHelp tail (world.words (next_place head)), Going) (TakeReady head (world.words (next_place head)), Ready)))
     by_null true e =
         (record { serves = serves; began = began; learnt = (was, was_tail, order) }, (empty_loaded world queue head since op serves began was (eqb-true (versioned_value (world.words (next_place head))) 0 e), tt))
     by_null false e = by_node (eqb-false (versioned_value (world.words (next_place head))) 0 e) (eqb (versioned_value tail) (versioned_value head)) refl
 
-head_met : (world : World) → IsQueue world → (op : Op) (since : ℕ) → op.code ≡ TAKE → since ≤ length world.changes → FedWell world op since (cond (is_modified (world.words HEAD)) (TakeHead, Contended) (TakeTail (world.words HEAD), Going))
+head_met : (world : World) → IsQueue world → (op : Op) (since : ℕ) → op.code ≡ TAKE → since ≤ length world.changes → FedWell queue_form world op since (cond (is_modified (world.words HEAD)) (TakeHead, Contended) (TakeTail (world.words HEAD), Going))
 head_met world queue op since serves began = by_bit (is_modified (world.words HEAD)) refl
   where
-    by_bit : (set : Bool) → is_modified (world.words HEAD) ≡ set → FedWell world op since (cond set (TakeHead, Contended) (TakeTail (world.words HEAD), Going))
+    by_bit : (set : Bool) → is_modified (world.words HEAD) ≡ set → FedWell queue_form world op since (cond set (TakeHead, Contended) (TakeTail (world.words HEAD), Going))
     by_bit true e = (record { serves = serves; began = began; learnt = tt }, tt)
     by_bit false e = (record { serves = serves; began = began; learnt = head_loaded world queue (clear_from (world.words HEAD) e) }, tt)
 
 -- a help that was won begins anew, and one that was lost gives up
 help_met : (world after : World) (seen : Seen) (op : Op) (since tail next : ℕ) (helping anew : QueueSearch) → Asks anew → (Knows anew op after since) → Knows helping op after since
-    → FedWell after op since (cond seen.won (anew, Going) (helping, Contended))
+    → FedWell queue_form after op since (cond seen.won (anew, Going) (helping, Contended))
 help_met world after seen op since tail next helping anew asks fresh knows = by_won seen.won
   where
-    by_won : (won : Bool) → FedWell after op since (cond won (anew, Going) (helping, Contended))
+    by_won : (won : Bool) → FedWell queue_form after op since (cond won (anew, Going) (helping, Contended))
     by_won true = (fresh, asks)
     by_won false = (knows, tt)
 
 pub fed_well : (world after : World) (seen : Seen) (searched : QueueSearch) (op : Op) (since : ℕ) → IsQueue world → Later world after → Asks searched → Knows searched op world since → Knows searched op after since
-    → Went (asked searched) world after seen → FedWell after op since (fed searched seen)
+    → Went queue_form (asked searched) world after seen → FedWell queue_form after op since (fed searched seen)
 fed_well world after seen PutTail op since queue kept asks knows still w =
-    from_load world after seen TAIL (λ a s. FedWell a op since (fed PutTail s)) w (record { serves = knows.serves; began = knows.began; learnt = tail_loaded world queue }, tt)
+    from_load world after seen TAIL (λ a s. FedWell queue_form a op since (fed PutTail s)) w (record { serves = knows.serves; began = knows.began; learnt = tail_loaded world queue }, tt)
 fed_well world after seen (PutNext tail) op since queue kept asks knows still w =
-    from_load world after seen (next_place tail) (λ a s. FedWell a op since (fed (PutNext tail) s)) w (put_met world queue op since tail knows.serves knows.began knows.learnt)
+    from_load world after seen (next_place tail) (λ a s. FedWell queue_form a op since (fed (PutNext tail) s)) w (put_met world queue op since tail knows.serves knows.began knows.learnt)
 fed_well world after seen (PutHelp tail next) op since queue kept asks knows still w =
     help_met world after seen op since tail next (PutHelp tail next) PutTail tt (record { serves = knows.serves; began = still.began; learnt = tt }) still
 fed_well world after seen (PutReady tail next) op since queue kept asks knows still w = absurd asks
 fed_well world after seen TakeHead op since queue kept asks knows still w =
-    from_load world after seen HEAD (λ a s. FedWell a op since (fed TakeHead s)) w (head_met world queue op since knows.serves knows.began)
+    from_load world after seen HEAD (λ a s. FedWell queue_form a op since (fed TakeHead s)) w (head_met world queue op since knows.serves knows.began)
 fed_well world after seen (TakeTail head) op since queue kept asks knows still w =
     let tail = tail_loaded world queue in
-    from_load world after seen TAIL (λ a s. FedWell a op since (fed (TakeTail head) s)) w
+    from_load world after seen TAIL (λ a s. FedWell queue_form a op since (fed (TakeTail head) s)) w
     (record { serves = knows.serves; began = knows.began; learnt = (knows.learnt, tail, knows.learnt.was_tail.passed) }, tt)
 fed_well world after seen (TakeNext head tail) op since queue kept asks knows still w =
-    from_load world after seen (next_place head) (λ a s. FedWell a op since (fed (TakeNext head tail) s)) w
+    from_load world after seen (next_place head) (λ a s. FedWell queue_form a op since (fed (TakeNext head tail) s)) w
     (take_met world queue op since head tail knows.serves knows.began knows.learnt.0 knows.learnt.1 knows.learnt.2)
 fed_well world after seen (TakeHelp tail next) op since queue kept asks knows still w =
     help_met world after seen op since tail next (TakeHelp tail next) TakeHead tt (record { serves = knows.serves; began = still.began; learnt = tt }) still

@@ -8,10 +8,14 @@ use Rattle.normal_traits.specs.World.Maker.{Beside}
 use Rattle.normal_traits.specs.Steps.{with_word}
 use Rattle.queue_laws.specs.Chain.{puts, node_block, node_at, next_of, value_of, is_versioned}
 use Rattle.queue_laws.specs.Shape.{kind_of, cause_of, IsQueue}
-use Rattle.queue_laws.proofs.Places.{other_place, behind_first, node_word, next_versioned, value_not_versioned}
+use Rattle.queue_laws.proofs.Places.{next_versioned, value_not_versioned}
 use Rattle.queue_laws.proofs.Chains.{SameChain, chain_stays}
-use Rattle.queue_laws.proofs.Journal.{journal_stays, journal_grows, made_stay}
-use Rattle.queue_laws.proofs.Later.{Later, item_of}
+use Rattle.queue_laws.proofs.Journal.{journal_stays, journal_grows}
+use Rattle.queue_laws.proofs.Later.{Later}
+use Rattle.normal_traits.proofs.Stays.{word_beside}
+use Rattle.client_lemmas.proofs.Places.{behind_first, node_word}
+use Rattle.client_lemmas.proofs.Later.{item_of}
+use Rattle.client_lemmas.proofs.Made.{made_stay}
 
 same_chain : (changes : List Change) → SameChain changes changes
 same_chain changes = record { count = refl; blocks = λ k. refl; values = λ k. refl }
@@ -44,7 +48,7 @@ module _ (world : World) (words : ℕ → ℕ) (queue : IsQueue world) (kept : L
         };
         holds = queue.holds;
         effective = queue.effective;
-        made = made_stay world (with_words words world) kept refl queue.made;
+        made = made_stay world (with_words words world) kept.used kept.journal refl queue.made;
         journal = journal_stays world (with_words words world) kept (omega (arith, tail.1)) ends queue.journal refl;
       }
 
@@ -71,8 +75,8 @@ module _ (world : World) (queue : IsQueue world) (tail to : ℕ) (same : world.w
       let at : versioned_version (world.words TAIL) ≡ versioned_version tail = ap versioned_version same in
       let moved : versioned_version (with_word TAIL to world.words TAIL) ≡ versioned_version tail + 1 = raised in
       let chain = chain_stays world swung queue.chain (same_chain world.changes) (λ block u. u)
-      (λ k low. ap versioned_value (other_place TAIL to world.words (next_of world.changes k) (behind_first (node_at world.changes k) NODE_NEXT TAIL (omega arith))))
-      (λ k low. other_place TAIL to world.words (value_of world.changes (k + 1)) (behind_first (node_at world.changes (k + 1)) NODE_VALUE TAIL (omega arith))) in
+      (λ k low. ap versioned_value (word_beside TAIL to world.words (next_of world.changes k) (behind_first (node_at world.changes k) NODE_NEXT TAIL (omega arith))))
+      (λ k low. word_beside TAIL to world.words (value_of world.changes (k + 1)) (behind_first (node_at world.changes (k + 1)) NODE_VALUE TAIL (omega arith))) in
       record {
         chain = chain;
         ends = record {
@@ -84,7 +88,7 @@ module _ (world : World) (queue : IsQueue world) (tail to : ℕ) (same : world.w
         };
         holds = queue.holds;
         effective = queue.effective;
-        made = made_stay world swung kept refl queue.made;
+        made = made_stay world swung kept.used kept.journal refl queue.made;
         journal = journal_grows world swung kept (omega (arith, at, raised)) ends queue.journal chain _ refl
             (record { before = versioned_version tail; within = omega (arith, raised); node = names; cause = cause_is Beside (versioned_version tail + 1) names; made = tt })
             (sym at) (omega arith);

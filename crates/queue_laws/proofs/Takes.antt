@@ -17,12 +17,15 @@ use Rattle.queue_laws.specs.Search.{is_put, moved_word}
 use Rattle.queue_laws.specs.Chain.{puts, takes, node_block, put_value, node_at, next_of, value_of}
 use Rattle.queue_laws.specs.Shape.{kind_of, cause_of, reached, reply_at, HasEnds, BroughtIn, IsQueue}
 use Rattle.queue_laws.specs.Knowledge.{WasNext}
-use Rattle.queue_laws.proofs.Places.{other_place, behind_first}
 use Rattle.queue_laws.proofs.Changes.{puts-take, takes-take, block-take, value-take}
 use Rattle.queue_laws.proofs.Chains.{SameChain, chain_stays, node_same}
 use Rattle.queue_laws.proofs.History.{holds_take, effective_take, reply_take}
-use Rattle.queue_laws.proofs.Journal.{journal_grows, made_more}
-use Rattle.queue_laws.proofs.Later.{Later, item_of}
+use Rattle.queue_laws.proofs.Journal.{journal_grows}
+use Rattle.queue_laws.proofs.Later.{Later}
+use Rattle.normal_traits.proofs.Stays.{word_beside}
+use Rattle.client_lemmas.proofs.Places.{behind_first}
+use Rattle.client_lemmas.proofs.Later.{item_of}
+use Rattle.client_lemmas.proofs.Made.{made_more}
 
 -- the head is moved from this word to the node behind it, which another word names
 abbrev pub take_entry : ℕ → ℕ → Entry
@@ -113,14 +116,14 @@ module _ (world : World) (queue : IsQueue world) (list : Listed) (head next word
   take_keeps kept fresh listed own unused =
       let after = taken world list (take_entry head next) word used in
       let chain = chain_stays world after queue.chain unchanged kept.used
-      (λ k low. ap versioned_value (other_place HEAD word world.words (next_of world.changes k) (behind_first (node_at world.changes k) NODE_NEXT HEAD (omega arith))))
-      (λ k low. other_place HEAD word world.words (value_of world.changes (k + 1)) (behind_first (node_at world.changes (k + 1)) NODE_VALUE HEAD (omega arith))) in
+      (λ k low. ap versioned_value (word_beside HEAD word world.words (next_of world.changes k) (behind_first (node_at world.changes k) NODE_NEXT HEAD (omega arith))))
+      (λ k low. word_beside HEAD word world.words (value_of world.changes (k + 1)) (behind_first (node_at world.changes (k + 1)) NODE_VALUE HEAD (omega arith))) in
       record {
         chain = chain;
         ends = ends_taken;
         holds = holds_take (change_of queue_object list world.changes) world.changes queue.holds take some;
         effective = (effective_take (change_of queue_object list world.changes) world.changes queue.holds take some, queue.effective);
-        made = made_more world after kept queue.made (change_of queue_object list world.changes) refl fresh
+        made = made_more world after kept.used kept.journal queue.made (change_of queue_object list world.changes) refl fresh
             (record { entry = take_entry head next; cause = cause_of world (By list 0) (take_entry head next); listed = listed; won = inl refl }) own unused;
         journal = journal_grows world after kept (omega arith) queue.ends queue.journal chain _ refl known (at_head ∙ sym (ap (reached world) kind_is)) (omega (arith, was.within, unchanged.count));
       }

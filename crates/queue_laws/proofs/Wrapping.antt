@@ -1,5 +1,5 @@
 -- The laws of the queue's wrap-up: what it may say at once, and what comes of moving the tail.
-use Rattle.std.proofs.Common.{◌≡◌, ℕ, ◌+◌, ◌<◌, ◌≤◌, Bool, true, false, cond, eqb, List, length, refl, sym, ap, ◌∙◌, subst, inl, inr, ◌⊎◌, Some, arith}
+use Rattle.std.proofs.Common.{◌≡◌, ℕ, ◌+◌, ◌<◌, ◌≤◌, Bool, true, false, cond, eqb, refl, sym, ap, ◌∙◌, subst, inl, inr, ◌⊎◌, Some, arith}
 use Rattle.std.specs.Prelude.{slice_get}
 use Rattle.std.proofs.lemmas.Bool.{false≢true, eqb-true, cond-true, cond-false, cases_order, cases_eq, eq-eqb, ne_eqb}
 use Rattle.lin_report.specs.declared.calls.Reply.{Reply}
@@ -11,12 +11,10 @@ use Rattle.node_arena.specs.declared.places.TheConstants.{TAIL, NODE_VALUE, NODE
 use Rattle.node_arena.specs.MemoryMap.{node_place, block_at}
 use Rattle.normal_traits.specs.declared.form.Wrapped.{Wrapped}
 use Rattle.normal_traits.specs.declared.form.Wrapped.TheVariants as wrapped
-use Rattle.normal_traits.specs.declared.lists.Entry.{Entry}
-use Rattle.normal_traits.specs.NormalForm.{Offered}
-use Rattle.normal_traits.specs.World.{Listed, World, Won, Among, is_word, Took, Failed, Stopped}
+use Rattle.normal_traits.specs.World.{Listed, World, Won, Among, Took, Stopped}
 use Rattle.normal_traits.specs.World.Maker.{By}
 use Rattle.normal_traits.specs.Steps.{IsOffered}
-use Rattle.normal_traits.specs.Laws.{AsksWell, WrappedWell}
+use Rattle.normal_traits.specs.Laws.{AsksWell}
 use Rattle.queue_laws.specs.declared.states.QueueSearch.{QueueSearch}
 use Rattle.queue_laws.specs.declared.states.QueueWrap.{QueueWrap}
 use Rattle.queue_laws.specs.declared.states.QueueWrap.TheVariants.{Over, Tail, Swing}
@@ -24,16 +22,19 @@ use Rattle.queue_laws.specs.Search.{is_put, next_place}
 use Rattle.queue_laws.specs.Wrap.{done, after_entry, wrap_begun, wrap_asked, wrap_fed, Wraps}
 use Rattle.queue_laws.specs.Chain.{puts, node_block, put_value, node_at, next_of, value_of, is_versioned}
 use Rattle.queue_laws.specs.Shape.{kind_of, reply_at, MadeChange, IsQueue}
-use Rattle.queue_laws.specs.Knowledge.{WasLinked, Follows, IsDead}
+use Rattle.queue_laws.specs.Knowledge.{WasLinked, Follows}
 use Rattle.queue_laws.specs.Form.{queue_form}
-use Rattle.queue_laws.proofs.Places.{apart_nodes, block_of_place, value_not_versioned}
+use Rattle.queue_laws.proofs.Places.{value_not_versioned}
 use Rattle.queue_laws.proofs.Journal.{reached_within}
-use Rattle.queue_laws.proofs.Kept.{next_place_is, next_place_word, next_place_versioned}
-use Rattle.queue_laws.proofs.Keeps.{IsTried, tried, no_second}
-use Rattle.queue_laws.proofs.Keeps.IsTried.{puts_it, takes_it}
-use Rattle.queue_laws.proofs.Later.{Later, Went}
+use Rattle.queue_laws.proofs.Kept.{next_place_is}
+use Rattle.queue_laws.proofs.Keeps.{one_alone}
+use Rattle.queue_laws.proofs.Later.{Later}
 use Rattle.queue_laws.proofs.Searching.{tail_loaded}
 use Rattle.queue_laws.proofs.Offers.{offers}
+use Rattle.client_lemmas.proofs.Places.{apart_nodes, block_of_place}
+use Rattle.client_lemmas.proofs.Requests.{Went}
+use Rattle.client_lemmas.proofs.Lost.{stopped_lost}
+use Rattle.client_lemmas.proofs.Outcomes.{WellWrapped}
 
 -- ---- what it asks for
 
@@ -44,11 +45,7 @@ wrap_asks_well world (Swing tail to) list stop going follows = (refl, refl, λ l
 
 -- ---- a put that moves the tail
 
--- what a wrap-up is and says is right
-abbrev WellWrapped : World → Listed → ℕ → QueueWrap × Wrapped → Type 0
-WellWrapped world list stop result = WrappedWell queue_form world list stop result.0 result.1
-
-put_done : (world : World) (list : Listed) (stop : ℕ) → Among (record { list = list; reply = Done }) world.changes → WellWrapped world list stop done
+put_done : (world : World) (list : Listed) (stop : ℕ) → Among (record { list = list; reply = Done }) world.changes → WellWrapped queue_form world list stop done
 put_done world list stop change = (record { reply = Done; change = change; told = refl }, tt)
 
 -- two places of next words of the chain are one for one node alone
@@ -63,10 +60,10 @@ same_next world queue i k low low' same = by_order (cases_order i k)
         absurd (apart_nodes (node_block world.changes k) (node_block world.changes i) NODE_NEXT NODE_NEXT (omega arith) (omega arith) (queue.chain.apart k i after low) (sym same))
 
 tail_met : (world : World) → IsQueue world → (list : Listed) (stop target to : ℕ) → Among (record { list = list; reply = Done }) world.changes → WasLinked world target to
-    → WellWrapped world list stop (cond (eqb (next_place (world.words TAIL)) target) (Swing (world.words TAIL) to, wrapped.Going) done)
+    → WellWrapped queue_form world list stop (cond (eqb (next_place (world.words TAIL)) target) (Swing (world.words TAIL) to, wrapped.Going) done)
 tail_met world queue list stop target to change was = by_place (eqb (next_place (world.words TAIL)) target) refl
   where
-    by_place : (at : Bool) → eqb (next_place (world.words TAIL)) target ≡ at → WellWrapped world list stop (cond at (Swing (world.words TAIL) to, wrapped.Going) done)
+    by_place : (at : Bool) → eqb (next_place (world.words TAIL)) target ≡ at → WellWrapped queue_form world list stop (cond at (Swing (world.words TAIL) to, wrapped.Going) done)
     by_place true e =
         let tail = tail_loaded world queue in
         let same = sym (next_place_is world (world.words TAIL) tail) ∙ eqb-true (next_place (world.words TAIL)) target e ∙ was.place in
@@ -79,12 +76,12 @@ tail_met world queue list stop target to change was = by_place (eqb (next_place 
         )
     by_place false e = put_done world list stop change
 
-pub wrap_met : (world after : World) (seen : Seen) (wrap : QueueWrap) (list : Listed) (stop : ℕ) → IsQueue world → Later world after → Wraps wrap → Follows wrap list stop world → Went (wrap_asked wrap) world after seen
-    → WellWrapped after list stop (wrap_fed wrap seen)
+pub wrap_met : (world after : World) (seen : Seen) (wrap : QueueWrap) (list : Listed) (stop : ℕ) → IsQueue world → Later world after → Wraps wrap → Follows wrap list stop world → Went queue_form (wrap_asked wrap) world after seen
+    → WellWrapped queue_form after list stop (wrap_fed wrap seen)
 wrap_met world after seen Over list stop queue kept going follows w = absurd going
 wrap_met world after seen (Tail target to) list stop queue kept going follows w =
-    subst (λ (a : World). WellWrapped a list stop (wrap_fed (Tail target to) seen)) (sym w.0)
-    (subst (λ (s : Seen). WellWrapped world list stop (wrap_fed (Tail target to) s)) (sym w.1) (tail_met world queue list stop target to follows.change follows.learnt))
+    subst (λ (a : World). WellWrapped queue_form a list stop (wrap_fed (Tail target to) seen)) (sym w.0)
+    (subst (λ (s : Seen). WellWrapped queue_form world list stop (wrap_fed (Tail target to) s)) (sym w.1) (tail_met world queue list stop target to follows.change follows.learnt))
 wrap_met world after seen (Swing tail to) list stop queue kept going follows w = put_done after list stop (kept.extends.among _ follows.change)
 
 -- ---- a list that stopped
@@ -99,10 +96,10 @@ listed_of world queue list t =
     (known.before, omega (arith, known.within, reached_within world queue.ends (kind_of item.maker)), known.node, known.made.1)
 
 -- the entry took effect
-succeeded : (world : World) → IsQueue world → (list : Listed) (stop : ℕ) (t : Took world list 0) → WellWrapped world list stop (after_entry list.call.op (Some t.entry))
+succeeded : (world : World) → IsQueue world → (list : Listed) (stop : ℕ) (t : Took world list 0) → WellWrapped queue_form world list stop (after_entry list.call.op (Some t.entry))
 succeeded world queue list stop t = by_op (is_put list.call.op) refl
   where
-    by_op : (put : Bool) → is_put list.call.op ≡ put → WellWrapped world list stop (cond put (Tail t.entry.target t.entry.to, wrapped.Going) (Over, wrapped.Done (ValueOf (versioned_value t.entry.to))))
+    by_op : (put : Bool) → is_put list.call.op ≡ put → WellWrapped queue_form world list stop (cond put (Tail t.entry.target t.entry.to, wrapped.Going) (Over, wrapped.Done (ValueOf (versioned_value t.entry.to))))
     by_op true e =
         let known = listed_of world queue list t in
         let reply : reply_at world.changes list (known.0 + 1) ≡ Done = cond-true (is_put list.call.op) Done (Value (put_value world.changes (known.0 + 1))) e in (
@@ -128,40 +125,23 @@ succeeded world queue list stop t = by_op (is_put list.call.op) refl
           ap is_versioned at ∙ value_not_versioned block,
         )
 
--- the entry of a list that is offered stands at a client's versioned place
-entry_place : (world : World) → IsQueue world → (list : Listed) (entry : Entry) {offer : Offered} → IsTried world list entry offer → (is_word world entry.target ≡ true) × (is_versioned entry.target ≡ true)
-entry_place world queue list entry (puts_it tail next put learnt is offers) =
-    subst (λ (e : Entry). (is_word world e.target ≡ true) × (is_versioned e.target ≡ true)) is (next_place_word world tail queue learnt.0, next_place_versioned world tail learnt.0)
-entry_place world queue list entry (takes_it head next take learnt is) =
-    subst (λ (e : Entry). (is_word world e.target ≡ true) × (is_versioned e.target ≡ true)) is (refl, refl)
-
 pub begun_well : (world : World) (list : Listed) (searched : QueueSearch) (since stop : ℕ) → IsQueue world → IsOffered queue_form world list searched since → Stopped world list stop
-    → WellWrapped world list stop (wrap_begun list.call.op list.entries stop)
+    → WellWrapped queue_form world list stop (wrap_begun list.call.op list.entries stop)
 begun_well world list searched since stop queue offer stopped = by_stop (cases_eq stop 0) (cases_eq stop 1)
   where
     at_first : QueueWrap × Wrapped
     at_first = after_entry list.call.op (slice_get list.entries 0)
 
-    dead : (failed : Failed world list 0) → IsDead list world
-    dead failed =
-        let place = entry_place world queue list failed.entry (tried world list searched since failed.entry offer failed.listed) in
-        record { entry = failed.entry; listed = failed.listed; word = place.0; versioned = place.1; passed = failed.passed; lost = failed.lost }
-
-    nonempty : 0 < length list.entries
-    nonempty =
-        let good = offers world searched list.call.op list.block offer.command queue offer.knows.serves offer.knows.learnt offer.ready offer.small in
-        subst (λ (entries : List Entry). 0 < length entries) (sym offer.entries) good.some
-
-    by_stop : (stop ≡ 0) ⊎ (stop ≡ 0 → ⊥) → (stop ≡ 1) ⊎ (stop ≡ 1 → ⊥) → WellWrapped world list stop (wrap_begun list.call.op list.entries stop)
+    by_stop : (stop ≡ 0) ⊎ (stop ≡ 0 → ⊥) → (stop ≡ 1) ⊎ (stop ≡ 1 → ⊥) → WellWrapped queue_form world list stop (wrap_begun list.call.op list.entries stop)
     by_stop (inl none) second =
-        subst (WellWrapped world list stop) (sym (cond-true (eqb stop 0) (Over, wrapped.Restart) (cond (eqb stop 1) at_first done) (eq-eqb stop 0 none)))
-        (dead (subst (Failed world list) none (stopped.failed (omega (arith, none, nonempty)))))
+        subst (WellWrapped queue_form world list stop) (sym (cond-true (eqb stop 0) (Over, wrapped.Restart) (cond (eqb stop 1) at_first done) (eq-eqb stop 0 none)))
+        (stopped_lost queue_form world list searched since offer (offers world searched list.call.op list.block offer.command queue offer.knows.serves offer.knows.learnt offer.ready offer.small) stop none stopped)
     by_stop (inr some) (inl one) =
         let t : Took world list 0 = stopped.took 0 (omega (arith, one)) in
-        subst (WellWrapped world list stop)
+        subst (WellWrapped queue_form world list stop)
         (sym (cond-false (eqb stop 0) (Over, wrapped.Restart) (cond (eqb stop 1) at_first done) (ne_eqb stop 0 some)
         ∙ cond-true (eqb stop 1) at_first done (eq-eqb stop 1 one) ∙ ap (after_entry list.call.op) t.listed))
         (succeeded world queue list stop t)
     by_stop (inr some) (inr more) =
         let t : Took world list 1 = stopped.took 1 (omega (arith, some, more)) in
-        absurd (no_second world list searched since t.entry offer t.listed)
+        absurd (one_alone world list searched since t.entry offer t.listed)

@@ -8,10 +8,11 @@ use Rattle.queue_laws.specs.Search.{is_put, begun, asked, fed, Asks, IsReady, of
 use Rattle.queue_laws.specs.Wrap.{wrap_begun, wrap_asked, wrap_fed, Wraps}
 use Rattle.queue_laws.specs.Chain.{is_versioned, is_listable}
 use Rattle.queue_laws.specs.Shape.{cause_of, IsQueue}
-use Rattle.queue_laws.specs.Knowledge.{Knows, Keeps, Follows, IsDead}
+use Rattle.queue_laws.specs.Knowledge.{Knows, Keeps, Follows}
+use Rattle.client_lemmas.specs.Lost.{IsLost}
 
 -- each change is made by a list's entry 0, and none beside the lists; a search gives up for a set bit or a
--- lost exchange alone
+-- lost exchange alone, and a list is dead where its one entry was passed
 abbrev pub queue_form : NormalForm QueueSearch QueueWrap
 queue_form =
     record {
@@ -41,5 +42,5 @@ queue_form =
       cause_of = cause_of;
       knows = Knows;
       follows = Follows;
-      dead = IsDead;
+      dead = IsLost is_versioned;
     }

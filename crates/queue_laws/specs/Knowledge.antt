@@ -1,20 +1,19 @@
--- What a search of the queue and a wrap-up have learnt, and which lists are dead. None of it looks at the
--- modified bit of a word that stands there now, but where a word was seen with its bit clear.
-use Rattle.std.specs.Prelude.{◌≡◌, ℕ, ◌+◌, ◌<◌, ◌≤◌, true, length, slice_get, Some}
+-- What a search of the queue and a wrap-up have learnt. None of it looks at the modified bit of
+-- a word that stands there now, but where a word was seen with its bit clear.
+use Rattle.std.specs.Prelude.{◌≡◌, ℕ, ◌+◌, ◌<◌, ◌≤◌, length}
 use Rattle.lin_report.specs.declared.calls.Op.{Op}
 use Rattle.lin_report.specs.declared.calls.Reply.TheVariants.{Done}
 use Rattle.lin_report.specs.declared.calls.TheConstants.{PUT, TAKE}
 use Rattle.step_memory.specs.declared.steps.Seen.{Seen}
 use Rattle.word_fields.specs.Versioned.{versioned_value, versioned_bit, versioned_version}
 use Rattle.node_arena.specs.declared.places.TheConstants.{HEAD, TAIL}
-use Rattle.normal_traits.specs.declared.lists.Entry.{Entry}
-use Rattle.normal_traits.specs.World.{Listed, World, Among, is_word, WasSeen, IsPassed, Took}
+use Rattle.normal_traits.specs.World.{Listed, World, Among, WasSeen}
 use Rattle.queue_laws.specs.declared.states.QueueSearch.{QueueSearch}
 use Rattle.queue_laws.specs.declared.states.QueueSearch.TheVariants.{PutTail, PutNext, PutHelp, PutReady, TakeHead, TakeTail, TakeNext, TakeHelp, TakeReady}
 use Rattle.queue_laws.specs.declared.states.QueueWrap.{QueueWrap}
 use Rattle.queue_laws.specs.declared.states.QueueWrap.TheVariants.{Over, Tail, Swing}
 use Rattle.queue_laws.specs.Search.{next_place}
-use Rattle.queue_laws.specs.Chain.{puts, node_at, next_of, is_versioned}
+use Rattle.queue_laws.specs.Chain.{puts, node_at, next_of}
 
 -- a word that was loaded as the tail, or as the head, which is never past the tail
 pub record WasTail (world : World) (tail : ℕ) : Type 0 where
@@ -89,12 +88,3 @@ LearntWrap (Swing tail to) world = WasTail world tail × WasNext world tail to
 pub record Follows (wrap : QueueWrap) (list : Listed) (stop : ℕ) (world : World) : Type 0 where
   pub change : Among (record { list = list; reply = Done }) world.changes
   pub learnt : LearntWrap wrap world
-
--- a list whose one entry didn't take effect and never will
-pub record IsDead (list : Listed) (world : World) : Type 0 where
-  pub entry : Entry
-  pub listed : slice_get list.entries 0 ≡ Some entry
-  pub word : is_word world entry.target ≡ true
-  pub versioned : is_versioned entry.target ≡ true
-  pub passed : IsPassed world entry
-  pub lost : ¬ Took world list 0

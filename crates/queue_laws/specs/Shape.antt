@@ -7,10 +7,11 @@ use Rattle.lin_report.specs.Object.{queue_object}
 use Rattle.word_fields.specs.Versioned.{versioned_value, versioned_version}
 use Rattle.node_arena.specs.declared.places.TheConstants.{HEAD, TAIL}
 use Rattle.normal_traits.specs.declared.lists.Entry.{Entry}
-use Rattle.normal_traits.specs.World.{Listed, Maker, Cause, Won, Change, World, Among, held_after, Took, Observes}
+use Rattle.normal_traits.specs.World.{Listed, Maker, Cause, Won, Change, World, Among, held_after, Observes}
 use Rattle.normal_traits.specs.World.Maker.{By, Beside}
 use Rattle.queue_laws.specs.Search.{is_put}
 use Rattle.queue_laws.specs.Chain.{puts, takes, node_block, put_value, node_at, next_of, value_of}
+use Rattle.client_lemmas.specs.Made.{AreMade}
 
 -- the kinds of causes: a node was linked, the head was moved to it, the tail was moved to it
 abbrev pub kind_of : Maker → ℕ
@@ -48,13 +49,6 @@ pub record HoldsBehind (changes : List Change) : Type 0 where
 abbrev pub AreEffective : List Change → Type 0
 AreEffective [] = Unit {0}
 AreEffective (change ∷ older) = (¬ Observes queue_object change.list.call.op (held_after queue_object older)) × AreEffective older
-
--- each change was made by its list's entry, and no two by one list or with one block
-pub record AreMade (world : World) : Type 0 where
-  pub took : (change : Change) → Among change world.changes → Took world change.list 0
-  pub blocks : (change : Change) → Among change world.changes → world.used change.list.block ≡ true
-  pub lists_differ : AllPairs (λ (a b : Change). a.list.identity ≢ b.list.identity) world.changes
-  pub blocks_differ : AllPairs (λ (a b : Change). 0 < a.list.block → a.list.block ≢ b.list.block) world.changes
 
 -- how far the chain is linked, taken or passed by the tail
 abbrev pub reached : World → ℕ → ℕ

@@ -21,7 +21,7 @@ use Rattle.normal_traits.specs.Laws.{Laws, IsFixed}
 use Rattle.queue_laws.specs.declared.states.QueueSearch.TheVariants.{TakeTail, PutHelp}
 use Rattle.queue_laws.specs.declared.states.QueueSearch.{QueueSearch}
 use Rattle.queue_laws.specs.Search.{moved_word}
-use Rattle.queue_laws.specs.Knowledge.{Knows, IsDead}
+use Rattle.queue_laws.specs.Knowledge.{Knows}
 use Rattle.queue_laws.specs.Form.{queue_form}
 use Rattle.refuted_forms.specs.QueueForms.{found_at_the_tail, restarts, cause_of_the_node, queue_without_a_look, queue_that_restarts, queue_of_one_cause}
 use Rattle.refuted_forms.proofs.QueueWorlds.{the_put, the_command, the_list, the_search, the_entry, linked, linked_shape, knows_linked, offered_in}
@@ -87,7 +87,7 @@ stopped = record { within = omega arith; took = by_entry; failed = λ low. absur
 pub no_laws_with_a_restart : ¬ Laws queue_that_restarts
 no_laws_with_a_restart laws =
     let shape = linked_shape queue_form.found_of restarts queue_form.cause_of laws in
-    let dead : IsDead the_list put_world = laws.wrap_begun put_world the_list the_search 0 1 shape (offered_in queue_form.found_of restarts queue_form.cause_of put_world (knows_linked queue_form.cause_of)) stopped in
+    let dead : queue_form.dead the_list put_world = laws.wrap_begun put_world the_list the_search 0 1 shape (offered_in queue_form.found_of restarts queue_form.cause_of put_world (knows_linked queue_form.cause_of)) stopped in
     dead.lost took
 
 -- ---- a put that comes by moves the tail

@@ -1,22 +1,24 @@
 -- The step that decides whether a change is made keeps the shape.
 use Rattle.std.proofs.Common.{◌≡◌, ◌≢◌, Bool, true, false, refl, sym, ap, subst, ◌∙◌, inl, inr, ◌⊎◌, arith}
 use Rattle.std.proofs.lemmas.Bool.{cases_eq}
-use Rattle.std.proofs.lemmas.List.Kept.{AllPairs-cons}
 use Rattle.word_fields.specs.Versioned.{versioned_value, versioned_bit, versioned_version, cleared_word}
-use Rattle.normal_traits.specs.World.{Listed, Won, World, Among}
+use Rattle.normal_traits.specs.World.{Listed, Won, World}
 use Rattle.flagged_register.specs.Register.{FLAG, REGISTER, toggles, decided, decision_place}
 use Rattle.flagged_register.specs.Meanings.{Flagged, Made, Stands, IsFlagger, Shape, IsBy, IsSpent, cause_here, IsGone, IsName}
-use Rattle.flagged_register.proofs.Basics.{at_same, at_other, decision_flag, decided_some, decision_register, decided_once, same_decision}
+use Rattle.flagged_register.proofs.Basics.{decision_flag, decided_some, decision_register, decided_once, same_decision}
 use Rattle.flagged_register.proofs.Effects.{Decides, change_decided, decided_won}
 use Rattle.flagged_register.proofs.Effects.Effect.{decides}
 use Rattle.flagged_register.proofs.Later.{Later, later, flagged_later, note_later, made_later, decided_later, value_later, content_later}
 use Rattle.flagged_register.proofs.Kept.FlagLists.{older, IsDecision}
 use Rattle.flagged_register.proofs.Kept.SpentCauses.{spent_later, differs}
+use Rattle.normal_traits.proofs.Stays.{word_beside}
+use Rattle.client_lemmas.proofs.Words.{same_place}
+use Rattle.client_lemmas.proofs.Growing.{each_more, pairs_more}
 
 pub decides_kept : (world : World) (list : Listed) (made : Bool) → Shape world → Decides world list → Shape (change_decided list made world)
 decides_kept world list made shape d = record {
   opened = shape.opened;
-  items = λ item among. item_by item among;
+  items = each_more (λ (w : Won). IsBy w w.maker) (decided_won list made) world.journal after.journal refl tt shape.items;
   flaggers = λ other flagged. flagger other (before other flagged);
   same_identity = λ a b fa fb. shape.same_identity a b (before a fa) (before b fb);
   same_block = λ a b fa fb. shape.same_block a b (before a fa) (before b fb);
@@ -34,8 +36,8 @@ decides_kept world list made shape d = record {
   effective = shape.effective;
   one_list = shape.one_list;
   one_block = shape.one_block;
-  spent = λ item among. spent item among;
-  causes_differ = AllPairs-cons (λ (a b : Won). a.cause ≢ b.cause) (decided_won list made) world.journal (differs world shape (cause_here list.block 3) (λ spent'. spent'.over d.undecided)) shape.causes_differ;
+  spent = each_more (λ (w : Won). IsSpent after w.cause) (decided_won list made) world.journal after.journal refl (record { used = (shape.flaggers list d.flagged).used; over = λ e'. decided_some made (sym own ∙ e') }) (λ item among. spent_later world after l (λ block used. used) (λ block used e. sym (ap versioned_value flag) ∙ e) item.cause (shape.spent item among));
+  causes_differ = pairs_more (λ (a b : Won). a.cause ≢ b.cause) (decided_won list made) world.journal after.journal refl (differs world shape (cause_here list.block 3) (λ spent'. spent'.over d.undecided)) shape.causes_differ;
 }
   where
     after : World
@@ -45,20 +47,16 @@ decides_kept world list made shape d = record {
     l = later world after shape (decides list made d)
 
     flag : after.words FLAG ≡ world.words FLAG
-    flag = at_other (decision_place list.block) (decided made) world.words FLAG (λ e. decision_flag list.block (sym e))
+    flag = word_beside (decision_place list.block) (decided made) world.words FLAG (λ e. decision_flag list.block (sym e))
 
     register : after.words REGISTER ≡ world.words REGISTER
-    register = at_other (decision_place list.block) (decided made) world.words REGISTER (λ e. decision_register list.block (sym e))
+    register = word_beside (decision_place list.block) (decided made) world.words REGISTER (λ e. decision_register list.block (sym e))
 
     own : after.words (decision_place list.block) ≡ decided made
-    own = at_same (decision_place list.block) (decided made) world.words
+    own = same_place (decision_place list.block) (decided made) world.words
 
     before : (other : Listed) → Flagged after other → Flagged world other
     before other flagged = record { from = flagged.from; entries = flagged.entries; won = older other flagged.from (decided_won list made) world.journal refl flagged.won }
-
-    item_by : (item : Won) → Among item after.journal → IsBy item item.maker
-    item_by item (inl e) = subst (λ (w : Won). IsBy w w.maker) (sym e) tt
-    item_by item (inr among) = shape.items item among
 
     stands_later : (other : Listed) → Flagged world other → Stands world other → ¬ IsGone after other → Stands after other
     stands_later other flagged stands not_gone = record {
@@ -89,7 +87,7 @@ decides_kept world list made shape d = record {
     other_flagger other flagged apart = let f = shape.flaggers other flagged in record { some = f.some; small = f.small; used = f.used; key = f.key; value = value_later world after shape l other flagged ∙ f.value; fate = fate f.fate; decision = subst IsDecision (sym same) f.decision }
       where
         same : after.words (decision_place other.block) ≡ world.words (decision_place other.block)
-        same = at_other (decision_place list.block) (decided made) world.words (decision_place other.block) (λ e. apart (same_decision other.block list.block e))
+        same = word_beside (decision_place list.block) (decided made) world.words (decision_place other.block) (λ e. apart (same_decision other.block list.block e))
 
         fate : Stands world other ⊎ (Made world other ⊎ IsGone world other) → Stands after other ⊎ (Made after other ⊎ IsGone after other)
         fate (inr (inr gone)) = inr (inr (same ∙ gone))
@@ -101,7 +99,3 @@ decides_kept world list made shape d = record {
       | inl e ↦ subst (IsFlagger after) (shape.same_block list other d.flagged flagged (sym e)) own_flagger
       | inr apart ↦ other_flagger other flagged apart
     ]
-
-    spent : (item : Won) → Among item after.journal → IsSpent after item.cause
-    spent item (inl e) = subst (λ (w : Won). IsSpent after w.cause) (sym e) (record { used = (shape.flaggers list d.flagged).used; over = λ e'. decided_some made (sym own ∙ e') })
-    spent item (inr among) = spent_later world after l (λ block used. used) (λ block used e. sym (ap versioned_value flag) ∙ e) item.cause (shape.spent item among)

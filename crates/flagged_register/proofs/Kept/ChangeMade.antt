@@ -2,7 +2,6 @@
 use Rattle.std.proofs.Common.{◌≡◌, ◌≢◌, ℕ, ◌<◌, Bool, true, false, refl, sym, ap, subst, ◌∙◌, inl, inr, ◌⊎◌, arith, None, Some}
 use Rattle.std.specs.Prelude.{if◌then◌else◌}
 use Rattle.std.specs.FinMap as map
-use Rattle.std.proofs.lemmas.List.Kept.{AllPairs-cons}
 use Rattle.word_fields.specs.Versioned.{versioned_value, versioned_bit, versioned_version, cleared_word}
 use Rattle.word_fields.proofs.VersionedLemmas.{value-changed, bit-changed, changed_below}
 use Rattle.lin_report.specs.Object.{map_object}
@@ -11,18 +10,21 @@ use Rattle.normal_traits.specs.World.{Listed, Won, Change, World, Among, held_af
 use Rattle.normal_traits.specs.Steps.{change_of}
 use Rattle.flagged_register.specs.Register.{FLAG, REGISTER, note_place, flag_value, is_in, toggled, decided, decision_place, toggled_value}
 use Rattle.flagged_register.specs.Meanings.{Flagged, Made, Stands, IsFlagger, Shape, IsBy, IsSpent, cause_here, IsGone, IsName, content}
-use Rattle.flagged_register.proofs.Basics.{all_among, at_same, at_other, flag_register, toggled_below, tells-apply, yes-apply, changes-apply, decision_register}
+use Rattle.flagged_register.proofs.Basics.{flag_register, toggled_below, tells-apply, yes-apply, changes-apply, decision_register}
 use Rattle.flagged_register.proofs.Effects.{Makes, change_made, made_won}
 use Rattle.flagged_register.proofs.Effects.Effect.{makes}
 use Rattle.flagged_register.proofs.Observed.{has_key, none_content, some_content}
 use Rattle.flagged_register.proofs.Later.{Later, later, flagged_later, note_later, made_later, decided_later, value_later}
 use Rattle.flagged_register.proofs.Kept.FlagLists.{older, one_up, not_both, IsDecision}
 use Rattle.flagged_register.proofs.Kept.SpentCauses.{spent_later, differs}
+use Rattle.normal_traits.proofs.Stays.{word_beside}
+use Rattle.client_lemmas.proofs.Words.{same_place}
+use Rattle.client_lemmas.proofs.Growing.{each_more, pairs_more}
 
 pub makes_kept : (world : World) (list : Listed) → Shape world → Makes world list → Shape (change_made list world)
 makes_kept world list shape m = record {
   opened = shape.opened;
-  items = λ item among. item_by item among;
+  items = each_more (λ (w : Won). IsBy w w.maker) (made_won list (world.words REGISTER)) world.journal after.journal refl tt shape.items;
   flaggers = λ other flagged. flagger other (before other flagged);
   same_identity = λ a b fa fb. shape.same_identity a b (before a fa) (before b fb);
   same_block = λ a b fa fb. shape.same_block a b (before a fa) (before b fb);
@@ -31,16 +33,15 @@ makes_kept world list shape m = record {
   names = name_made (is_in (world.words REGISTER)) toggled_is;
   clear = ap versioned_bit register ∙ bit-changed (world.words REGISTER) (toggled_value (world.words REGISTER) list.block) (toggled_below (world.words REGISTER) list.block (shape.flaggers list m.flagged).small);
   fits = omega (arith, register, changed_below (world.words REGISTER) (toggled_value (world.words REGISTER) list.block) (toggled_below (world.words REGISTER) list.block (shape.flaggers list m.flagged).small));
-  flagged = λ change among. flagged change among;
-  passed = λ change among. passed change among;
-  agreed = λ change among. agreed change among;
+  flagged = each_more (λ (c : Change). Flagged after c.list) new world.changes after.changes refl (flagged_later world after shape l list m.flagged) (λ change among. flagged_later world after shape l change.list (shape.flagged change among));
+  passed = each_more (λ (c : Change). versioned_version (after.words (note_place c.list.block)) < versioned_version (after.words REGISTER)) new world.changes after.changes refl own_passed
+      (λ change among. omega (arith, shape.passed change among, l.register, ap versioned_version (note_later world after shape l change.list (shape.flagged change among))));
+  agreed = each_more (λ (c : Change). after.words (decision_place c.list.block) ≡ decided true) new world.changes after.changes refl own_agreed (λ change among. decided_later world after shape l change.list true (shape.flagged change among) (shape.agreed change among));
   effective = (changes-apply list.call.op (world.words REGISTER) held key m.stands.toggles has, shape.effective);
-  one_list = AllPairs-cons (λ (a b : Change). a.list.identity ≢ b.list.identity) new world.changes
-      (all_among (λ (b : Change). list.identity ≢ b.list.identity) world.changes (λ b among e. unmade b among (shape.same_identity list b.list m.flagged (shape.flagged b among) e))) shape.one_list;
-  one_block = AllPairs-cons (λ (a b : Change). 0 < a.list.block → a.list.block ≢ b.list.block) new world.changes
-      (all_among (λ (b : Change). 0 < list.block → list.block ≢ b.list.block) world.changes (λ b among some e. unmade b among (shape.same_block list b.list m.flagged (shape.flagged b among) e))) shape.one_block;
-  spent = λ item among. spent item among;
-  causes_differ = AllPairs-cons (λ (a b : Won). a.cause ≢ b.cause) (made_won list (world.words REGISTER)) world.journal (differs world shape (cause_here list.block 1) (λ spent'. not_both world shape list m.stands spent'.over)) shape.causes_differ;
+  one_list = pairs_more (λ (a b : Change). a.list.identity ≢ b.list.identity) new world.changes after.changes refl (λ b among e. unmade b among (shape.same_identity list b.list m.flagged (shape.flagged b among) e)) shape.one_list;
+  one_block = pairs_more (λ (a b : Change). 0 < a.list.block → a.list.block ≢ b.list.block) new world.changes after.changes refl (λ b among some e. unmade b among (shape.same_block list b.list m.flagged (shape.flagged b among) e)) shape.one_block;
+  spent = each_more (λ (w : Won). IsSpent after w.cause) (made_won list (world.words REGISTER)) world.journal after.journal refl (record { used = (shape.flaggers list m.flagged).used; over = own_passed }) (λ item among. spent_later world after l (λ block used. used) (λ block used e. sym (ap versioned_value flag) ∙ e) item.cause (shape.spent item among));
+  causes_differ = pairs_more (λ (a b : Won). a.cause ≢ b.cause) (made_won list (world.words REGISTER)) world.journal after.journal refl (differs world shape (cause_here list.block 1) (λ spent'. not_both world shape list m.stands spent'.over)) shape.causes_differ;
 }
   where
     after : World
@@ -59,10 +60,10 @@ makes_kept world list shape m = record {
     key = (shape.flaggers list m.flagged).key
 
     register : after.words REGISTER ≡ toggled (world.words REGISTER) list.block
-    register = at_same REGISTER (toggled (world.words REGISTER) list.block) world.words
+    register = same_place REGISTER (toggled (world.words REGISTER) list.block) world.words
 
     flag : after.words FLAG ≡ world.words FLAG
-    flag = at_other REGISTER (toggled (world.words REGISTER) list.block) world.words FLAG flag_register
+    flag = word_beside REGISTER (toggled (world.words REGISTER) list.block) world.words FLAG flag_register
 
     own_passed : versioned_version (after.words (note_place list.block)) < versioned_version (after.words REGISTER)
     own_passed = omega (arith, ap versioned_version register, m.raised, ap versioned_version (note_later world after shape l list m.flagged), ap versioned_version m.stands.register)
@@ -98,33 +99,13 @@ makes_kept world list shape m = record {
     unmade : (b : Change) → Among b world.changes → list ≡ b.list → ⊥
     unmade b among e = not_both world shape list m.stands (subst (λ (x : Listed). versioned_version (world.words (note_place x.block)) < versioned_version (world.words REGISTER)) (sym e) (shape.passed b among))
 
-    item_by : (item : Won) → Among item after.journal → IsBy item item.maker
-    item_by item (inl e) = subst (λ (w : Won). IsBy w w.maker) (sym e) tt
-    item_by item (inr among) = shape.items item among
-
     flagger : (other : Listed) → Flagged world other → IsFlagger after other
     flagger other flagged' = let f = shape.flaggers other flagged' in record { some = f.some; small = f.small; used = f.used; key = f.key; value = value_later world after shape l other flagged' ∙ f.value; fate = inr (fate f.fate); decision = subst IsDecision (sym same) f.decision }
       where
         same : after.words (decision_place other.block) ≡ world.words (decision_place other.block)
-        same = at_other REGISTER (toggled (world.words REGISTER) list.block) world.words (decision_place other.block) (decision_register other.block)
+        same = word_beside REGISTER (toggled (world.words REGISTER) list.block) world.words (decision_place other.block) (decision_register other.block)
 
         fate : Stands world other ⊎ (Made world other ⊎ IsGone world other) → Made after other ⊎ IsGone after other
         fate (inr (inr gone)) = inr (same ∙ gone)
         fate (inr (inl made)) = inl (made_later world after shape l other flagged' made)
         fate (inl stands) = inl (subst (Made after) (one_up world shape list other m.flagged flagged' m.stands.flag stands.flag) own)
-
-    flagged : (change : Change) → Among change after.changes → Flagged after change.list
-    flagged change (inl e) = subst (λ (c : Change). Flagged after c.list) (sym e) (flagged_later world after shape l list m.flagged)
-    flagged change (inr among) = flagged_later world after shape l change.list (shape.flagged change among)
-
-    passed : (change : Change) → Among change after.changes → versioned_version (after.words (note_place change.list.block)) < versioned_version (after.words REGISTER)
-    passed change (inl e) = subst (λ (c : Change). versioned_version (after.words (note_place c.list.block)) < versioned_version (after.words REGISTER)) (sym e) own_passed
-    passed change (inr among) = omega (arith, shape.passed change among, l.register, ap versioned_version (note_later world after shape l change.list (shape.flagged change among)))
-
-    agreed : (change : Change) → Among change after.changes → after.words (decision_place change.list.block) ≡ decided true
-    agreed change (inl e) = subst (λ (c : Change). after.words (decision_place c.list.block) ≡ decided true) (sym e) own_agreed
-    agreed change (inr among) = decided_later world after shape l change.list true (shape.flagged change among) (shape.agreed change among)
-
-    spent : (item : Won) → Among item after.journal → IsSpent after item.cause
-    spent item (inl e) = subst (λ (w : Won). IsSpent after w.cause) (sym e) (record { used = (shape.flaggers list m.flagged).used; over = own_passed })
-    spent item (inr among) = spent_later world after l (λ block used. used) (λ block used e. sym (ap versioned_value flag) ∙ e) item.cause (shape.spent item among)

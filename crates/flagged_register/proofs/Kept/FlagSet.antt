@@ -2,23 +2,25 @@
 use Rattle.std.proofs.Common.{◌≡◌, ◌≢◌, ℕ, true, false, refl, sym, ap, subst, ◌∙◌, inl, inr, ◌⊎◌, arith}
 use Rattle.std.specs.Prelude.{◌==◌}
 use Rattle.std.proofs.lemmas.Bool.{eq-eqb, or_left, or_right}
-use Rattle.std.proofs.lemmas.List.Kept.{AllPairs-cons}
 use Rattle.word_fields.specs.Versioned.{versioned_value, versioned_bit, versioned_version, cleared_word}
 use Rattle.word_fields.proofs.VersionedLemmas.{value-cleared}
-use Rattle.normal_traits.specs.World.{Listed, Won, World, Among}
+use Rattle.normal_traits.specs.World.{Listed, Won, World}
 use Rattle.flagged_register.specs.Register.{FLAG, REGISTER, note_place, flag_value, toggles, flag_of, decision_place, value_at}
 use Rattle.flagged_register.specs.Meanings.{Flagged, Made, Stands, IsFlagger, Shape, IsBy, IsSpent, flag_won, cause_here, IsGone, IsName}
-use Rattle.flagged_register.proofs.Basics.{at_same, at_other, register_flag, note_flag, flagged_value, decision_flag, decided_some, value_flag}
+use Rattle.flagged_register.proofs.Basics.{register_flag, note_flag, flagged_value, decision_flag, decided_some, value_flag}
 use Rattle.flagged_register.proofs.Effects.{Sets, flag_set}
 use Rattle.flagged_register.proofs.Effects.Effect.{sets}
 use Rattle.flagged_register.proofs.Later.{Later, later, flagged_later, note_later, made_later, decided_later, value_later, content_later}
 use Rattle.flagged_register.proofs.Kept.FlagLists.{newly, up_value, IsDecision}
 use Rattle.flagged_register.proofs.Kept.SpentCauses.{spent_later, differs}
+use Rattle.normal_traits.proofs.Stays.{word_beside}
+use Rattle.client_lemmas.proofs.Words.{same_place}
+use Rattle.client_lemmas.proofs.Growing.{each_more, pairs_more}
 
 pub sets_kept : (world : World) (list : Listed) (from word : ℕ) → Shape world → Sets world list from word → Shape (flag_set list from word world)
 sets_kept world list from word shape s = record {
   opened = or_right (0 == list.block) (world.used 0) shape.opened;
-  items = λ item among. item_by item among;
+  items = each_more (λ (w : Won). IsBy w w.maker) (flag_won list from) world.journal after.journal refl (refl, s.entries) shape.items;
   flaggers = λ other flagged. flagger other (before other flagged);
   same_identity = λ a b fa fb. same_identity a b (before a fa) (before b fb);
   same_block = λ a b fa fb. same_block a b (before a fa) (before b fb);
@@ -33,8 +35,8 @@ sets_kept world list from word shape s = record {
   effective = shape.effective;
   one_list = shape.one_list;
   one_block = shape.one_block;
-  spent = λ item among. spent item among;
-  causes_differ = AllPairs-cons (λ (a b : Won). a.cause ≢ b.cause) (flag_won list from) world.journal (differs world shape (cause_here list.block 0) (λ spent'. unused list.block spent'.used refl)) shape.causes_differ;
+  spent = each_more (λ (w : Won). IsSpent after w.cause) (flag_won list from) world.journal after.journal refl (record { used = own_used; over = tt }) (λ item among. spent_later world after l grows flags item.cause (shape.spent item among));
+  causes_differ = pairs_more (λ (a b : Won). a.cause ≢ b.cause) (flag_won list from) world.journal after.journal refl (differs world shape (cause_here list.block 0) (λ spent'. unused list.block spent'.used refl)) shape.causes_differ;
 }
   where
     after : World
@@ -44,10 +46,10 @@ sets_kept world list from word shape s = record {
     l = later world after shape (sets list from word s)
 
     register : after.words REGISTER ≡ world.words REGISTER
-    register = at_other FLAG word world.words REGISTER register_flag
+    register = word_beside FLAG word world.words REGISTER register_flag
 
     up : cleared_word (after.words FLAG) ≡ flag_of list.entries
-    up = ap cleared_word (at_same FLAG word world.words) ∙ s.exchanged.to ∙ sym (ap flag_of s.entries)
+    up = ap cleared_word (same_place FLAG word world.words) ∙ s.exchanged.to ∙ sym (ap flag_of s.entries)
 
     unused : (block : ℕ) → world.used block ≡ true → block ≢ list.block
     unused block used e = let used' : world.used list.block ≡ true = subst (λ b. world.used b ≡ true) e used in let no' = s.unused in absurd cc
@@ -65,12 +67,8 @@ sets_kept world list from word shape s = record {
     names_grow (inl none) = inl none
     names_grow (inr name) = inr (name.0, grows name.0 name.1, name.2, name.3)
 
-    item_by : (item : Won) → Among item after.journal → IsBy item item.maker
-    item_by item (inl e) = subst (λ (w : Won). IsBy w w.maker) (sym e) (refl, s.entries)
-    item_by item (inr among) = shape.items item among
-
     undecided : after.words (decision_place list.block) ≡ 0
-    undecided = at_other FLAG word world.words (decision_place list.block) (decision_flag list.block) ∙ s.undecided
+    undecided = word_beside FLAG word world.words (decision_place list.block) (decision_flag list.block) ∙ s.undecided
 
     own : IsFlagger after list
     own = record {
@@ -78,10 +76,10 @@ sets_kept world list from word shape s = record {
       small = s.small;
       used = own_used;
       key = s.key;
-      value = at_other FLAG word world.words (value_at list.block) (value_flag list.block) ∙ s.value;
+      value = word_beside FLAG word world.words (value_at list.block) (value_flag list.block) ∙ s.value;
       fate = inl (record {
         flag = up;
-        register = register ∙ s.noted ∙ sym (at_other FLAG word world.words (note_place list.block) (note_flag list.block));
+        register = register ∙ s.noted ∙ sym (word_beside FLAG word world.words (note_place list.block) (note_flag list.block));
         toggles = subst (λ r. toggles list.call.op r ≡ true) (sym register) s.toggles;
         not_gone = λ gone. decided_some false (sym gone ∙ undecided);
       });
@@ -93,7 +91,7 @@ sets_kept world list from word shape s = record {
     flagger other (inr flagged) = let f = shape.flaggers other flagged in record { some = f.some; small = f.small; used = grows other.block f.used; key = f.key; value = value_later world after shape l other flagged ∙ f.value; fate = fate f.fate; decision = subst IsDecision (sym same) f.decision }
       where
         same : after.words (decision_place other.block) ≡ world.words (decision_place other.block)
-        same = at_other FLAG word world.words (decision_place other.block) (decision_flag other.block)
+        same = word_beside FLAG word world.words (decision_place other.block) (decision_flag other.block)
 
         fate : Stands world other ⊎ (Made world other ⊎ IsGone world other) → Stands after other ⊎ (Made after other ⊎ IsGone after other)
         fate (inr (inr gone)) = inr (inr (same ∙ gone))
@@ -116,7 +114,3 @@ sets_kept world list from word shape s = record {
     flags block used e =
         let value : versioned_value (after.words FLAG) ≡ flag_value list.block = sym (value-cleared (after.words FLAG)) ∙ ap versioned_value (up ∙ ap flag_of s.entries) ∙ flagged_value from list.block s.small in
         absurd (unused block used (omega (arith, e, value)))
-
-    spent : (item : Won) → Among item after.journal → IsSpent after item.cause
-    spent item (inl e) = subst (λ (w : Won). IsSpent after w.cause) (sym e) (record { used = own_used; over = tt })
-    spent item (inr among) = spent_later world after l grows flags item.cause (shape.spent item among)

@@ -1,11 +1,9 @@
 -- Causes: one that is spent stays so, and one that isn't differs from all before it.
 use Rattle.std.proofs.Common.{◌≡◌, ◌≢◌, ℕ, zero, suc, true, sym, ap, subst, ◌∙◌, arith}
-use Rattle.std.specs.Prelude.{All}
 use Rattle.word_fields.specs.Versioned.{versioned_value, versioned_version}
-use Rattle.normal_traits.specs.World.{Cause, Won, World}
+use Rattle.normal_traits.specs.World.{Cause, Won, World, Among}
 use Rattle.flagged_register.specs.Register.{FLAG, flag_value}
 use Rattle.flagged_register.specs.Meanings.{Shape, IsOver, IsSpent}
-use Rattle.flagged_register.proofs.Basics.{all_among}
 use Rattle.flagged_register.proofs.Later.{Later}
 
 pub spent_later : (world after : World) → Later world after → ((block : ℕ) → world.used block ≡ true → after.used block ≡ true)
@@ -21,5 +19,5 @@ spent_later world after l grows flags cause spent = record { used = grows cause.
     over (suc (suc (suc (suc kind)))) o = absurd o
 
 -- a cause that isn't spent differs from all before it
-pub differs : (world : World) → Shape world → (cause : Cause) → ¬ IsSpent world cause → All (λ (b : Won). cause ≢ b.cause) world.journal
-differs world shape cause unspent = all_among (λ (b : Won). cause ≢ b.cause) world.journal (λ b among e. unspent (subst (IsSpent world) (sym e) (shape.spent b among)))
+pub differs : (world : World) → Shape world → (cause : Cause) → ¬ IsSpent world cause → (b : Won) → Among b world.journal → cause ≢ b.cause
+differs world shape cause unspent b among e = unspent (subst (IsSpent world) (sym e) (shape.spent b among))

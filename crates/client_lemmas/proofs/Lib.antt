@@ -1,0 +1,10 @@
+pub mod Words
+pub mod Places
+pub mod Growing
+pub mod Entries
+pub mod Requests
+pub mod Later
+pub mod Made
+pub mod Lost
+pub mod Offers
+pub mod Outcomes
