@@ -5,5 +5,5 @@ pub use cores::{Core, CoreTurn};
 
 pub mod cores;
 mod noting;
-mod watching;
 mod seats;
+mod watching;

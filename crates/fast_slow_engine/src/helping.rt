@@ -177,12 +177,7 @@ fn look_up<C: Normalized, P: Plays>(
 
 /// The exchange of the record to another word. A block that the record names from then on is no longer in hand.
 #[inline(always)]
-fn advance<P: Plays>(
-    to: u64,
-    helped: Helped,
-    hand: &mut Option<u32>,
-    port: &mut P,
-) -> Seen
+fn advance<P: Plays>(to: u64, helped: Helped, hand: &mut Option<u32>, port: &mut P) -> Seen
     requires head { helped.head < 8 }
     requires plays { P.can port.old (Exchange (record_place helped.head) (packed_record (record_of helped.word)) to) }
     requires small { block_of hand.old < 2 ^ 17 }
