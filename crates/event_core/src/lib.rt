@@ -5,4 +5,5 @@ pub use cores::{Core, CoreTurn};
 
 pub mod cores;
 mod noting;
+mod resets;
 mod seats;

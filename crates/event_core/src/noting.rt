@@ -23,7 +23,7 @@ pub fn word_at(words: &[u64], place: u32) -> u64
     }
 }
 
-/// Whether a place is beyond the records, where no word of the engine's own stands.
+/// Whether a place is beyond the records, where neither the tick counter nor the queue word nor a record stands.
 #[inline(always)]
 fn is_beyond(place: u32) -> bool
     ensures { result ≡ nat_le (RECORDS + 8) place }
@@ -48,7 +48,7 @@ pub fn tells_nothing(request: Request) -> bool
 fn completed_at(place: u32, before: u64, after: u64) -> Option<Event>
     ensures { result ≡ completed_at place before after }
 {
-    if !(RECORDS..RECORDS + 8).contains(&place) {
+    if place < RECORDS || is_beyond(place) {
         return None;
     }
     let record = RecordWord::unpack(before);

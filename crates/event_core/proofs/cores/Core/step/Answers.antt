@@ -24,7 +24,7 @@ returns-then-not-begin_next-clause-turn g c =
 
 pub invariant_of-self : goal.invariant_of-self
 invariant_of-self g c =
-    over_kept g.C.Normalized.form c.self.inside.setup _ _ _ _ _ _ c.self.invariant _ _ _ (seated _ _ _ _ _ _ c.self.view_is c.requires.seat) c.index_mut-at.ensures.value c.begin_next.ensures.machine c.begin_next.ensures.file
+    over_kept g.C.Normalized.form c.self.inside.setup _ _ _ _ _ _ _ c.self.invariant _ _ _ (seated _ _ _ _ _ _ c.self.view_is c.requires.seat) c.index_mut-at.ensures.value c.begin_next.ensures.machine c.begin_next.ensures.file
     (is_over_by _ _ c.begin_next.ensures.over c.if-not-begin_next.true)
 
 -- ---- a step that tells nothing
@@ -40,7 +40,7 @@ invariant_of-self-then-tells_nothing g c =
     let setup = c.self.inside.setup in
     let none = tells_none form c.begin_next.new.self.mech c.request-request.result c.request-request.ensures (sym c.tells_nothing.ensures ∙ c.if-tells_nothing.true)
     c.self.inside.cells c.apply-seen.new.self c.apply-seen.ensures.changes in
-    stepped_kept form setup _ _ _ _ _ _ c.self.invariant _ _ _ (seated _ _ _ _ _ _ c.self.view_is c.requires.seat) c.index_mut-at.ensures.value c.begin_next.ensures.machine c.begin_next.ensures.file
+    stepped_kept form setup _ _ _ _ _ _ _ c.self.invariant _ _ _ (seated _ _ _ _ _ _ c.self.view_is c.requires.seat) c.index_mut-at.ensures.value c.begin_next.ensures.machine c.begin_next.ensures.file
     (queues_kept form laws (runs_are_kept form laws) setup) (c.begin_next.ensures.can (search rules)) c.go_on.new.self c.apply-seen.new.self
     (c.apply-seen.ensures.changes ∙ ap (λ r. words_after r c.self.inside.cells) c.request-request.ensures)
     (c.go_on.ensures.mech ∙ ap (mech_fed form c.begin_next.new.self.mech) (c.apply-seen.ensures.tells ∙ ap (λ r. seen_of r c.self.inside.cells) c.request-request.ensures))
@@ -76,7 +76,7 @@ note_step-requires g c =
     let setup = c.self.inside.setup in
     let told = noted_step form c.begin_next.new.self.mech c.self.inside.cells c.apply-seen-2.new.self c.words.result.now c.words-2.result.now c.request-request.result c.place-place.result c.word_at-before.result c.next_event-tick.result
     c.request-request.ensures c.place-place.ensures c.words.ensures c.word_at-before.ensures c.apply-seen-2.ensures.changes c.words-2.ensures c.next_event-tick.ensures in
-    let room = room_to_note form setup _ _ _ _ _ _ c.self.invariant _ _ _ (seated _ _ _ _ _ _ c.self.view_is c.requires.seat) c.index_mut-at.ensures.value c.begin_next.ensures.machine c.begin_next.ensures.file
+    let room = room_to_note form setup _ _ _ _ _ _ _ c.self.invariant _ _ _ (seated _ _ _ _ _ _ c.self.view_is c.requires.seat) c.index_mut-at.ensures.value c.begin_next.ensures.machine c.begin_next.ensures.file
     (queues_kept form laws (runs_are_kept form laws) setup) (c.begin_next.ensures.can (search rules)) c.feed-turn.new.self c.apply-seen-2.new.self
     (c.apply-seen-2.ensures.changes ∙ ap (λ r. words_after r c.self.inside.cells) c.request-request.ensures)
     (c.feed-turn.ensures.mech ∙ ap (mech_fed form c.begin_next.new.self.mech) (c.apply-seen-2.ensures.tells ∙ ap (λ r. seen_of r c.self.inside.cells) c.request-request.ensures))
@@ -92,7 +92,7 @@ invariant_of-self-2 g c =
     let setup = c.self.inside.setup in
     let told = noted_step form c.begin_next.new.self.mech c.self.inside.cells c.apply-seen-2.new.self c.words.result.now c.words-2.result.now c.request-request.result c.place-place.result c.word_at-before.result c.next_event-tick.result
     c.request-request.ensures c.place-place.ensures c.words.ensures c.word_at-before.ensures c.apply-seen-2.ensures.changes c.words-2.ensures c.next_event-tick.ensures in
-    stepped_kept form setup _ _ _ _ _ _ c.self.invariant _ _ _ (seated _ _ _ _ _ _ c.self.view_is c.requires.seat) c.index_mut-at.ensures.value c.begin_next.ensures.machine c.begin_next.ensures.file
+    stepped_kept form setup _ _ _ _ _ _ _ c.self.invariant _ _ _ (seated _ _ _ _ _ _ c.self.view_is c.requires.seat) c.index_mut-at.ensures.value c.begin_next.ensures.machine c.begin_next.ensures.file
     (queues_kept form laws (runs_are_kept form laws) setup) (c.begin_next.ensures.can (search rules)) c.feed-turn.new.self c.apply-seen-2.new.self
     (c.apply-seen-2.ensures.changes ∙ ap (λ r. words_after r c.self.inside.cells) c.request-request.ensures)
     (c.feed-turn.ensures.mech ∙ ap (mech_fed form c.begin_next.new.self.mech) (c.apply-seen-2.ensures.tells ∙ ap (λ r. seen_of r c.self.inside.cells) c.request-request.ensures))
