@@ -55,35 +55,67 @@ fn lines_of_sweeps(rt: HostRuntime) -> Result<(), Fail> {
 const SEATS: [(&str, [&str; 3]); 8] = [
     (
         "sweep queue 64 0 100 f0 f1 f2",
-        ["put 1/take/put 2/take/", "take/put 3/take/put 4/", "put 5/put 6/take/take/"],
+        [
+            "put 1/take/put 2/take/",
+            "take/put 3/take/put 4/",
+            "put 5/put 6/take/take/",
+        ],
     ),
     (
         "sweep queue 64 3 100 f0 f1 f2",
-        ["put 1/take/put 2/take/", "take/put 3/take/put 4/", "put 5/put 6/take/take/"],
+        [
+            "put 1/take/put 2/take/",
+            "take/put 3/take/put 4/",
+            "put 5/put 6/take/take/",
+        ],
     ),
     (
         "sweep list 64 0 100 f0 f1 f2",
-        ["add 1/del 2/add 3/del 1/", "add 2/del 1/has 3/del 3/", "del 3/add 1/del 2/add 2/"],
+        [
+            "add 1/del 2/add 3/del 1/",
+            "add 2/del 1/has 3/del 3/",
+            "del 3/add 1/del 2/add 2/",
+        ],
     ),
     (
         "sweep list 64 3 100 f0 f1 f2",
-        ["add 1/del 2/add 3/del 1/", "add 2/del 1/has 3/del 3/", "del 3/add 1/del 2/add 2/"],
+        [
+            "add 1/del 2/add 3/del 1/",
+            "add 2/del 1/has 3/del 3/",
+            "del 3/add 1/del 2/add 2/",
+        ],
     ),
     (
         "sweep tree 64 0 100 f0 f1 f2",
-        ["set 1 10/rem 2/set 3 30/rem 1/", "set 2 20/rem 1/get 3/rem 3/", "rem 3/set 1 11/rem 2/set 2 22/"],
+        [
+            "set 1 10/rem 2/set 3 30/rem 1/",
+            "set 2 20/rem 1/get 3/rem 3/",
+            "rem 3/set 1 11/rem 2/set 2 22/",
+        ],
     ),
     (
         "sweep tree 64 3 100 f0 f1 f2",
-        ["set 1 10/rem 2/set 3 30/rem 1/", "set 2 20/rem 1/get 3/rem 3/", "rem 3/set 1 11/rem 2/set 2 22/"],
+        [
+            "set 1 10/rem 2/set 3 30/rem 1/",
+            "set 2 20/rem 1/get 3/rem 3/",
+            "rem 3/set 1 11/rem 2/set 2 22/",
+        ],
     ),
     (
         "sweep buckets 64 0 100 f0 f1 f2",
-        ["add 1/del 33/add 65/del 1/", "add 33/del 1/has 65/del 65/", "del 65/add 1/del 33/add 33/"],
+        [
+            "add 1/del 33/add 65/del 1/",
+            "add 33/del 1/has 65/del 65/",
+            "del 65/add 1/del 33/add 33/",
+        ],
     ),
     (
         "sweep buckets 64 3 100 f0 f1 f2",
-        ["add 1/del 33/add 65/del 1/", "add 33/del 1/has 65/del 65/", "del 65/add 1/del 33/add 33/"],
+        [
+            "add 1/del 33/add 65/del 1/",
+            "add 33/del 1/has 65/del 65/",
+            "del 65/add 1/del 33/add 33/",
+        ],
     ),
 ];
 
