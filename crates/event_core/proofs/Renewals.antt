@@ -1,12 +1,10 @@
 -- A core that is taken back to its opening.
-use Rattle.std.proofs.Common.{rules, arith, ◌≡◌, ◌≢◌, ◌∙◌, ◌+◌, ◌*◌, ◌<◌, ◌≤◌, ◌==◌, ◌||◌, refl, sym, subst, ap, ℕ, zero, suc, cond, List, [], ◌∷◌, length, map, get_or, slice_index, slice_index_or, slice_set, sum_by, inl, inr}
-use Rattle.std.specs.List.{range_with_len}
+use Rattle.std.proofs.Common.{arith, ◌≡◌, ◌∙◌, ◌+◌, ◌<◌, ◌≤◌, ◌==◌, ◌||◌, refl, sym, subst, ap, ℕ, zero, suc, cond, List, [], ◌∷◌, length, map, slice_index, slice_index_or, slice_set, inl, inr}
 use Rattle.std.proofs.lemmas.Bool.{cases_eq, cases_lt, ne_eqb}
-use Rattle.std.proofs.lemmas.List.{ext_get_or, get_or_past, length-map}
+use Rattle.std.proofs.lemmas.List.{ext_get_or, get_or_past}
 use Rattle.std.proofs.lemmas.List.FromFn.{get_or-map-range_with_len, length-map-range_with_len}
 use Rattle.lin_report.specs.declared.calls.Client.{Client}
 use Rattle.lin_report.specs.declared.calls.Client.TheVariants as client
-use Rattle.lin_report.specs.declared.calls.Op.{Op}
 use Rattle.step_memory.specs.declared.steps.Request.TheVariants.{Store}
 use Rattle.step_memory.specs.Step.{words_after}
 use Rattle.step_memory.proofs.Words.{length-words_after, word_at_place, word_elsewhere}
@@ -16,7 +14,7 @@ use Rattle.node_arena.specs.declared.places.TheConstants.{HEAD, TAIL}
 use Rattle.normal_traits.specs.NormalForm.{NormalForm}
 use Rattle.fast_slow_engine.specs.declared.setup.Setup.{Setup}
 use Rattle.fast_slow_engine.specs.PhaseTable.{mech_new, mech_request}
-use Rattle.fast_slow_engine.specs.Runs.{AreMoves, Move, RunState, begun, moved_by, run_of}
+use Rattle.fast_slow_engine.specs.Runs.{AreMoves, Move, begun, moved_by, run_of}
 use Rattle.event_core.specs.Cores.{new_seats}
 use Rattle.event_core.specs.Seats.{Seat}
 

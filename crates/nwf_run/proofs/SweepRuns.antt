@@ -1,16 +1,15 @@
 -- The runs of a sweep are those that were asked for, and their lines are put one after the other.
-use Rattle.std.proofs.Common.{arith, ◌≡◌, ◌∙◌, ◌↔◌, ◌+◌, ◌*◌, ◌≤◌, ◌++◌, ◌∷◌, ◌||◌, refl, sym, subst, ap, ℕ, zero, suc, max, Bool, true, false, IsTrue, List, [], Vec, length, map, take, slice_index_or, All, Option, append-nil, append_assoc}
-use Rattle.std.specs.List.{Any, list_any, range_with_len}
+use Rattle.std.proofs.Common.{arith, ◌≡◌, ◌∙◌, ◌↔◌, ◌+◌, ◌*◌, ◌≤◌, ◌++◌, ◌∷◌, ◌||◌, refl, sym, subst, ap, ℕ, suc, max, Bool, true, false, IsTrue, List, [], Vec, length, take, slice_index_or, Option, append-nil, append_assoc}
+use Rattle.std.specs.List.{list_any, range_with_len}
 use Rattle.std.specs.Prelude.{sum_by}
 use Rattle.std.specs.Global.{Global}
 use Rattle.std.proofs.Math.Seq.{take-suc}
-use Rattle.std.proofs.lemmas.List.{length-append, length-map, map-append}
+use Rattle.std.proofs.lemmas.List.{length-map, map-append}
 use Rattle.std.proofs.lemmas.List.Elements.{All-map}
 use Rattle.std.proofs.lemmas.List.Folds.{Any-from_list_any, list_any-append, list_any-from_Any}
 use Rattle.std.proofs.lemmas.List.FromFn.{length-map-range_with_len, map-range_with_len_more}
 use Rattle.lin_report.specs.declared.calls.Op.{Op}
 use Rattle.lin_report.specs.declared.calls.Receipt.{Receipt}
-use Rattle.lin_report.specs.declared.calls.Reply.TheVariants.{Exhausted}
 use Rattle.lin_report.specs.Text.{reply_is_exhausted}
 use Rattle.normal_traits.specs.NormalForm.{NormalForm}
 use Rattle.fast_slow_engine.specs.declared.setup.Setup.{Setup}
@@ -25,8 +24,8 @@ use Rattle.nwf_run.specs.Judging.{SayFirst}
 use Rattle.nwf_run.specs.Loads.{ROUNDS_OF_A_CALL}
 use Rattle.nwf_run.specs.Reading.{files_by_name}
 use Rattle.nwf_run.specs.Replaying.{Makes}
-use Rattle.nwf_run.specs.Runs.{Exhausts, FilesRun, RunMeetsHeadline}
-use Rattle.nwf_run.specs.Sweeps.{AreSwept, IsSwept, SomeExhausts, longest, stop_line, stop_lines, stop_run, stop_runs}
+use Rattle.nwf_run.specs.Runs.{Exhausts, FilesRun}
+use Rattle.nwf_run.specs.Sweeps.{IsSwept, SomeExhausts, longest, stop_line, stop_lines, stop_run, stop_runs}
 use Rattle.nwf_run.specs.Words.{Sweep}
 use Rattle.nwf_run.specs.Writable.{CanBeWritten, RunsCanBeWritten}
 use Rattle.nwf_run.specs.Words.Asked.{a_sweep}

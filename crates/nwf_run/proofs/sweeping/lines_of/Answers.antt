@@ -1,4 +1,4 @@
-use Rattle.std.proofs.Common.{rules, arith, ◌≡◌, ◌∙◌, ◌*◌, refl, sym, subst, ap, List, Vec, length}
+use Rattle.std.proofs.Common.{arith, ◌∙◌, ◌*◌, refl, sym, subst, ap, List, Vec, length}
 use Rattle.std.specs.Global.{Global}
 use Rattle.lin_report.specs.declared.calls.Op.{Op}
 use Rattle.event_core.specs.Cores.{CoreView}

@@ -1,4 +1,4 @@
-use Rattle.std.proofs.Common.{◌≡◌, ◌+◌, ◌*◌, ◌≤◌, vec_len, vec_capacity}
+use Rattle.std.proofs.Common.{◌+◌, ◌*◌, ◌≤◌, vec_len, vec_capacity}
 use Rattle.nwf_run.proofs.SweepRuns.{Sweeping}
 use Rattle.nwf_run.proofs.sweeping.lines_of.Given as goal
 

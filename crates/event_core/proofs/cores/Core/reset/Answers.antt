@@ -1,4 +1,4 @@
-use Rattle.std.proofs.Common.{rules, arith, ◌≡◌, ◌∙◌, ◌≤◌, refl, sym, ap, ℕ, List, length, map, slice_index, sum_by}
+use Rattle.std.proofs.Common.{rules, arith, ◌∙◌, refl, sym, ap, length, map, slice_index}
 use Rattle.std.proofs.lemmas.List.{with_items_is}
 use Rattle.event_core.specs.Cores.{core_new, new_seats}
 use Rattle.event_core.proofs.Renewals.{rewritten, words_stay}
