@@ -5,3 +5,4 @@ pub mod PendingLemmas
 pub mod Rooms
 pub mod Publications
 pub mod StepEvents
+pub mod Renewals

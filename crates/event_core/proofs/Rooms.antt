@@ -71,11 +71,11 @@ module _ {S W : Type 0} where
           let most = begun_few seats have in
           omega (arith, few, long, calls, most, fits)
 
-  module _ (form : NormalForm S W) (setup : Setup) (words : List ℕ) (seats : List (Seat S W)) (lines line_room : ℕ) (events : List Event) (event_room : ℕ) (is : IsCore form setup words seats lines line_room events event_room)
+  module _ (form : NormalForm S W) (setup : Setup) (opening words : List ℕ) (seats : List (Seat S W)) (lines line_room : ℕ) (events : List Event) (event_room : ℕ) (is : IsCore form setup opening words seats lines line_room events event_room)
       (i : ℕ) (s s1 : Seat S W) (inside : i < length seats) (at : s ≡ slice_index_or seats i s) (m1 : s1.mech ≡ begun (command_of s) s.mech) (f1 : s1.file ≡ s.file) where
     -- a seat that begins nothing leaves all as it was
-    pub over_kept : is_over s ≡ true → IsCore form setup words (slice_set seats i s1) lines line_room events event_room
-    over_kept over = subst (λ l. IsCore form setup words l lines line_room events event_room) (sym (put_same seats i s s1 at (over_stays s s1 m1 f1 over))) is
+    pub over_kept : is_over s ≡ true → IsCore form setup opening words (slice_set seats i s1) lines line_room events event_room
+    over_kept over = subst (λ l. IsCore form setup opening words l lines line_room events event_room) (sym (put_same seats i s s1 at (over_stays s s1 m1 f1 over))) is
 
     module _ (keeps : (moves : List Move) → AreMoves form setup moves → KeepsQueue form setup moves) (can : CanMove form (command_of s) s.mech) (s2 : Seat S W) (words' : List ℕ)
         (w : words' ≡ words_after (mech_request form s1.mech) words) (m2 : s2.mech ≡ mech_fed form s1.mech (seen_of (mech_request form s1.mech) words)) (f2 : s2.file ≡ s1.file) (few : s2.mech.number ≤ length s2.file) where
@@ -109,16 +109,19 @@ module _ {S W : Type 0} where
 
       -- and the core holds the run with that move
       pub stepped_kept : (wrote lines' line_room' event_room' : ℕ) (events' : List Event) → lines_owed s1 ≡ lines_owed s → lines_owed s2 + wrote ≡ lines_owed s1 → lines' ≡ lines + wrote → line_room' ≡ line_room
-          → events' ≡ events ++ new → event_room' ≡ event_room → IsCore form setup words' (slice_set seats i s2) lines' line_room' events' event_room'
+          → events' ≡ events ++ new → event_room' ≡ event_room → IsCore form setup opening words' (slice_set seats i s2) lines' line_room' events' event_room'
       stepped_kept wrote lines' line_room' event_room' events' begun_lines stepped_lines more_lines same_line_room noted same_event_room =
           let of_lines = owed_set lines_owed seats i s s2 inside at in
           let lines_left = is.for_lines in
           let fits = is.for_events in
           let same = same_commands in
+          let all = is.for_all_lines in
           record {
+            opened = is.opened;
             count = length-set seats i s2 ∙ is.count;
             begun = begun_set seats i s2 is.begun few;
             run = subst (IsRun form setup words' (map (λ seat. seat.mech) (slice_set seats i s2))) (sym noted) stepped_run;
             for_lines = omega (arith, of_lines, begun_lines, stepped_lines, more_lines, same_line_room, lines_left);
+            for_all_lines = omega (arith, all, same, same_line_room);
             for_events = omega (arith, fits, same, same_event_room);
           }

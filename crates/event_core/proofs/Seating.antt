@@ -132,17 +132,19 @@ module _ {S W F : Type 0} (commands : F → List Op) (form : NormalForm S W) (se
     events_are = refl;
   }
 
-  pub fresh_room : (words words' : List ℕ) (seats : List (Seat S W)) (files : List F) (commanded lines line_room : ℕ) (events : List Event) (event_room : ℕ) → words ≡ words' → words' ≡ opening_words form.client setup.cap → seats ≡ new_seats setup 0 (map commands files)
+  pub fresh_room : (opening words words' : List ℕ) (seats : List (Seat S W)) (files : List F) (commanded lines line_room : ℕ) (events : List Event) (event_room : ℕ) → opening ≡ opening_words form.client 1 → words ≡ words' → words' ≡ opening_words form.client setup.cap → seats ≡ new_seats setup 0 (map commands files)
       → commanded ≡ sum_by (λ file. length (commands file)) files → lines ≡ 0 → events ≡ [] → commanded ≤ line_room → 4 * commanded ≤ event_room → length files ≡ setup.seats
-      → IsCore form setup words seats lines line_room events event_room
-  fresh_room words words' seats files commanded lines line_room events event_room w w' s c l e lr er count =
+      → IsCore form setup opening words seats lines line_room events event_room
+  fresh_room opening words words' seats files commanded lines line_room events event_room o w w' s c l e lr er count =
       let owed = fresh_lines 0 files in
       let all = fresh_commands 0 files in
-      subst (λ x. IsCore form setup words x lines line_room events event_room) (sym s)
+      subst (λ x. IsCore form setup opening words x lines line_room events event_room) (sym s)
       (record {
+        opened = o;
         count = fresh_count 0 files ∙ count;
         begun = fresh_begun 0 files;
         run = subst (IsRun form setup words (map (λ seat. seat.mech) (new_seats setup 0 (map commands files)))) (sym e) (fresh_run words files (w ∙ w') count);
         for_lines = omega (arith, owed, c, l, lr);
+        for_all_lines = omega (arith, all, c, lr);
         for_events = omega (arith, all, c, er);
       })

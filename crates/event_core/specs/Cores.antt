@@ -4,6 +4,7 @@ use Rattle.lin_report.specs.declared.calls.Op.{Op}
 use Rattle.lin_report.specs.declared.calls.Receipt.{Receipt}
 use Rattle.lin_report.specs.declared.events.Event.{Event}
 use Rattle.step_memory.specs.Step.{seen_of}
+use Rattle.node_arena.specs.Opening.{opening_words}
 use Rattle.normal_traits.specs.NormalForm.{NormalForm}
 use Rattle.fast_slow_engine.specs.declared.setup.Setup.{Setup}
 use Rattle.fast_slow_engine.specs.declared.setup.Turn.{Turn}
@@ -39,13 +40,16 @@ abbrev pub HaveBegun : {S W : Type 0} → List (Seat S W) → Type 0
 HaveBegun [] = Unit {0}
 HaveBegun (seat ∷ seats) = (seat.mech.number ≤ length seat.file) × HaveBegun seats
 
--- what a core keeps: a seat for each of the setup, the run that it holds, and room for all lines that the seats still owe,
--- beside so many, and for four events of each command
-pub record IsCore {S W : Type 0} (form : NormalForm S W) (setup : Setup) (words : List ℕ) (seats : List (Seat S W)) (lines line_room : ℕ) (events : List Event) (event_room : ℕ) : Type 0 where
+-- what a core keeps: the words with which a run over one block opens, since behind them every opening has zeros; a seat
+-- for each of the setup; the run that it holds; room for all lines that the seats still owe, beside so many; and, of each
+-- command, room for a line and for four events
+pub record IsCore {S W : Type 0} (form : NormalForm S W) (setup : Setup) (opening words : List ℕ) (seats : List (Seat S W)) (lines line_room : ℕ) (events : List Event) (event_room : ℕ) : Type 0 where
+  pub opened : opening ≡ opening_words form.client 1
   pub count : length seats ≡ setup.seats
   pub begun : HaveBegun seats
   pub run : IsRun form setup words (map (λ seat. seat.mech) seats) events
   pub for_lines : lines + sum_by lines_owed seats ≤ line_room
+  pub for_all_lines : sum_by (λ seat. length seat.file) seats ≤ line_room
   pub for_events : 4 * sum_by (λ seat. length seat.file) seats ≤ event_room
 
 -- after the move of a seat, where it has one

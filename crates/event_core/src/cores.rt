@@ -10,6 +10,7 @@ ghost use Rattle.event_core.specs.Cores.{core_new, core_turn_of, new_seats};
 ghost use Rattle.event_core.specs.Seats.{lines_owed};
 
 use crate::noting::{note, note_mark};
+use crate::resets::renew_seats;
 use crate::seats::Seat;
 use crate::watching::Watched;
 use arrayvec::ArrayVec;
@@ -36,6 +37,8 @@ pub enum CoreTurn {
 #[derive(Drop)]
 pub struct Core<C: Normalized> {
     setup: Setup,
+    /// The words of the opening, up to a place behind which all of them are 0.
+    opening: Vec<u64>,
     cells: Watched,
     seats: Vec<Seat<C>>,
     receipts: Vec<Receipt>,
@@ -50,7 +53,7 @@ impl<C: Normalized> Model for Core<C> {
 
     ghost view = { λ c. core_of c.setup c.cells.words c.seats.items c.receipts.items c.events.items };
 
-    ghost invariant = { λ c. IsCore C.form c.setup c.cells.words c.seats.items (vec_len c.receipts) (vec_capacity c.receipts) c.events.items (vec_capacity c.events) };
+    ghost invariant = { λ c. IsCore C.form c.setup c.opening.items c.cells.words c.seats.items (vec_len c.receipts) (vec_capacity c.receipts) c.events.items (vec_capacity c.events) };
 }
 
 impl<C: Normalized> Core<C> {
@@ -71,17 +74,29 @@ impl<C: Normalized> Core<C> {
         requires files { All (λ file. IsCommandFile C.form.client file.items) files.items }
         ensures core { IfOk result (λ core. core ≡ core_new C.form setup (map (λ file. file.items) files.items)) }
     {
+        let opening = opening_words(alloc, 1, C::CLIENT)?;
         let words = opening_words(alloc, setup.cap, C::CLIENT)?;
         let commands = commands_of(&files);
         let receipts = room_for(alloc, commands)?;
         let events = room_for(alloc, EVENTS * commands)?;
         Ok(Core {
             setup,
+            opening,
             cells: Watched::new(words),
             seats: seats_of(alloc, setup, files)?,
             receipts,
             events,
         })
+    }
+
+    /// Takes the run back to where it made no step. It takes no memory and cannot fail.
+    pub fn reset(&mut self)
+        ensures core { self.new ≡ core_new C.form self.old.setup self.old.files }
+    {
+        self.cells.rewrite(&self.opening);
+        renew_seats(&mut self.seats, self.setup);
+        self.receipts.clear();
+        self.events.clear();
     }
 
     /// Makes one step of a seat. Where no call of it runs, it begins the next command of its file first.

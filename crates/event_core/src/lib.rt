@@ -5,5 +5,6 @@ pub use cores::{Core, CoreTurn};
 
 pub mod cores;
 mod noting;
+mod resets;
 mod seats;
 mod watching;

@@ -35,7 +35,7 @@ pub fn is_beyond(place: u32) -> bool
 fn completed_at(place: u32, before: u64, after: u64) -> Option<Event>
     ensures { result ≡ completed_at place before after }
 {
-    if !(RECORDS..RECORDS + 8).contains(&place) {
+    if place < RECORDS || is_beyond(place) {
         return None;
     }
     let record = RecordWord::unpack(before);

@@ -74,6 +74,15 @@ impl<C: Normalized> Seat<C> {
         self.machine.draws_tick()
     }
 
+    /// Takes the seat of this number back to where it has made no call.
+    pub fn renew(&mut self, seat: u32, setup: Setup)
+        requires seat { seat < setup.seats }
+        ensures mech { self.new.mech ≡ mech_new seat setup }
+        ensures file { self.new.file ≡ self.old.file }
+    {
+        self.machine = Machine::new(seat, setup);
+    }
+
     /// The event that the next step is, if it is one.
     pub fn next_event(&self) -> Option<Event>
         ensures { result ≡ mech_event self.now.mech }

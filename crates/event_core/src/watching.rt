@@ -1,8 +1,9 @@
 //! The memory of a run, which remembers of its last step what events can be read off.
-ghost use Rattle.std.specs.Prelude.{◌≡◌, ◌+◌, if◌then◌else◌, nat_le, slice_index, Some, None};
+ghost use Rattle.std.specs.Prelude.{◌≡◌, ℕ, ◌+◌, ◌<◌, ◌≤◌, if◌then◌else◌, length, nat_le, slice_index, Some, None};
 ghost use Rattle.node_arena.specs.declared.places.TheConstants.{RECORDS};
 
 use crate::noting::{is_beyond, word_at};
+use crate::resets::rewrite;
 use fast_slow_engine::Plays;
 use std::marker::Model;
 use step_memory::{Cells, Port, Request, Seen};
@@ -45,6 +46,16 @@ impl Watched {
         ensures { result.now ≡ self.now.words }
     {
         self.cells.words()
+    }
+
+    /// Gives each place the word that these have there, and 0 past the last of them, as where no step was made.
+    pub fn rewrite(&mut self, words: &[u64])
+        requires count { length self.old.words ≤ 4294967295 }
+        ensures count { length self.new.words ≡ length self.old.words }
+        ensures each { (place : ℕ) → place < length self.new.words → slice_index self.new.words place ≡ slice_index words.now place }
+    {
+        rewrite(&mut self.cells, words);
+        self.mark = None;
     }
 
     /// The mark of a step at this place that changes its word.

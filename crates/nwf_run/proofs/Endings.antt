@@ -5,12 +5,13 @@ use Rattle.nwf_run.specs.declared.running.Replayed.{Replayed}
 use Rattle.nwf_run.specs.declared.stops.Stop.{Stop}
 use Rattle.nwf_run.specs.declared.stops.Stop.TheVariants.{Usage, Refused, ReadFault, NoMemory}
 use Rattle.nwf_run.specs.Outside.{Opening, AppendsPrefix}
-use Rattle.nwf_run.specs.Replaying.{Ends, IsRunFor, Makes, OpensAll, OpensFor, text_for}
+use Rattle.nwf_run.specs.Replaying.{AreRunsFor, Ends, Makes, OpensAll, OpensFor, RunsMeetHeadline, text_for}
 use Rattle.nwf_run.specs.Replaying.Reports.{wrote, failed}
-use Rattle.nwf_run.specs.Runs.{Exhausts, FilesRun, RunMeetsHeadline}
+use Rattle.nwf_run.specs.Runs.{FilesRun}
 use Rattle.nwf_run.specs.Stops.{status_of}
+use Rattle.nwf_run.specs.Sweeps.{SomeExhausts}
 use Rattle.nwf_run.specs.Words.{Asked, client_asked}
-use Rattle.nwf_run.specs.Words.Asked.{a_replay, a_load, a_run}
+use Rattle.nwf_run.specs.Words.Asked.{a_replay, a_sweep, a_load, a_run}
 use Rattle.nwf_run.proofs.JudgedFiles.{there-weaker}
 
 -- a stop has none of the statuses of a report
@@ -34,32 +35,32 @@ module _ (tells : Bool) (held : List ℕ → Option (List ℕ)) (words : Option 
 
   -- a text was written whole, and no call of the run found no block left
   abbrev Done : Type 0
-  Done = IsSomeAnd words (λ a. (run : FilesRun) × IsRunFor tells held a run × RunMeetsHeadline (client_asked a) run × (¬ Exhausts run.report) × Appends written written' (text_for a run))
+  Done = IsSomeAnd words (λ a. (runs : List FilesRun) × AreRunsFor tells held a runs × RunsMeetHeadline (client_asked a) runs × (¬ SomeExhausts runs) × Appends written written' (text_for a runs))
 
   pub done : (answer : Result Replayed Stop) → Made answer → Ends written written' faults faults' status answer → status ≡ 0 → Done
   done (Err stop) made ends none = absurd (not_report stop status ends.0 (inl none))
   done (Ok made) text (failed five prefix rose) none = absurd (omega (arith, five, none))
   done (Ok made) text (wrote is appends calm) none =
-      there-weaker _ _ (λ (a : Asked) (m : Makes tells held a made.text.items made.exhausted). (m.run, m.is, m.headline, λ (e : Exhausts m.run.report). unmarked_status status made.exhausted is none (m.text_is.marked.1 e), subst (Appends written written') m.text_is.written appends)) words text
+      there-weaker _ _ (λ (a : Asked) (m : Makes tells held a made.text.items made.exhausted). (m.runs, m.are, m.headline, λ (e : SomeExhausts m.runs). unmarked_status status made.exhausted is none (m.marked.1 e), subst (Appends written written') m.written appends)) words text
 
   -- a text was written whole, and a call of the run found no block left
   abbrev Exhausted : Type 0
-  Exhausted = IsSomeAnd words (λ a. (run : FilesRun) × IsRunFor tells held a run × RunMeetsHeadline (client_asked a) run × Exhausts run.report × Appends written written' (text_for a run))
+  Exhausted = IsSomeAnd words (λ a. (runs : List FilesRun) × AreRunsFor tells held a runs × RunsMeetHeadline (client_asked a) runs × SomeExhausts runs × Appends written written' (text_for a runs))
 
   pub exhausted : (answer : Result Replayed Stop) → Made answer → Ends written written' faults faults' status answer → status ≡ 7 → Exhausted
   exhausted (Err stop) made ends seven = absurd (not_report stop status ends.0 (inr (inr seven)))
   exhausted (Ok made) text (failed five prefix rose) seven = absurd (omega (arith, five, seven))
   exhausted (Ok made) text (wrote is appends calm) seven =
-      there-weaker _ _ (λ (a : Asked) (m : Makes tells held a made.text.items made.exhausted). (m.run, m.is, m.headline, m.text_is.marked.0 (marked_status status made.exhausted is seven), subst (Appends written written') m.text_is.written appends)) words text
+      there-weaker _ _ (λ (a : Asked) (m : Makes tells held a made.text.items made.exhausted). (m.runs, m.are, m.headline, m.marked.0 (marked_status status made.exhausted is seven), subst (Appends written written') m.written appends)) words text
 
   -- the first bytes of a text were written
   abbrev Cut : Type 0
-  Cut = IsSomeAnd words (λ a. (run : FilesRun) × IsRunFor tells held a run × RunMeetsHeadline (client_asked a) run × AppendsPrefix written written' (text_for a run))
+  Cut = IsSomeAnd words (λ a. (runs : List FilesRun) × AreRunsFor tells held a runs × RunsMeetHeadline (client_asked a) runs × AppendsPrefix written written' (text_for a runs))
 
   pub cut : (answer : Result Replayed Stop) → Made answer → Ends written written' faults faults' status answer → status ≡ 5 → Cut
   cut (Err stop) made ends five = absurd (not_report stop status ends.0 (inr (inl five)))
   cut (Ok made) text (failed is prefix rose) five =
-      there-weaker _ _ (λ (a : Asked) (m : Makes tells held a made.text.items made.exhausted). (m.run, m.is, m.headline, subst (AppendsPrefix written written') m.text_is.written prefix)) words text
+      there-weaker _ _ (λ (a : Asked) (m : Makes tells held a made.text.items made.exhausted). (m.runs, m.are, m.headline, subst (AppendsPrefix written written') m.written prefix)) words text
   cut (Ok made) text (wrote is appends calm) five = absurd (not_five made.exhausted is)
     where
       not_five : (mark : Bool) → status ≡ cond mark 7 0 → ⊥
@@ -73,5 +74,6 @@ module _ (tells : Bool) (held : List ℕ → Option (List ℕ)) (written written
   all_opened words (Err stop) made opens ends h = absurd (not_report stop status ends.0 h)
   all_opened None (Ok made) text opens ends h = text
   all_opened (Some (a_replay r)) (Ok made) text opens ends h = opens
+  all_opened (Some (a_sweep s)) (Ok made) text opens ends h = opens
   all_opened (Some (a_load l)) (Ok made) text opens ends h = opens
   all_opened (Some (a_run r)) (Ok made) text opens ends h = opens

@@ -8,9 +8,11 @@ pub mod ReadFiles
 pub mod SameOrder
 pub mod Writable
 pub mod RunReports
+pub mod OneRun
 pub mod Replays
 pub mod Endings
 pub mod ThreadReports
 pub mod ThreadRuns
 pub mod Stopped
 pub mod LoadRuns
+pub mod SweepRuns

@@ -1,7 +1,8 @@
 -- The run that was made is the one that was asked for.
-use Rattle.std.proofs.Common.{◌≡◌, ℕ, ◌∙◌, Bool, IsTrue, List, length, Option, sym, ap, subst}
+use Rattle.std.proofs.Common.{◌≡◌, ℕ, ◌∙◌, Bool, IsTrue, List, length, Option, Some, refl, sym, ap, subst}
 use Rattle.lin_report.specs.declared.calls.Client.{Client}
 use Rattle.lin_report.specs.declared.calls.Op.{Op}
+use Rattle.lin_report.specs.Text.{report_text, summary_text}
 use Rattle.script_reader.specs.declared.schedules.ScheduleEntry.{ScheduleEntry}
 use Rattle.generated_files.specs.Generated.{generated_files}
 use Rattle.nwf_run.specs.declared.load_words.LoadWords.{LoadWords}
@@ -13,6 +14,7 @@ use Rattle.nwf_run.specs.Reading.{files_by_name}
 use Rattle.nwf_run.specs.Runs.{IsDriven, MakesReplayOfBytes}
 use Rattle.nwf_run.specs.Replaying.{Makes}
 use Rattle.nwf_run.specs.Loads.{IsLoaded}
+use Rattle.nwf_run.proofs.OneRun.{one_made}
 use Rattle.nwf_run.proofs.FormsOfClients.{at_once_but_the_tree, of_its_commands}
 
 -- the commands of a run are the accepted ones
@@ -24,18 +26,15 @@ pub replay_made : (tells : Bool) (held : List ℕ → Option (List ℕ)) (replay
     → (IsTrue tells → Accepts replay.client (length replay.files) (files_by_name held replay) entries commands) → length commands ≡ length replay.files
     → IsDriven (form_of replay.client) replay.cap replay.limit entries commands text exhausted → Makes tells held (a_replay replay) text exhausted
 replay_made tells held replay entries commands text exhausted accepts count m =
-    record {
-      run = m.run;
-      is = record {
-        entries = entries;
-        accepted = λ t. accepted_too replay.client (length replay.files) (files_by_name held replay) entries commands m.run.commands m.of_commands (accepts t);
-        seats = ap length m.of_commands ∙ count;
-        named = m.named;
-        runs = m.is;
-      };
-      headline = (m.headline, at_once_but_the_tree replay.client);
-      text_is = m.text_is;
-    }
+    one_made tells held (a_replay replay) m.run (report_text m.run.report (Some m.run.overtaken)) text exhausted
+    (record {
+      entries = entries;
+      accepted = λ t. accepted_too replay.client (length replay.files) (files_by_name held replay) entries commands m.run.commands m.of_commands (accepts t);
+      seats = ap length m.of_commands ∙ count;
+      named = m.named;
+      runs = m.is;
+    })
+    (m.headline, at_once_but_the_tree replay.client) refl m.text_is
 
 pub bytes_made : (client : Client) (cap limit : ℕ) (schedule : List ℕ) (files : List (List ℕ)) (entries : List ScheduleEntry) (commands : List (List Op)) (text : List ℕ) (exhausted : Bool)
     → Accepts client (length files) (files_of_bytes schedule files) entries commands → IsDriven (form_of client) cap limit entries commands text exhausted
@@ -56,13 +55,10 @@ bytes_made client cap limit schedule files entries commands text exhausted accep
 -- the run of a load
 pub load_made : (tells : Bool) (held : List ℕ → Option (List ℕ)) (load : LoadWords) (text : List ℕ) (exhausted : Bool) → IsLoaded (form_of load.client) load text exhausted → Makes tells held (a_load load) text exhausted
 load_made tells held load text exhausted m =
-    record {
-      run = m.run;
-      is = record {
-        generated = m.generated ∙ ap (λ (client : Client). generated_files client load.seed load.threads load.calls) (of_its_commands load.client);
-        in_rounds = m.in_rounds;
-        runs = m.is;
-      };
-      headline = (m.headline, at_once_but_the_tree load.client);
-      text_is = m.text_is;
-    }
+    one_made tells held (a_load load) m.run (summary_text m.run.report (Some m.run.overtaken)) text exhausted
+    (record {
+      generated = m.generated ∙ ap (λ (client : Client). generated_files client load.seed load.threads load.calls) (of_its_commands load.client);
+      in_rounds = m.in_rounds;
+      runs = m.is;
+    })
+    (m.headline, at_once_but_the_tree load.client) refl m.text_is

@@ -32,7 +32,7 @@ use Rattle.nwf_run.specs.Writable.{CanBeWritten, RunsCanBeWritten}
 use Rattle.nwf_run.proofs.SameOrder.{apart_moved, apart_pairs, calls_moved, same_summary, same_text}
 
 -- a reply is exhausted where the test says so
-exhausted_is : (reply : Reply) → reply_is_exhausted reply ≡ true → reply ≡ Exhausted
+pub exhausted_is : (reply : Reply) → reply_is_exhausted reply ≡ true → reply ≡ Exhausted
 exhausted_is Yes h = absurd (search rules)
 exhausted_is No h = absurd (search rules)
 exhausted_is Done h = absurd (search rules)

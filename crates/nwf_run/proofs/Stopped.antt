@@ -10,12 +10,13 @@ use Rattle.nwf_run.specs.Reading.{Opens, Reaches, Refuses}
 use Rattle.nwf_run.specs.Replaying.{Ends, Makes, OpensFor, OpensSome, Reports, StopsFor, WritesMessage}
 use Rattle.nwf_run.specs.Replaying.Reports.{wrote, failed}
 use Rattle.nwf_run.specs.Stops.{status_of, refused_message, unread_message}
-use Rattle.nwf_run.specs.Words.{Asked, Replay, asked_of, files_asked}
-use Rattle.nwf_run.specs.Words.Asked.{a_replay, a_load, a_run}
+use Rattle.nwf_run.specs.Words.{Asked, Replay, Sweep, asked_of, files_asked}
+use Rattle.nwf_run.specs.Words.Asked.{a_replay, a_sweep, a_load, a_run}
 
 -- where the words are those of a load, it is a load that is asked for
-pub load_asked : (P : Asked → Type 0) (r : Option Replay) (l : Option LoadWords) (load : LoadWords) → r ≡ None → l ≡ Some load → P (a_load load) → IsSomeAnd (asked_of r l) P
-load_asked P r l load none some made = subst (λ o. IsSomeAnd (asked_of o l) P) (sym none) (subst (λ o. IsSomeAnd (asked_of None o) P) (sym some) made)
+pub load_asked : (P : Asked → Type 0) (r : Option Replay) (s : Option Sweep) (l : Option LoadWords) (load : LoadWords) → r ≡ None → s ≡ None → l ≡ Some load → P (a_load load) → IsSomeAnd (asked_of r s l) P
+load_asked P r s l load none without some made =
+    subst (λ o. IsSomeAnd (asked_of o s l) P) (sym none) (subst (λ o. IsSomeAnd (asked_of None o l) P) (sym without) (subst (λ o. IsSomeAnd (asked_of None None o) P) (sym some) made))
 
 not_none : (a : Asked) → Some a ≡ None → ⊥
 not_none a h = absurd (search rules)
@@ -42,9 +43,13 @@ module _ (written written' : Option (List ℕ)) (faults faults' status : ℕ) wh
     not_usage (a_replay r) (Err (ReadFault file)) stops ends two = omega (arith, ends.0, two)
     not_usage (a_replay r) (Err NoMemory) stops ends two = omega (arith, ends.0, two)
     not_usage (a_run r) (Err Usage) stops ends two = absurd stops
+    not_usage (a_sweep s) (Err Usage) stops ends two = absurd stops
     not_usage (a_run r) (Err (Refused file refusal)) stops ends two = omega (arith, ends.0, two)
+    not_usage (a_sweep s) (Err (Refused file refusal)) stops ends two = omega (arith, ends.0, two)
     not_usage (a_run r) (Err (ReadFault file)) stops ends two = omega (arith, ends.0, two)
+    not_usage (a_sweep s) (Err (ReadFault file)) stops ends two = omega (arith, ends.0, two)
     not_usage (a_run r) (Err NoMemory) stops ends two = omega (arith, ends.0, two)
+    not_usage (a_sweep s) (Err NoMemory) stops ends two = omega (arith, ends.0, two)
     not_usage (a_load l) (Err stop) stops ends two = let is : status ≡ 6 = ends.0 ∙ ap status_of stops in omega (arith, is, two)
 
     pub usage : (words : Option Asked) (answer : Result Replayed Stop) → Made words answer → IfErr answer (StopsFor tells held words) → Ends written written' faults faults' status answer → (status ≡ 2) ↔ (words ≡ None)
@@ -59,6 +64,7 @@ module _ (written written' : Option (List ℕ)) (faults faults' status : ℕ) wh
       none_opened (Some (a_replay r)) answer stops opens ends two = absurd (not_usage (a_replay r) answer stops ends two)
       none_opened (Some (a_load l)) answer stops opens ends two = opens
       none_opened (Some (a_run r)) answer stops opens ends two = absurd (not_usage (a_run r) answer stops ends two)
+      none_opened (Some (a_sweep s)) answer stops opens ends two = absurd (not_usage (a_sweep s) answer stops ends two)
 
       pub some_opened : (words : Option Asked) (answer : Result Replayed Stop) → IfErr answer (StopsFor tells held words) → OpensFor words read before now answer → Ends written written' faults faults' status answer
           → status ≡ 6 → IsSomeAnd words (λ a. OpensSome a read before now)
@@ -69,9 +75,13 @@ module _ (written written' : Option (List ℕ)) (faults faults' status : ℕ) wh
       some_opened (Some (a_replay r)) (Err (ReadFault file)) stops opens ends six = absurd (omega (arith, ends.0, six))
       some_opened (Some (a_replay r)) (Err NoMemory) stops opens ends six = opens
       some_opened (Some (a_run r)) (Err Usage) stops opens ends six = absurd stops
+      some_opened (Some (a_sweep s)) (Err Usage) stops opens ends six = absurd stops
       some_opened (Some (a_run r)) (Err (Refused file refusal)) stops opens ends six = absurd (omega (arith, ends.0, six))
+      some_opened (Some (a_sweep s)) (Err (Refused file refusal)) stops opens ends six = absurd (omega (arith, ends.0, six))
       some_opened (Some (a_run r)) (Err (ReadFault file)) stops opens ends six = absurd (omega (arith, ends.0, six))
+      some_opened (Some (a_sweep s)) (Err (ReadFault file)) stops opens ends six = absurd (omega (arith, ends.0, six))
       some_opened (Some (a_run r)) (Err NoMemory) stops opens ends six = opens
+      some_opened (Some (a_sweep s)) (Err NoMemory) stops opens ends six = opens
       some_opened (Some (a_load l)) (Err stop) stops opens ends six = opens
 
       -- a file is refused, or can't be read, where a replay is asked for
@@ -86,9 +96,13 @@ module _ (written written' : Option (List ℕ)) (faults faults' status : ℕ) wh
       refused (Some (a_replay r)) (Err (ReadFault file)) stops opens ends three = absurd (omega (arith, ends.0, three))
       refused (Some (a_replay r)) (Err NoMemory) stops opens ends three = absurd (omega (arith, ends.0, three))
       refused (Some (a_run r)) (Err Usage) stops opens ends three = absurd stops
+      refused (Some (a_sweep s)) (Err Usage) stops opens ends three = absurd stops
       refused (Some (a_run r)) (Err (Refused file refusal)) stops opens ends three = (file, refusal, stops, opens, ends.1)
+      refused (Some (a_sweep s)) (Err (Refused file refusal)) stops opens ends three = (file, refusal, stops, opens, ends.1)
       refused (Some (a_run r)) (Err (ReadFault file)) stops opens ends three = absurd (omega (arith, ends.0, three))
+      refused (Some (a_sweep s)) (Err (ReadFault file)) stops opens ends three = absurd (omega (arith, ends.0, three))
       refused (Some (a_run r)) (Err NoMemory) stops opens ends three = absurd (omega (arith, ends.0, three))
+      refused (Some (a_sweep s)) (Err NoMemory) stops opens ends three = absurd (omega (arith, ends.0, three))
       refused (Some (a_load l)) (Err stop) stops opens ends three = let is : status ≡ 6 = ends.0 ∙ ap status_of stops in absurd (omega (arith, is, three))
       refused None (Err stop) stops opens ends three = let is : status ≡ 2 = ends.0 ∙ ap status_of stops in absurd (omega (arith, is, three))
 
@@ -103,8 +117,12 @@ module _ (written written' : Option (List ℕ)) (faults faults' status : ℕ) wh
       unread (Some (a_replay r)) (Err (Refused file refusal)) stops opens ends four = absurd (omega (arith, ends.0, four))
       unread (Some (a_replay r)) (Err NoMemory) stops opens ends four = absurd (omega (arith, ends.0, four))
       unread (Some (a_run r)) (Err Usage) stops opens ends four = absurd stops
+      unread (Some (a_sweep s)) (Err Usage) stops opens ends four = absurd stops
       unread (Some (a_run r)) (Err (ReadFault file)) stops opens ends four = (file, stops, opens, ends.1)
+      unread (Some (a_sweep s)) (Err (ReadFault file)) stops opens ends four = (file, stops, opens, ends.1)
       unread (Some (a_run r)) (Err (Refused file refusal)) stops opens ends four = absurd (omega (arith, ends.0, four))
+      unread (Some (a_sweep s)) (Err (Refused file refusal)) stops opens ends four = absurd (omega (arith, ends.0, four))
       unread (Some (a_run r)) (Err NoMemory) stops opens ends four = absurd (omega (arith, ends.0, four))
+      unread (Some (a_sweep s)) (Err NoMemory) stops opens ends four = absurd (omega (arith, ends.0, four))
       unread (Some (a_load l)) (Err stop) stops opens ends four = let is : status ≡ 6 = ends.0 ∙ ap status_of stops in absurd (omega (arith, is, four))
       unread None (Err stop) stops opens ends four = let is : status ≡ 2 = ends.0 ∙ ap status_of stops in absurd (omega (arith, is, four))

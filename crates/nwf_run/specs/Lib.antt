@@ -10,5 +10,6 @@ pub mod Reading
 pub mod Writable
 pub mod Runs
 pub mod Loads
+pub mod Sweeps
 pub mod Replaying
 pub mod Running

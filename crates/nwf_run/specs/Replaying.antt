@@ -1,6 +1,8 @@
 -- What is made of what the words ask for, and how the call ends.
-use Rattle.std.specs.Prelude.{◌≡◌, ℕ, ◌+◌, ◌≤◌, Bool, IsTrue, if◌then◌else◌, List, length, Option, Some, None, Result, Ok, Err}
+use Rattle.std.specs.Prelude.{◌≡◌, ◌↔◌, ℕ, ◌+◌, ◌≤◌, Bool, true, IsTrue, if◌then◌else◌, List, [], ◌∷◌, length, All, Option, Some, None, Result, Ok, Err}
 use Rattle.std.specs.Io.KnownBytes.{Appends}
+use Rattle.std.specs.List.{flat_map}
+use Rattle.lin_report.specs.declared.calls.Client.{Client}
 use Rattle.lin_report.specs.Calls.{Report}
 use Rattle.lin_report.specs.Text.{report_text, summary_text}
 use Rattle.script_reader.specs.declared.schedules.ScheduleEntry.{ScheduleEntry}
@@ -14,10 +16,11 @@ use Rattle.nwf_run.specs.Loads.{IsLoadOf}
 use Rattle.nwf_run.specs.Outside.{Opening, Rose, AppendsPrefix}
 use Rattle.nwf_run.specs.Reading.{files_by_name, Opens, OpensUntil, StopsAt}
 use Rattle.nwf_run.specs.Running.{IsRunOfFiles}
-use Rattle.nwf_run.specs.Runs.{FilesRun, IsRun, IsTextOf, RunMeetsHeadline}
+use Rattle.nwf_run.specs.Runs.{FilesRun, IsRun, RunMeetsHeadline}
 use Rattle.nwf_run.specs.Stops.{status_of, message_of}
+use Rattle.nwf_run.specs.Sweeps.{AreSweepOf, SomeExhausts, stop_lines}
 use Rattle.nwf_run.specs.Words.{Asked, Replay, client_asked}
-use Rattle.nwf_run.specs.Words.Asked.{a_replay, a_load, a_run}
+use Rattle.nwf_run.specs.Words.Asked.{a_replay, a_sweep, a_load, a_run}
 
 -- the run is that of the replay: of the commands of its files, in the order that its schedule names; where bytes are
 -- told, the files are all there and accepted
@@ -28,30 +31,43 @@ pub record IsReplayOf (tells : Bool) (held : List ℕ → Option (List ℕ)) (re
   pub named : IsOrderOf (form_of replay.client) run.setup run.commands entries run.order
   pub runs : IsRun (form_of replay.client) replay.cap replay.limit run
 
--- the run is the one that is asked for
-abbrev pub IsRunFor : Bool → (List ℕ → Option (List ℕ)) → Asked → FilesRun → Type 0
-IsRunFor tells held (a_replay r) run = IsReplayOf tells held r run
-IsRunFor tells held (a_load l) run = IsLoadOf l run
-IsRunFor tells held (a_run r) run = IsRunOfFiles tells held r run
+-- there is one run, and this holds of it
+abbrev pub OfOne : (FilesRun → Type 0) → List FilesRun → Type 0
+OfOne Is (run ∷ []) = Is run
+OfOne Is _ = ⊥
 
--- what is written of its report: all of it for a replay, for a load the summary alone, and for a run with threads
--- all of it without a count of overtaking
-abbrev pub text_for : Asked → FilesRun → List ℕ
-text_for (a_replay r) run = report_text run.report (Some run.overtaken)
-text_for (a_load l) run = summary_text run.report (Some run.overtaken)
-text_for (a_run r) run = report_text run.report None
+-- the runs are those that are asked for: one, or those of a sweep
+abbrev pub AreRunsFor : Bool → (List ℕ → Option (List ℕ)) → Asked → List FilesRun → Type 0
+AreRunsFor tells held (a_replay r) runs = OfOne (IsReplayOf tells held r) runs
+AreRunsFor tells held (a_sweep s) runs = AreSweepOf tells held s runs
+AreRunsFor tells held (a_load l) runs = OfOne (IsLoadOf l) runs
+AreRunsFor tells held (a_run r) runs = OfOne (IsRunOfFiles tells held r) runs
 
--- the text is that of the run that is asked for, which meets the headline
+-- what is written of their reports: all of it for a replay, for a sweep a line of each, for a load the summary alone, and
+-- for a run with threads all of it without a count of overtaking
+abbrev pub text_for : Asked → List FilesRun → List ℕ
+text_for (a_replay r) runs = flat_map (λ run. report_text run.report (Some run.overtaken)) runs
+text_for (a_sweep s) runs = stop_lines 0 runs
+text_for (a_load l) runs = flat_map (λ run. summary_text run.report (Some run.overtaken)) runs
+text_for (a_run r) runs = flat_map (λ run. report_text run.report None) runs
+
+-- each of the runs meets the headline
+abbrev pub RunsMeetHeadline : Client → List FilesRun → Type 0
+RunsMeetHeadline client runs = All (RunMeetsHeadline client) runs
+
+-- the text is that of the runs that are asked for, which meet the headline
 pub record Makes (tells : Bool) (held : List ℕ → Option (List ℕ)) (asked : Asked) (text : List ℕ) (exhausted : Bool) : Type 0 where
-  pub run : FilesRun
-  pub is : IsRunFor tells held asked run
-  pub headline : RunMeetsHeadline (client_asked asked) run
-  pub text_is : IsTextOf run.report (text_for asked run) text exhausted
+  pub runs : List FilesRun
+  pub are : AreRunsFor tells held asked runs
+  pub headline : RunsMeetHeadline (client_asked asked) runs
+  pub written : text ≡ text_for asked runs
+  pub marked : (exhausted ≡ true) ↔ SomeExhausts runs
 
 -- why a call stops: its words ask for nothing that is served, or reading stopped at a file, or a load had no memory
 abbrev pub StopsFor : Bool → (List ℕ → Option (List ℕ)) → Option Asked → Stop → Type 0
 StopsFor tells held None stop = stop ≡ Usage
 StopsFor tells held (Some (a_replay r)) stop = StopsAt tells held r stop
+StopsFor tells held (Some (a_sweep s)) stop = StopsAt tells held s.of_files stop
 StopsFor tells held (Some (a_load l)) stop = stop ≡ NoMemory
 StopsFor tells held (Some (a_run r)) stop = StopsAt tells held r stop
 
@@ -59,18 +75,21 @@ StopsFor tells held (Some (a_run r)) stop = StopsAt tells held r stop
 abbrev pub OpensFor : {X : Type 0} → Option Asked → ℕ → List Opening → List Opening → Result X Stop → Type 0
 OpensFor None faults before now result = now ≡ before
 OpensFor (Some (a_replay r)) faults before now result = OpensUntil r faults before now result
+OpensFor (Some (a_sweep s)) faults before now result = OpensUntil s.of_files faults before now result
 OpensFor (Some (a_load l)) faults before now result = now ≡ before
 OpensFor (Some (a_run r)) faults before now result = OpensUntil r faults before now result
 
 -- all of its files were opened
 abbrev pub OpensAll : Asked → ℕ → List Opening → List Opening → Type 0
 OpensAll (a_replay r) faults before now = Opens r (length r.files + 1) faults before now
+OpensAll (a_sweep s) faults before now = Opens s.of_files (length s.of_files.files + 1) faults before now
 OpensAll (a_load l) faults before now = now ≡ before
 OpensAll (a_run r) faults before now = Opens r (length r.files + 1) faults before now
 
 -- the first of its files were opened, some or none
 abbrev pub OpensSome : Asked → ℕ → List Opening → List Opening → Type 0
 OpensSome (a_replay r) faults before now = (count : ℕ) × (count ≤ length r.files + 1) × Opens r count faults before now
+OpensSome (a_sweep s) faults before now = (count : ℕ) × (count ≤ length s.of_files.files + 1) × Opens s.of_files count faults before now
 OpensSome (a_load l) faults before now = now ≡ before
 OpensSome (a_run r) faults before now = (count : ℕ) × (count ≤ length r.files + 1) × Opens r count faults before now
 

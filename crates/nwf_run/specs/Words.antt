@@ -53,6 +53,25 @@ run_words (command ∷ client ∷ cap ∷ limit ∷ files) =
     else None
 run_words _ = None
 
+-- what the words of a sweep say: those of a run, and up to how many steps its first seat makes before it stops
+pub record Sweep : Type 0 where
+  pub of_files : Replay
+  pub most : ℕ
+
+abbrev pub sweep_of : Option Replay → Option ℕ → Option Sweep
+sweep_of (Some r) (Some most) = Some (record { of_files = r; most = most })
+sweep_of (Some r) None = None
+sweep_of None most = None
+
+-- `sweep CLIENT CAP LIMIT K` and one to eight FILE words, with the same bounds and K from 0 to 255; other words are no
+-- sweep
+abbrev pub sweep_words : List (List ℕ) → Option Sweep
+sweep_words (command ∷ client ∷ cap ∷ limit ∷ most ∷ files) =
+    if bytes_eq command (codes "sweep") && nat_lt 0 (length files) && nat_le (length files) 8
+    then sweep_of (replay_of (client_named client) (number_in 1 65536 cap) (number_in 0 255 limit) None files) (number_in 0 255 most)
+    else None
+sweep_words _ = None
+
 -- the first word is `run`
 abbrev pub starts_run : List (List ℕ) → Bool
 starts_run (command ∷ words) = bytes_eq command (codes "run")
@@ -73,15 +92,18 @@ load_words (command ∷ client ∷ cap ∷ limit ∷ threads ∷ calls ∷ seed 
     else None
 load_words _ = None
 
--- what is asked for: the report of a replay, the summary of a load, or the report of a run with threads
+-- what is asked for: the report of a replay, the lines of a sweep, the summary of a load, or the report of a run with
+-- threads
 pub data Asked : Type 0 where
   a_replay : Replay → Asked
+  a_sweep : Sweep → Asked
   a_load : LoadWords → Asked
   a_run : Replay → Asked
 
 -- the client that it is of
 abbrev pub client_asked : Asked → Client
 client_asked (a_replay r) = r.client
+client_asked (a_sweep s) = s.of_files.client
 client_asked (a_load l) = l.client
 client_asked (a_run r) = r.client
 
@@ -89,14 +111,16 @@ client_asked (a_run r) = r.client
 abbrev pub files_asked : Option Asked → Option Replay
 files_asked None = None
 files_asked (Some (a_replay r)) = Some r
+files_asked (Some (a_sweep s)) = Some s.of_files
 files_asked (Some (a_load l)) = None
 files_asked (Some (a_run r)) = Some r
 
--- a replay is asked for, or a load, or nothing that is served
-abbrev pub asked_of : Option Replay → Option LoadWords → Option Asked
-asked_of (Some r) l = Some (a_replay r)
-asked_of None (Some l) = Some (a_load l)
-asked_of None None = None
+-- a replay is asked for, or a sweep, or a load, or nothing that is served
+abbrev pub asked_of : Option Replay → Option Sweep → Option LoadWords → Option Asked
+asked_of (Some r) s l = Some (a_replay r)
+asked_of None (Some s) l = Some (a_sweep s)
+asked_of None None (Some l) = Some (a_load l)
+asked_of None None None = None
 
 -- a run with threads is asked for, or nothing that is served
 abbrev pub asked_run : Option Replay → Option Asked
@@ -105,12 +129,12 @@ asked_run None = None
 
 -- what the words ask for of a call that makes no thread
 abbrev pub asked_words : List (List ℕ) → Option Asked
-asked_words words = asked_of (replay_words words) (load_words words)
+asked_words words = asked_of (replay_words words) (sweep_words words) (load_words words)
 
 -- what they ask for of one that makes threads
 abbrev pub run_asked : List (List ℕ) → Option Asked
 run_asked words = asked_run (run_words words)
 
--- what they ask for of the program: a run where the first word is `run`, and else a replay or a load
+-- what they ask for of the program: a run where the first word is `run`, and else a replay, a sweep or a load
 abbrev pub nwf_asked : List (List ℕ) → Option Asked
 nwf_asked words = if starts_run words then run_asked words else asked_words words

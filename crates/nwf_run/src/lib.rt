@@ -24,6 +24,8 @@ pub mod run;
 mod running;
 mod scripts;
 mod stops;
+mod sweep_words;
+mod sweeping;
 #[cfg(test)]
 mod tests;
 mod threads;

@@ -19,7 +19,7 @@ use schedule_runs::take_rounds;
 use std::alloc::Global;
 
 /// How many rounds there are at most for each call of a seat.
-const ROUNDS_OF_A_CALL: u32 = 16_384;
+pub const ROUNDS_OF_A_CALL: u32 = 16_384;
 
 /// The summary of a structure's run. All memory of the run and of the text is taken before the run is made.
 fn summary_of<C: Normalized>(alloc: Global, load: LoadWords) -> Result<Replayed, NoMemory>

@@ -4,9 +4,10 @@ ghost use Rattle.std.specs.Io.KnownBytes.{Appends};
 ghost use Rattle.script_reader.specs.declared.causes.Refusal.{Refusal};
 ghost use Rattle.nwf_run.specs.Outside.{Rose, AppendsPrefix};
 ghost use Rattle.nwf_run.specs.Reading.{Opens, Reaches, Refuses};
-ghost use Rattle.nwf_run.specs.Replaying.{IsRunFor, OpensAll, OpensSome, WritesMessage, text_for};
-ghost use Rattle.nwf_run.specs.Runs.{Exhausts, FilesRun, RunMeetsHeadline};
+ghost use Rattle.nwf_run.specs.Replaying.{AreRunsFor, OpensAll, OpensSome, RunsMeetHeadline, WritesMessage, text_for};
+ghost use Rattle.nwf_run.specs.Runs.{FilesRun};
 ghost use Rattle.nwf_run.specs.Stops.{status_of, USAGE_MESSAGE, NO_MEMORY_MESSAGE, refused_message, unread_message};
+ghost use Rattle.nwf_run.specs.Sweeps.{SomeExhausts};
 ghost use Rattle.nwf_run.specs.Words.{files_asked, nwf_asked, starts_run, client_asked};
 ghost use Rattle.nwf_run.specs.declared.stops.Stop.{Stop};
 
@@ -42,9 +43,9 @@ pub fn nwf_main<R: Threads + Wait + Sync, F: Files, K: Sink, G: Gate + Sync>(
 
     // What is written is the text of the run that is asked for, which meets the headline: all of it or, after a
     // fault of the sink, its first bytes; the status says whether a call of it found no block left.
-    ensures done { result ≡ 0 → IsSomeAnd (nwf_asked (map string_bytes words.now)) (λ a. (run : FilesRun) × IsRunFor (F.tells files.old) (F.held files.old) a run × RunMeetsHeadline (client_asked a) run × (¬ Exhausts run.report) × Appends (K.written out.old) (K.written out.new) (text_for a run)) }
-    ensures exhausted { result ≡ 7 → IsSomeAnd (nwf_asked (map string_bytes words.now)) (λ a. (run : FilesRun) × IsRunFor (F.tells files.old) (F.held files.old) a run × RunMeetsHeadline (client_asked a) run × Exhausts run.report × Appends (K.written out.old) (K.written out.new) (text_for a run)) }
-    ensures cut { result ≡ 5 → IsSomeAnd (nwf_asked (map string_bytes words.now)) (λ a. (run : FilesRun) × IsRunFor (F.tells files.old) (F.held files.old) a run × RunMeetsHeadline (client_asked a) run × AppendsPrefix (K.written out.old) (K.written out.new) (text_for a run)) }
+    ensures done { result ≡ 0 → IsSomeAnd (nwf_asked (map string_bytes words.now)) (λ a. (runs : List FilesRun) × AreRunsFor (F.tells files.old) (F.held files.old) a runs × RunsMeetHeadline (client_asked a) runs × (¬ SomeExhausts runs) × Appends (K.written out.old) (K.written out.new) (text_for a runs)) }
+    ensures exhausted { result ≡ 7 → IsSomeAnd (nwf_asked (map string_bytes words.now)) (λ a. (runs : List FilesRun) × AreRunsFor (F.tells files.old) (F.held files.old) a runs × RunsMeetHeadline (client_asked a) runs × SomeExhausts runs × Appends (K.written out.old) (K.written out.new) (text_for a runs)) }
+    ensures cut { result ≡ 5 → IsSomeAnd (nwf_asked (map string_bytes words.now)) (λ a. (runs : List FilesRun) × AreRunsFor (F.tells files.old) (F.held files.old) a runs × RunsMeetHeadline (client_asked a) runs × AppendsPrefix (K.written out.old) (K.written out.new) (text_for a runs)) }
 
     // A file is refused only where it is there and not accepted and each file before it is, and the message
     // names it. No later one was opened.

@@ -1,24 +1,27 @@
-//! `replay` and `load`: runs command files by a schedule and writes the report, or generated files in rounds and
-//! writes the summary.
+//! `replay`, `sweep` and `load`: runs command files by a schedule and writes the report, or with a seat that stops and
+//! writes a line for each stop, or generated files in rounds and writes the summary.
 ghost use Rattle.std.specs.Prelude.{◌≡◌, ◌≢◌, ◌↔◌, ◌⊎◌, ◌≤◌, ◌+◌, ℕ, List, None, Some, map, length, IfOk, IfErr, IsSomeAnd, IsErrOf, string_bytes};
 ghost use Rattle.std.specs.Io.KnownBytes.{Appends};
 ghost use Rattle.script_reader.specs.declared.causes.Refusal.{Refusal};
 ghost use Rattle.nwf_run.specs.Outside.{Rose, AppendsPrefix};
 ghost use Rattle.nwf_run.specs.Reading.{FaultsAsTold, Opens, OpensUntil, Reaches, Refuses, StopsAt};
-ghost use Rattle.nwf_run.specs.Replaying.{Ends, IsRunFor, Makes, OpensAll, OpensFor, OpensSome, Reports, StopsFor, WritesMessage, text_for};
-ghost use Rattle.nwf_run.specs.Runs.{Exhausts, FilesRun, RunMeetsHeadline};
-ghost use Rattle.nwf_run.specs.Said.{said};
+ghost use Rattle.nwf_run.specs.Replaying.{Ends, AreRunsFor, Makes, OpensAll, OpensFor, OpensSome, Reports, RunsMeetHeadline, StopsFor, WritesMessage, text_for};
+ghost use Rattle.nwf_run.specs.Runs.{FilesRun};
+ghost use Rattle.nwf_run.specs.Said.{said, said_sweep};
 ghost use Rattle.nwf_run.specs.Stops.{status_of, message_of, USAGE_MESSAGE, NO_MEMORY_MESSAGE, refused_message, unread_message};
+ghost use Rattle.nwf_run.specs.Sweeps.{SomeExhausts};
 ghost use Rattle.nwf_run.specs.Words.{asked_words, files_asked, client_asked};
-ghost use Rattle.nwf_run.specs.Words.Asked.{a_replay};
+ghost use Rattle.nwf_run.specs.Words.Asked.{a_replay, a_sweep};
 ghost use Rattle.nwf_run.specs.declared.stops.Stop.{Stop};
 
 use crate::load_words::load_words;
 use crate::loading::make_summary;
 use crate::outside::{Files, Sink};
 use crate::running::{Replayed, make_report};
-use crate::scripts::read_scripts;
+use crate::scripts::{read_command_files, read_scripts};
 use crate::stops::Stop;
+use crate::sweep_words::{SweepWords, sweep_words};
+use crate::sweeping::make_lines;
 use crate::words::{ReplayWords, replay_words};
 use crate::writing::write_all;
 use std::alloc::Global;
@@ -44,6 +47,36 @@ fn replay_files<F: Files>(
     Ok(made)
 }
 
+/// Reads the files and makes the lines of a sweep over them.
+fn sweep_files<F: Files>(
+    alloc: Global,
+    words: &SweepWords<'_>,
+    files: &mut F,
+) -> Result<Replayed, Stop>
+    requires cap { (1 ≤ words.now.of_files.cap) × (words.now.of_files.cap ≤ 65536) }
+    requires limit { words.now.of_files.limit ≤ 255 }
+    requires most { words.now.most ≤ 255 }
+    requires some { 1 ≤ length words.now.of_files.files.now }
+    requires few { length words.now.of_files.files.now ≤ 8 }
+    ensures text { IfOk result (λ made. Makes (F.tells files.old) (F.held files.old) (a_sweep (said_sweep words.now)) made.text.items made.exhausted) }
+    ensures stops { IfErr result (StopsAt (F.tells files.old) (F.held files.old) (said_sweep words.now).of_files) }
+    ensures faults { FaultsAsTold (F.faults files.old) (F.faults files.new) result }
+    ensures opened { OpensUntil (said_sweep words.now).of_files (F.faults files.old) (F.opened files.old) (F.opened files.new) result }
+    ensures held { (n : List ℕ) → F.held files.new n ≡ F.held files.old n }
+{
+    let of_files = &words.of_files;
+    let commands = read_command_files(alloc, of_files, files)?;
+    let made = make_lines(
+        alloc,
+        of_files.client,
+        of_files.cap,
+        of_files.limit,
+        words.most,
+        commands,
+    )?;
+    Ok(made)
+}
+
 /// What the words ask for, or why there is none.
 fn answer<F: Files>(alloc: Global, words: &[String], files: &mut F) -> Result<Replayed, Stop>
     ensures text { IfOk result (λ made. IsSomeAnd (asked_words (map string_bytes words.now)) (λ a. Makes (F.tells files.old) (F.held files.old) a made.text.items made.exhausted)) }
@@ -54,6 +87,9 @@ fn answer<F: Files>(alloc: Global, words: &[String], files: &mut F) -> Result<Re
 {
     if let Some(replay) = replay_words(words) {
         return replay_files(alloc, &replay, files);
+    }
+    if let Some(sweep) = sweep_words(words) {
+        return sweep_files(alloc, &sweep, files);
     }
     match load_words(words) {
         Some(load) => Ok(make_summary(alloc, load)?),
@@ -111,9 +147,9 @@ pub fn replay_main<F: Files, K: Sink>(
 
     // What is written for accepted files is the report of their run, which meets the headline: all of it or,
     // after a fault of the sink, its first bytes; the status says whether a call of it found no block left.
-    ensures done { result ≡ 0 → IsSomeAnd (asked_words (map string_bytes words.now)) (λ a. (run : FilesRun) × IsRunFor (F.tells files.old) (F.held files.old) a run × RunMeetsHeadline (client_asked a) run × (¬ Exhausts run.report) × Appends (K.written out.old) (K.written out.new) (text_for a run)) }
-    ensures exhausted { result ≡ 7 → IsSomeAnd (asked_words (map string_bytes words.now)) (λ a. (run : FilesRun) × IsRunFor (F.tells files.old) (F.held files.old) a run × RunMeetsHeadline (client_asked a) run × Exhausts run.report × Appends (K.written out.old) (K.written out.new) (text_for a run)) }
-    ensures cut { result ≡ 5 → IsSomeAnd (asked_words (map string_bytes words.now)) (λ a. (run : FilesRun) × IsRunFor (F.tells files.old) (F.held files.old) a run × RunMeetsHeadline (client_asked a) run × AppendsPrefix (K.written out.old) (K.written out.new) (text_for a run)) }
+    ensures done { result ≡ 0 → IsSomeAnd (asked_words (map string_bytes words.now)) (λ a. (runs : List FilesRun) × AreRunsFor (F.tells files.old) (F.held files.old) a runs × RunsMeetHeadline (client_asked a) runs × (¬ SomeExhausts runs) × Appends (K.written out.old) (K.written out.new) (text_for a runs)) }
+    ensures exhausted { result ≡ 7 → IsSomeAnd (asked_words (map string_bytes words.now)) (λ a. (runs : List FilesRun) × AreRunsFor (F.tells files.old) (F.held files.old) a runs × RunsMeetHeadline (client_asked a) runs × SomeExhausts runs × Appends (K.written out.old) (K.written out.new) (text_for a runs)) }
+    ensures cut { result ≡ 5 → IsSomeAnd (asked_words (map string_bytes words.now)) (λ a. (runs : List FilesRun) × AreRunsFor (F.tells files.old) (F.held files.old) a runs × RunsMeetHeadline (client_asked a) runs × AppendsPrefix (K.written out.old) (K.written out.new) (text_for a runs)) }
 
     // A file is refused only where it is there and not accepted and each file before it is, and the message
     // names it. No later one was opened.

@@ -4,10 +4,11 @@ ghost use Rattle.std.specs.Io.KnownBytes.{Appends};
 ghost use Rattle.script_reader.specs.declared.causes.Refusal.{Refusal};
 ghost use Rattle.nwf_run.specs.Outside.{Rose, AppendsPrefix};
 ghost use Rattle.nwf_run.specs.Reading.{FaultsAsTold, Opens, OpensUntil, Reaches, Refuses, StopsAt};
-ghost use Rattle.nwf_run.specs.Replaying.{IsRunFor, Makes, OpensAll, OpensFor, OpensSome, StopsFor, WritesMessage, text_for};
-ghost use Rattle.nwf_run.specs.Runs.{Exhausts, FilesRun, RunMeetsHeadline};
+ghost use Rattle.nwf_run.specs.Replaying.{AreRunsFor, Makes, OpensAll, OpensFor, OpensSome, RunsMeetHeadline, StopsFor, WritesMessage, text_for};
+ghost use Rattle.nwf_run.specs.Runs.{FilesRun};
 ghost use Rattle.nwf_run.specs.Said.{said_run};
 ghost use Rattle.nwf_run.specs.Stops.{status_of, USAGE_MESSAGE, NO_MEMORY_MESSAGE, refused_message, unread_message};
+ghost use Rattle.nwf_run.specs.Sweeps.{SomeExhausts};
 ghost use Rattle.nwf_run.specs.Words.{files_asked, run_asked, client_asked};
 ghost use Rattle.nwf_run.specs.Words.Asked.{a_run};
 ghost use Rattle.nwf_run.specs.declared.stops.Stop.{Stop};
@@ -98,9 +99,9 @@ pub fn run_main<R: Threads + Wait + Sync, F: Files, K: Sink, G: Gate + Sync>(
     // What is written for accepted files is the report of a run of them, in which every command was made and
     // answered, and which meets the headline in the order in which the threads made its steps: all of it or,
     // after a fault of the sink, its first bytes; the status says whether a call of it found no block left.
-    ensures done { result ≡ 0 → IsSomeAnd (run_asked (map string_bytes words.now)) (λ a. (run : FilesRun) × IsRunFor (F.tells files.old) (F.held files.old) a run × RunMeetsHeadline (client_asked a) run × (¬ Exhausts run.report) × Appends (K.written out.old) (K.written out.new) (text_for a run)) }
-    ensures exhausted { result ≡ 7 → IsSomeAnd (run_asked (map string_bytes words.now)) (λ a. (run : FilesRun) × IsRunFor (F.tells files.old) (F.held files.old) a run × RunMeetsHeadline (client_asked a) run × Exhausts run.report × Appends (K.written out.old) (K.written out.new) (text_for a run)) }
-    ensures cut { result ≡ 5 → IsSomeAnd (run_asked (map string_bytes words.now)) (λ a. (run : FilesRun) × IsRunFor (F.tells files.old) (F.held files.old) a run × RunMeetsHeadline (client_asked a) run × AppendsPrefix (K.written out.old) (K.written out.new) (text_for a run)) }
+    ensures done { result ≡ 0 → IsSomeAnd (run_asked (map string_bytes words.now)) (λ a. (runs : List FilesRun) × AreRunsFor (F.tells files.old) (F.held files.old) a runs × RunsMeetHeadline (client_asked a) runs × (¬ SomeExhausts runs) × Appends (K.written out.old) (K.written out.new) (text_for a runs)) }
+    ensures exhausted { result ≡ 7 → IsSomeAnd (run_asked (map string_bytes words.now)) (λ a. (runs : List FilesRun) × AreRunsFor (F.tells files.old) (F.held files.old) a runs × RunsMeetHeadline (client_asked a) runs × SomeExhausts runs × Appends (K.written out.old) (K.written out.new) (text_for a runs)) }
+    ensures cut { result ≡ 5 → IsSomeAnd (run_asked (map string_bytes words.now)) (λ a. (runs : List FilesRun) × AreRunsFor (F.tells files.old) (F.held files.old) a runs × RunsMeetHeadline (client_asked a) runs × AppendsPrefix (K.written out.old) (K.written out.new) (text_for a runs)) }
 
     // A file is refused only where it is there and not accepted and each file before it is, and the message
     // names it. No later one was opened.

@@ -80,7 +80,7 @@ impl Stop {
 }
 
 /// Puts a name and a number last.
-fn push_named(text: &mut Message, name: &str, number: u32)
+pub fn push_named(text: &mut Message, name: &str, number: u32)
     requires { array_string_len text.old + length name.now + 40 ≤ 160 }
     ensures bytes { text.new.bytes ≡ text.old.bytes ++ name.now ++ decimal number }
     ensures len { array_string_len text.new ≤ array_string_len text.old + length name.now + 40 }

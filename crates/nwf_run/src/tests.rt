@@ -10,4 +10,5 @@ mod refusals;
 mod rows;
 mod runs;
 mod slow;
+mod sweeps;
 mod trees;

@@ -45,7 +45,7 @@ pub const MAX_CAP: u32 = 65_536;
 /// The greatest contention limit.
 pub const MAX_LIMIT: u32 = 255;
 /// The most command files: one for each seat.
-const MAX_FILES: usize = 8;
+pub const MAX_FILES: usize = 8;
 
 /// Reads `replay CLIENT CAP LIMIT SCHEDULE` and one to eight FILE words. Other words are no replay.
 pub fn replay_words(words: &[String]) -> Option<ReplayWords<'_>>

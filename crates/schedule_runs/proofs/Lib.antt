@@ -3,3 +3,4 @@ pub mod OrderLemmas
 pub mod NameLemmas
 pub mod LoopLemmas
 pub mod RoundLemmas
+pub mod StopLemmas

@@ -11,7 +11,7 @@ use Rattle.fast_slow_engine.specs.Mechs.{Mech}
 use Rattle.fast_slow_engine.specs.Runs.{Move, RunState, moved_by, next_move}
 use Rattle.event_core.specs.declared.cores.CoreTurn.TheVariants.{Idle}
 use Rattle.event_core.specs.Cores.{CoreView, after_move, core_stepped, core_turn, core_turn_of, turn_after, turn_by}
-use Rattle.schedule_runs.specs.Rounds.{RoundsTakeTurns, StepsRunInOrder, after_order, round, rounds}
+use Rattle.schedule_runs.specs.Rounds.{RoundsTakeTurns, StepsRunInOrder, after_order, repeated, round, rounds}
 use Rattle.schedule_runs.proofs.OrderLemmas.{stepped_in}
 
 never_idle : (t : Turn) → core_turn_of t ≡ Idle → ⊥
@@ -31,34 +31,34 @@ module _ {S W : Type 0} (form : NormalForm S W) where
   pub idle_stays : (seat : ℕ) (view : CoreView S W) → core_turn form seat view ≡ Idle → core_stepped form seat view ≡ view
   idle_stays seat view idle = ap (λ (state : RunState S W). record view { state = state }) (stays_after (next_move view.files seat view.state) view.state idle)
 
-  after_both : (view : CoreView S W) (newer older : List ℕ) → after_order form view (newer ++ older) ≡ after_order form (after_order form view older) newer
+  pub after_both : (view : CoreView S W) (newer older : List ℕ) → after_order form view (newer ++ older) ≡ after_order form (after_order form view older) newer
   after_both view [] older = refl
   after_both view (seat ∷ newer) older = ap (core_stepped form seat) (after_both view newer older)
 
-  pub no_round : (seats : ℕ) (old : CoreView S W) → old ≡ after_order form old (rounds seats 0)
-  unfolding rounds
-  no_round seats old = refl
+  pub none_repeated : (once : List ℕ) (old : CoreView S W) → old ≡ after_order form old (repeated once 0)
+  unfolding repeated
+  none_repeated once old = refl
 
-  module _ (seats : ℕ) (old core : CoreView S W) (made : ℕ) (is : core ≡ after_order form old (rounds seats made)) where
-    -- one more round
-    pub round_more : (core' : CoreView S W) → core' ≡ after_order form core (round seats) → core' ≡ after_order form old (rounds seats (made + 1))
-    unfolding rounds
-    round_more core' step =
+  module _ (once : List ℕ) (old core : CoreView S W) (made : ℕ) (is : core ≡ after_order form old (repeated once made)) where
+    -- one more time
+    pub repeated_more : (core' : CoreView S W) → core' ≡ after_order form core once → core' ≡ after_order form old (repeated once (made + 1))
+    unfolding repeated
+    repeated_more core' step =
         let next : suc made ≡ made + 1 = omega arith in
-        step ∙ ap (λ v. after_order form v (round seats)) is ∙ sym (after_both old (round seats) (rounds seats made)) ∙ ap (λ n. after_order form old (rounds seats n)) next
+        step ∙ ap (λ v. after_order form v once) is ∙ sym (after_both old once (repeated once made)) ∙ ap (λ n. after_order form old (repeated once n)) next
 
-    -- once a round has changed nothing, no later one does
-    rounds_past : after_order form core (round seats) ≡ core → (left : ℕ) → after_order form old (rounds seats (left + made)) ≡ core
-    unfolding rounds
-    rounds_past still zero = ap (λ n. after_order form old (rounds seats n)) (let e : 0 + made ≡ made = omega arith in e) ∙ sym is
-    rounds_past still (suc left) =
-        ap (λ n. after_order form old (rounds seats n)) (let e : suc left + made ≡ suc (left + made) = omega arith in e)
-        ∙ after_both old (round seats) (rounds seats (left + made)) ∙ ap (λ v. after_order form v (round seats)) (rounds_past still left) ∙ still
+    -- once the steps have changed nothing, no later ones do
+    repeated_past : after_order form core once ≡ core → (left : ℕ) → after_order form old (repeated once (left + made)) ≡ core
+    unfolding repeated
+    repeated_past still zero = ap (λ n. after_order form old (repeated once n)) (let e : 0 + made ≡ made = omega arith in e) ∙ sym is
+    repeated_past still (suc left) =
+        ap (λ n. after_order form old (repeated once n)) (let e : suc left + made ≡ suc (left + made) = omega arith in e)
+        ∙ after_both old once (repeated once (left + made)) ∙ ap (λ v. after_order form v once) (repeated_past still left) ∙ still
 
-    pub rounds_over : (core' : CoreView S W) (count : ℕ) → made ≤ count → core' ≡ after_order form core (round seats) → core' ≡ core → core' ≡ after_order form old (rounds seats count)
-    rounds_over core' count within step same =
+    pub repeated_over : (core' : CoreView S W) (count : ℕ) → made ≤ count → core' ≡ after_order form core once → core' ≡ core → core' ≡ after_order form old (repeated once count)
+    repeated_over core' count within step same =
         let all : count - made + made ≡ count = omega (arith, within) in
-        same ∙ sym (rounds_past (sym step ∙ same) (count - made)) ∙ ap (λ n. after_order form old (rounds seats n)) all
+        same ∙ sym (repeated_past (sym step ∙ same) (count - made)) ∙ ap (λ n. after_order form old (repeated once n)) all
 
   -- one more seat of a round
   pub seat_more : (seat : ℕ) (old core core' : CoreView S W) → core ≡ after_order form old (round seat) → core' ≡ core_stepped form seat core → core' ≡ after_order form old (round (seat + 1))
@@ -84,7 +84,7 @@ module _ (seats n : ℕ) (so_far : reverse (rounds seats n) ≡ map (λ k. k % s
       ∙ ap (λ m. map (λ k. k % seats) (range_with_len 0 m)) (let e : n * seats + seat + 1 ≡ n * seats + suc seat = omega arith in e)
 
 pub rounds_take_turns : RoundsTakeTurns
-unfolding rounds
+unfolding repeated
 rounds_take_turns seats zero = ap (λ m. map (λ k. k % seats) (range_with_len 0 m)) (let e : 0 ≡ 0 * seats = omega arith in e)
 rounds_take_turns seats (suc n) =
     turns_of seats n (rounds_take_turns seats n) seats (omega arith) ∙ ap (λ m. map (λ k. k % seats) (range_with_len 0 m)) (let e : n * seats + seats ≡ suc n * seats = omega arith in e)

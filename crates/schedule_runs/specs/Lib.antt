@@ -1,3 +1,4 @@
 pub mod Spans
 pub mod Orders
 pub mod Rounds
+pub mod Stops

@@ -12,10 +12,14 @@ abbrev pub round : ℕ → List ℕ
 round zero = []
 round (suc seats) = seats ∷ round seats
 
+-- these steps so many times
+unfoldable pub repeated : List ℕ → ℕ → List ℕ
+repeated steps zero = []
+repeated steps (suc n) = steps ++ repeated steps n
+
 -- so many rounds, one after the other
-unfoldable pub rounds : ℕ → ℕ → List ℕ
-rounds seats zero = []
-rounds seats (suc n) = round seats ++ rounds seats n
+abbrev pub rounds : ℕ → ℕ → List ℕ
+rounds seats n = repeated (round seats) n
 
 module _ {S W : Type 0} (form : NormalForm S W) where
   -- a run after steps of these seats

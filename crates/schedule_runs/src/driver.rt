@@ -36,7 +36,7 @@ fn follow<C: Normalized>(core: &mut Core<C>, entry: ScheduleEntry)
 }
 
 /// Makes so many steps of a seat.
-fn make_steps<C: Normalized>(core: &mut Core<C>, seat: u32, count: u32)
+pub(crate) fn make_steps<C: Normalized>(core: &mut Core<C>, seat: u32, count: u32)
     requires seat { seat < length core.old.files }
     ensures steps { core.new ≡ after_steps C.form seat core.old count }
     ensures files { core.new.files ≡ core.old.files }

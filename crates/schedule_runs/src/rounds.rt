@@ -35,7 +35,7 @@ fn take_round<C: Normalized>(core: &mut Core<C>, seats: u32) -> bool
 }
 
 /// Makes one step of a seat. Whether it found the seat idle.
-fn step_is_idle<C: Normalized>(core: &mut Core<C>, seat: u32) -> bool
+pub(crate) fn step_is_idle<C: Normalized>(core: &mut Core<C>, seat: u32) -> bool
     requires seat { seat < length core.old.files }
     ensures step { core.new ≡ core_stepped C.form seat core.old }
     ensures idle { result ≡ true → core.new ≡ core.old }

@@ -147,7 +147,7 @@ fn files_that_are_refused(rt: HostRuntime) -> Result<(), Fail> {
 }
 
 /// Words of which none is served.
-const UNSERVED: [&str; 34] = [
+const UNSERVED: [&str; 35] = [
     "",
     "replay",
     "replay stack 8 3 s f0",
@@ -156,7 +156,8 @@ const UNSERVED: [&str; 34] = [
     "replay lists 8 3 s f0",
     "replay queues 8 3 s f0",
     "run queue 8 3 f0",
-    "sweep queue 8 3 0 f0",
+    "sweep queue 8 0 256 f0",
+    "sweep queue 8 0 0",
     "check queue report order",
     "replay queue 0 3 s f0",
     "replay queue 65537 3 s f0",

@@ -26,7 +26,7 @@ returns-then-not-begin_next-clause-turn g c =
 
 pub invariant_of-self : goal.invariant_of-self
 invariant_of-self g c =
-    over_kept g.C.Normalized.form c.self.inside.setup _ _ _ _ _ _ c.self.invariant _ _ _ (seated _ _ _ _ _ _ c.self.view_is c.requires.seat) c.index_mut-at.ensures.value c.begin_next.ensures.machine c.begin_next.ensures.file
+    over_kept g.C.Normalized.form c.self.inside.setup _ _ _ _ _ _ _ c.self.invariant _ _ _ (seated _ _ _ _ _ _ c.self.view_is c.requires.seat) c.index_mut-at.ensures.value c.begin_next.ensures.machine c.begin_next.ensures.file
     (is_over_by _ _ c.begin_next.ensures.over c.if-not-begin_next.true)
 
 -- ---- a step that draws a tick
@@ -41,7 +41,7 @@ draw-turn-requires-clause-room g c κs within =
     let seen = seen_of (mech_request form mech) words in
     let few = subst (λ n. n ≤ length c.begin_next.new.self.file) (sym (same_as_fed form (mech_fed form mech seen) mech seen refl).number) c.begin_next.ensures.number in
     let told = tick_told form mech words (words_after (mech_request form mech) words) refl (sym c.draws_tick.ensures ∙ c.if-draws_tick.true) in
-    let room = room_to_note form setup _ _ _ _ _ _ c.self.invariant _ _ _ (seated _ _ _ _ _ _ c.self.view_is c.requires.seat) c.index_mut-at.ensures.value c.begin_next.ensures.machine c.begin_next.ensures.file
+    let room = room_to_note form setup _ _ _ _ _ _ _ c.self.invariant _ _ _ (seated _ _ _ _ _ _ c.self.view_is c.requires.seat) c.index_mut-at.ensures.value c.begin_next.ensures.machine c.begin_next.ensures.file
     (queues_kept form laws (runs_are_kept form laws) setup) (c.begin_next.ensures.can (search rules)) (record { mech = mech_fed form mech seen; file = c.begin_next.new.self.file }) (words_after (mech_request form mech) words)
     refl refl refl few _ (search rules) in
     subst (λ es. vec_len c.self.inside.events + length es ≤ vec_capacity c.self.inside.events) (sym told) room
@@ -54,7 +54,7 @@ invariant_of-self-then-draws_tick g c =
     let mech = c.begin_next.new.self.mech in
     let words = c.self.inside.cells.words in
     let told = tick_told form mech words c.draw-turn.new.cells.words c.draw-turn.ensures.words (sym c.draws_tick.ensures ∙ c.if-draws_tick.true) in
-    stepped_kept form setup _ _ _ _ _ _ c.self.invariant _ _ _ (seated _ _ _ _ _ _ c.self.view_is c.requires.seat) c.index_mut-at.ensures.value c.begin_next.ensures.machine c.begin_next.ensures.file
+    stepped_kept form setup _ _ _ _ _ _ _ c.self.invariant _ _ _ (seated _ _ _ _ _ _ c.self.view_is c.requires.seat) c.index_mut-at.ensures.value c.begin_next.ensures.machine c.begin_next.ensures.file
     (queues_kept form laws (runs_are_kept form laws) setup) (c.begin_next.ensures.can (search rules)) c.draw-turn.new.at c.draw-turn.new.cells.words c.draw-turn.ensures.words c.draw-turn.ensures.mech
     c.draw-turn.ensures.file c.draw-turn.ensures.number _ _ _ _ _ c.begin_next.ensures.lines c.draw-turn.ensures.lines c.keep.ensures.len c.keep.ensures.capacity
     (c.draw-turn.ensures.items ∙ ap (λ es. c.self.inside.events.items ++ es) told) c.draw-turn.ensures.capacity
@@ -92,7 +92,7 @@ invariant_of-self-in_default g c =
     let words = c.self.inside.cells.words in
     let made = c.go_on_over.ensures.made in
     let told = unmarked_told form mech words c.go_on_over.new.port.words made.words (sym c.draws_tick.ensures ∙ c.if-draws_tick.false) (none_is _ c.in_default.not-Some ∙ c.mark.ensures ∙ made.mark) in
-    stepped_kept form setup _ _ _ _ _ _ c.self.invariant _ _ _ (seated _ _ _ _ _ _ c.self.view_is c.requires.seat) c.index_mut-at.ensures.value c.begin_next.ensures.machine c.begin_next.ensures.file
+    stepped_kept form setup _ _ _ _ _ _ _ c.self.invariant _ _ _ (seated _ _ _ _ _ _ c.self.view_is c.requires.seat) c.index_mut-at.ensures.value c.begin_next.ensures.machine c.begin_next.ensures.file
     (queues_kept form laws (runs_are_kept form laws) setup) (c.begin_next.ensures.can (search rules)) c.go_on_over.new.self c.go_on_over.new.port.words made.words
     (c.go_on_over.ensures.mech ∙ ap (mech_fed form mech) made.saw) c.go_on_over.ensures.file c.go_on_over.ensures.number 0 _ _ _ _ c.begin_next.ensures.lines (omega (arith, c.go_on_over.ensures.lines)) (omega arith) refl
     (sym (ap (λ es. c.self.inside.events.items ++ es) told ∙ append-nil c.self.inside.events.items)) refl
@@ -128,7 +128,7 @@ note_mark-requires g c =
     let made = c.go_on_over.ensures.made in
     let told = mark_told form mech words c.go_on_over.new.port.words made.words (sym c.draws_tick.ensures ∙ c.if-draws_tick.false) c.in-Some.mark (sym c.in-Some.is ∙ c.mark.ensures ∙ made.mark) in
     let seen = ap (λ ws. marked c.in-Some.mark ws) c.words.ensures in
-    let room = room_to_note form setup _ _ _ _ _ _ c.self.invariant _ _ _ (seated _ _ _ _ _ _ c.self.view_is c.requires.seat) c.index_mut-at.ensures.value c.begin_next.ensures.machine c.begin_next.ensures.file
+    let room = room_to_note form setup _ _ _ _ _ _ _ c.self.invariant _ _ _ (seated _ _ _ _ _ _ c.self.view_is c.requires.seat) c.index_mut-at.ensures.value c.begin_next.ensures.machine c.begin_next.ensures.file
     (queues_kept form laws (runs_are_kept form laws) setup) (c.begin_next.ensures.can (search rules)) c.go_on_over.new.self c.go_on_over.new.port.words made.words
     (c.go_on_over.ensures.mech ∙ ap (mech_fed form mech) made.saw) c.go_on_over.ensures.file c.go_on_over.ensures.number _ (search rules) in
     record { room = subst (λ es. vec_len c.self.inside.events + length es ≤ vec_capacity c.self.inside.events) (sym (seen ∙ told)) room }
@@ -143,7 +143,7 @@ invariant_of-self-2 g c =
     let made = c.go_on_over.ensures.made in
     let told = mark_told form mech words c.go_on_over.new.port.words made.words (sym c.draws_tick.ensures ∙ c.if-draws_tick.false) c.in-Some.mark (sym c.in-Some.is ∙ c.mark.ensures ∙ made.mark) in
     let seen = ap (λ ws. marked c.in-Some.mark ws) c.words.ensures in
-    stepped_kept form setup _ _ _ _ _ _ c.self.invariant _ _ _ (seated _ _ _ _ _ _ c.self.view_is c.requires.seat) c.index_mut-at.ensures.value c.begin_next.ensures.machine c.begin_next.ensures.file
+    stepped_kept form setup _ _ _ _ _ _ _ c.self.invariant _ _ _ (seated _ _ _ _ _ _ c.self.view_is c.requires.seat) c.index_mut-at.ensures.value c.begin_next.ensures.machine c.begin_next.ensures.file
     (queues_kept form laws (runs_are_kept form laws) setup) (c.begin_next.ensures.can (search rules)) c.go_on_over.new.self c.go_on_over.new.port.words made.words
     (c.go_on_over.ensures.mech ∙ ap (mech_fed form mech) made.saw) c.go_on_over.ensures.file c.go_on_over.ensures.number 0 _ _ _ _ c.begin_next.ensures.lines (omega (arith, c.go_on_over.ensures.lines)) (omega arith) refl
     (c.note_mark.ensures.items ∙ ap (λ es. c.self.inside.events.items ++ es) (seen ∙ told)) c.note_mark.ensures.capacity
