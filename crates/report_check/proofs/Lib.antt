@@ -15,5 +15,9 @@ pub mod CleanLines
 pub mod Kept
 pub mod NextCalls
 pub mod Beginning
+pub mod Apart
+pub mod InOrder
+pub mod SummaryEnds
+pub mod ReadBack
 pub mod Law
 pub mod LawBack

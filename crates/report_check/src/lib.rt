@@ -5,6 +5,8 @@ pub use beginnings::read_calls;
 pub use call_lines::{CallLine, read_call_line};
 pub use judges::judge;
 pub use orders::{Named, read_order};
+pub use parting::ReadReport;
+pub use reports::{ReportFault, read_report};
 pub use verdicts::{Objection, Reason, Verdict, reason_number};
 
 pub mod beginnings;
@@ -12,7 +14,10 @@ pub mod call_lines;
 mod fields;
 pub mod judges;
 pub mod orders;
+pub mod parting;
 mod reasons;
+pub mod reports;
+mod summaries;
 mod table;
 #[cfg(test)]
 mod tests;

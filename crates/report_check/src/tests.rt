@@ -214,8 +214,8 @@ fn other_lines_are_of_no_call(rt: HostRuntime) -> Result<(), Fail> {
 
 /// With how many lines of calls of a queue the text begins, and how many bytes stand behind them.
 fn beginning(alloc: Global, text: &[u8]) -> Result<(usize, usize), NoMemory> {
-    let (calls, _, rest) = read_calls(alloc, Client::Queue, text)?;
-    Ok((calls.len(), rest.len()))
+    let begun = read_calls(alloc, Client::Queue, text)?;
+    Ok((begun.calls.len(), begun.rest.len()))
 }
 
 #[test]
