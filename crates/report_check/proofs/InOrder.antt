@@ -61,11 +61,11 @@ printable client before [] order = tt
 printable client before (c ∷ calls) order = (order.0.0, printable client (before ++ c ∷ []) calls order.1)
 
 -- each two, by recursion
-abbrev ByPairs : (Call → Call → Type 0) → List Call → Type 0
+abbrev pub ByPairs : (Call → Call → Type 0) → List Call → Type 0
 ByPairs R [] = Unit {0}
 ByPairs R (c ∷ calls) = AllByRecursion (R c) calls × ByPairs R calls
 
-pairs_from : (R : Call → Call → Type 0) (calls : List Call) → ByPairs R calls → AllPairs R calls
+pub pairs_from : (R : Call → Call → Type 0) (calls : List Call) → ByPairs R calls → AllPairs R calls
 pairs_from R [] pairs = λ i j d before within. absurd (omega arith)
 pairs_from R (c ∷ calls) pairs = AllPairs-cons R c calls (All-from_recursion (R c) calls pairs.0) (pairs_from R calls pairs.1)
 

@@ -19,5 +19,6 @@ pub mod Apart
 pub mod InOrder
 pub mod SummaryEnds
 pub mod ReadBack
+pub mod Judgeable
 pub mod Law
 pub mod LawBack

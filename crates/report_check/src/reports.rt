@@ -1,6 +1,8 @@
 //! A whole report: the lines of its calls, and its summary line.
 ghost use Rattle.std.specs.Prelude.{◌≡◌, IfOk, IfErr};
+ghost use Rattle.lin_report.specs.Object.{object_of};
 ghost use Rattle.lin_report.specs.Calls.{Report, report_of};
+ghost use Rattle.report_check.specs.Judging.{CanJudge};
 ghost use Rattle.report_check.specs.declared.reports.ReportFault.TheVariants.{NoMemory};
 ghost use Rattle.report_check.specs.Reports.{IsTextOf, IsNoReport, IsReadAs};
 
@@ -35,6 +37,7 @@ impl From<NoMemory> for ReportFault {
 /// The report of which the bytes are the text, or the first line at fault.
 pub fn read_report(alloc: Global, bytes: &[u8], client: Client) -> Result<ReadReport, ReportFault>
     ensures read { IfOk result (λ r. IsTextOf client bytes.now (report_of r.receipts.items r.pending.items)) }
+    ensures judged { IfOk result (λ r. CanJudge (object_of client) (report_of r.receipts.items r.pending.items)) }
     ensures refused { IfErr result (λ fault. IsNoReport client bytes.now fault) }
 
     // The text of a report is read back as that report.

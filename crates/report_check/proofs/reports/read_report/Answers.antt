@@ -4,6 +4,7 @@ use Rattle.lin_report.specs.Calls.{Report, report_of}
 use Rattle.report_check.specs.CallLines.{call_of}
 use Rattle.report_check.specs.Reports.{HasSummary, IsTextOf, report_from}
 use Rattle.report_check.proofs.ReadBack.{knows_calls, report_can_be_written, none_told, some_told, nothing_left, nothing_behind, lines_of_text, text_of_lines, lines_fit}
+use Rattle.report_check.proofs.Judgeable.{read_can_be_judged}
 use Rattle.report_check.proofs.reports.read_report.Goals as goal
 
 pub read_summary-requires : goal.read_summary-requires
@@ -56,6 +57,14 @@ returns-in-Some-default-empty-clause-read c =
     let has = subst (HasSummary calls c.in_ok-begun.begun.rest.now c.in-Some-default-empty.field-0-0) (nothing_left c.in-Some-default-empty.field-0-1.now c.in-Some-default-empty.len_below) told in
     subst (IsTextOf c.args.client c.args.bytes.now) (sym knows.parted)
     (text_of_lines c.args.client c.args.bytes.now calls c.in_ok-begun.begun.rest.now c.in-Some-default-empty.field-0-0 (omega arith) c.in_ok-begun.ensures.begins has)
+
+pub returns-in-Some-default-empty-clause-judged : goal.returns-in-Some-default-empty-clause-judged
+returns-in-Some-default-empty-clause-judged c =
+    let calls = map call_of c.in_ok-begun.begun.calls.items in
+    let knows = knows_calls c.args.client c.args.bytes.now c.in_ok-begun.begun.calls.items c.deref.result.now c.in_ok-begun.begun.ticks.items c.deref-2.result.now c.in_ok-begun.begun.rest.now
+    c.in_ok-report.report.receipts.items c.in_ok-report.report.pending.items (c.len-lines.result + c.len.result) c.in_ok-begun.ensures.begins c.in_ok-begun.ensures.long c.in_ok-begun.ensures.drawn
+    c.deref.ensures.value c.deref-2.ensures.value c.in_ok-report.ensures.receipts c.in_ok-report.ensures.pending (omega arith) in
+    read_can_be_judged c.args.client c.args.bytes.now calls c.in_ok-begun.begun.rest.now (report_of c.in_ok-report.report.receipts.items c.in_ok-report.report.pending.items) c.in_ok-begun.ensures.begins knows.parted
 
 pub returns-in-Some-default-empty-clause-back : goal.returns-in-Some-default-empty-clause-back
 returns-in-Some-default-empty-clause-back c = λ report is.
