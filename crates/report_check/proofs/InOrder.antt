@@ -42,7 +42,7 @@ follows_parts before c follows =
 rises_behind : (before : List Call) (c d : Call) → last_line None before ≡ Some c → IsTrue (may_follow before d) → c.begin < d.begin
 rises_behind before c d last follows = ltb-true c.begin d.begin (ap (λ o. rises o d) (sym last) ∙ (follows_parts before d follows).rises)
 
-below_more : (low tick : ℕ) (calls : List Call) → low < tick → IsBelowAll tick calls → IsBelowAll low calls
+pub below_more : (low tick : ℕ) (calls : List Call) → low < tick → IsBelowAll tick calls → IsBelowAll low calls
 below_more low tick [] lt below = tt
 below_more low tick (c ∷ calls) lt below = (omega (arith, lt, below.0), below_more low tick calls lt below.1)
 

@@ -20,5 +20,8 @@ pub mod InOrder
 pub mod SummaryEnds
 pub mod ReadBack
 pub mod Judgeable
+pub mod Drawn
+pub mod Turns
+pub mod RunReports
 pub mod Law
 pub mod LawBack

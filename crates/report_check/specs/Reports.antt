@@ -1,12 +1,15 @@
 -- Reports as they are read: the lines of calls in order, and behind them the summary line of these calls.
-use Rattle.std.specs.Prelude.{◌≡◌, ◌⊎◌, ℕ, ◌+◌, ◌<◌, ◌≤◌, ◌==◌, Bool, true, false, if◌then◌else◌, nat_lt, Option, Some, None, List, [], ◌∷◌, ◌++◌, length, take, drop, slice_index_or, codes, IfSome, MatchOption, Result, Ok, Err}
+use Rattle.std.specs.Prelude.{◌≡◌, ◌⊎◌, ℕ, ◌+◌, ◌<◌, ◌≤◌, ◌==◌, Bool, true, false, if◌then◌else◌, nat_lt, Option, Some, None, List, [], ◌∷◌, ◌++◌, length, take, drop, slice_index_or, codes, IfSome, MatchOption, All, Result, Ok, Err}
 use Rattle.std.specs.List.{list_any, filter_map}
 use Rattle.std.specs.Str.{bytes_eq}
 use Rattle.lin_report.specs.declared.calls.Client.{Client}
+use Rattle.lin_report.specs.declared.calls.Op.{Op}
 use Rattle.lin_report.specs.declared.calls.Reply.{Reply}
 use Rattle.lin_report.specs.declared.calls.Receipt.{Receipt}
 use Rattle.lin_report.specs.declared.calls.PendingCall.{PendingCall}
 use Rattle.lin_report.specs.Calls.{Call, Report, report_of, calls_of}
+use Rattle.lin_report.specs.CommandFiles.{IsCommandFile}
+use Rattle.lin_report.specs.Report.{IsReport}
 use Rattle.lin_report.specs.Text.{by_begin, summary_text, report_text}
 use Rattle.lin_report.specs.Writing.{CanWrite}
 use Rattle.report_check.specs.declared.parting.ReadReport.{ReadReport}
@@ -86,6 +89,13 @@ pub record IsReportText (client : Client) (bytes : List ℕ) (report : Report) (
 pub record IsTextOf (client : Client) (bytes : List ℕ) (report : Report) : Type 0 where
   pub overtaken : Option ℕ
   pub is : IsReportText client bytes report overtaken
+
+-- what a run writes is such a text: that of a report over command files of the client that can be written, with a
+-- count that a summary may tell, and with no more calls than the files of eight seats may have
+abbrev pub RunReportsAreTexts : Type 0
+RunReportsAreTexts =
+    (client : Client) (files : List (List Op)) (report : Report) (overtaken : Option ℕ) → All (IsCommandFile client) files → IsReport files report → CanWrite report overtaken → MayTell overtaken
+    → length (calls_of report) ≤ 524280 → IsReportText client (report_text report overtaken) report overtaken
 
 -- behind the summary line stands more
 pub record HasMore (calls : List Call) (bytes : List ℕ) : Type 0 where

@@ -13,6 +13,7 @@ pub mod beginnings;
 pub mod call_lines;
 mod fields;
 pub mod judges;
+pub mod laws;
 pub mod orders;
 pub mod parting;
 mod reasons;
