@@ -5,3 +5,4 @@ pub mod Judging
 pub mod CallLines
 pub mod Beginnings
 pub mod Reports
+pub mod Sayings

@@ -7,6 +7,7 @@ pub use judges::judge;
 pub use orders::{Named, read_order};
 pub use parting::ReadReport;
 pub use reports::{ReportFault, read_report};
+pub use saying::verdict_line;
 pub use verdicts::{Objection, Reason, Verdict, reason_number};
 
 pub mod beginnings;
@@ -18,6 +19,7 @@ pub mod orders;
 pub mod parting;
 mod reasons;
 pub mod reports;
+pub mod saying;
 mod summaries;
 mod table;
 #[cfg(test)]
