@@ -13,7 +13,7 @@ use Rattle.report_check.specs.CallLines.{call_of}
 use Rattle.report_check.specs.Beginnings.{last_from, last_line, has_tick, ends_at, SEATS, TICKS, Knows}
 
 -- the last of a seat, and of all, behind a call more
-last_from_more : (seat : ℕ) (found : Option Call) (before : List Call) (c : Call)
+pub last_from_more : (seat : ℕ) (found : Option Call) (before : List Call) (c : Call)
     → last_from seat found (before ++ c ∷ []) ≡ cond (eqb c.seat seat) (Some c) (last_from seat found before)
 last_from_more seat found [] c = refl
 last_from_more seat found (d ∷ before) c = last_from_more seat (cond (eqb d.seat seat) (Some d) found) before c

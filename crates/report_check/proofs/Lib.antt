@@ -15,5 +15,13 @@ pub mod CleanLines
 pub mod Kept
 pub mod NextCalls
 pub mod Beginning
+pub mod Apart
+pub mod InOrder
+pub mod SummaryEnds
+pub mod ReadBack
+pub mod Judgeable
+pub mod Drawn
+pub mod Turns
+pub mod RunReports
 pub mod Law
 pub mod LawBack

@@ -8,7 +8,7 @@ use Rattle.report_check.specs.Verdicts.{name_of, same_name}
 use Rattle.report_check.specs.Tables.{place_of}
 
 -- a name by its two parts
-by_parts : (a b : Named) → a.seat ≡ b.seat → a.number ≡ b.number → a ≡ b
+pub by_parts : (a b : Named) → a.seat ≡ b.seat → a.number ≡ b.number → a ≡ b
 by_parts a b seats numbers =
     let made : ℕ → ℕ → Named = λ seat number. record { seat = seat; number = number } in
     ap (λ seat. made seat a.number) seats ∙ ap (made b.seat) numbers

@@ -16,7 +16,7 @@ line_of_next : (client : Client) (before : List Call) (bytes : List ℕ) (c : Ca
 line_of_next client before bytes c rest next = ap line_at next.text ∙ first_line_is client c rest next.printable next.command
 
 -- and the bytes of that line are its own
-is_line_of_next : (client : Client) (before : List Call) (bytes : List ℕ) (c : Call) (rest : List ℕ) → IsNext client before bytes c rest → IsLineOf client (fields c) c
+pub is_line_of_next : (client : Client) (before : List Call) (bytes : List ℕ) (c : Call) (rest : List ℕ) → IsNext client before bytes c rest → IsLineOf client (fields c) c
 is_line_of_next client before bytes c rest next = record { printable = next.printable; command = next.command; text = sym (line_is c) }
 
 -- bytes without a line have no next call

@@ -4,3 +4,5 @@ pub mod Tables
 pub mod Judging
 pub mod CallLines
 pub mod Beginnings
+pub mod Reports
+pub mod Sayings

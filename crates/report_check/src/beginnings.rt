@@ -159,15 +159,19 @@ fn no_ticks(alloc: Global, count: usize) -> Result<Vec<bool>, NoMemory>
 }
 
 /// The calls of the lines with which bytes begin, which ticks they drew, and the bytes behind those lines.
-pub fn read_calls(
-    alloc: Global,
-    client: Client,
-    bytes: &[u8],
-) -> Result<(Vec<CallLine>, Vec<bool>, &[u8]), NoMemory>
-    ensures begins { IfOk result (λ r. BeginsWith client bytes.now (map call_of r.0.items) r.2.now) }
-    ensures long { IfOk result (λ r. length r.1.items ≡ TICKS) }
+#[derive(Debug, Drop)]
+pub struct Begun<'a> {
+    pub calls: Vec<CallLine>,
+    pub ticks: Vec<bool>,
+    pub rest: &'a [u8],
+}
+
+/// Reads lines of calls as long as each may stand behind those before it.
+pub fn read_calls(alloc: Global, client: Client, bytes: &[u8]) -> Result<Begun<'_>, NoMemory>
+    ensures begins { IfOk result (λ r. BeginsWith client bytes.now (map call_of r.calls.items) r.rest.now) }
+    ensures long { IfOk result (λ r. length r.ticks.items ≡ TICKS) }
     ensures drawn { IfOk result (λ r. (tick : ℕ) → tick < TICKS
-        → slice_index_or r.1.items tick false ≡ list_any (has_tick tick) (map call_of r.0.items)) }
+        → slice_index_or r.ticks.items tick false ≡ list_any (has_tick tick) (map call_of r.calls.items)) }
 {
     let mut last = no_calls(alloc, SEATS)?;
     let mut ticks = no_ticks(alloc, TICKS)?;
@@ -180,5 +184,5 @@ pub fn read_calls(
         line = Some(call);
         rest = behind;
     }
-    Ok((calls, ticks, rest))
+    Ok(Begun { calls, ticks, rest })
 }

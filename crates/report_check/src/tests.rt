@@ -12,6 +12,8 @@ use script_reader::{ScriptFault, cause_number};
 use std::alloc::Global;
 use std::test::Fail;
 
+mod reports;
+
 /// The place and the number of the reason, if a queue's order is not legal.
 fn objection(
     alloc: Global,
@@ -214,8 +216,8 @@ fn other_lines_are_of_no_call(rt: HostRuntime) -> Result<(), Fail> {
 
 /// With how many lines of calls of a queue the text begins, and how many bytes stand behind them.
 fn beginning(alloc: Global, text: &[u8]) -> Result<(usize, usize), NoMemory> {
-    let (calls, _, rest) = read_calls(alloc, Client::Queue, text)?;
-    Ok((calls.len(), rest.len()))
+    let begun = read_calls(alloc, Client::Queue, text)?;
+    Ok((begun.calls.len(), begun.rest.len()))
 }
 
 #[test]
