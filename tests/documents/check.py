@@ -98,10 +98,11 @@ def crates_in(repository, text):
 
 
 def is_path(repository, ticked):
-    """Whether what stands in backquotes is a path, from the top or from a crate on. What a build leaves in out/ is none."""
+    """Whether what stands in backquotes is a path, from the top or from a crate on. What a build leaves in out/ is none, nor is
+    a path of a crate NAME."""
     parts = ticked.split("/")
     told = len(parts) > 1 and (parts[0] in TOPS or parts[0] in repository.uses)
-    return told and "out" not in parts and re.fullmatch(r"[\w./*-]+", ticked) is not None
+    return told and "out" not in parts and "NAME" not in parts and re.fullmatch(r"[\w./*-]+", ticked) is not None
 
 
 def path_faults(repository, path):
