@@ -4,7 +4,6 @@ use Rattle.std.specs.Prelude.{slice_get}
 use Rattle.normal_traits.specs.declared.lists.Entry.{Entry}
 use Rattle.normal_traits.specs.World.{Listed}
 
--- the entry that an option has, if any
 abbrev entry_or : Entry → Option Entry → Entry
 entry_or entry None = entry
 entry_or entry (Some other) = other

@@ -67,7 +67,6 @@ module _ {S W : Type 0} (form : NormalForm S W) (Extends : List Change → List 
     pub lists : (world : World) (list : Listed) (search : S) (since j : ℕ) (entry : Entry) (word : ℕ) → j < 2 → IsOffered form world list search since → slice_get list.entries j ≡ Some entry → IsExchanged entry word → Moves entry.from word
 
   module _ (facts : StepFacts) where
-    -- no step
     pub later_same : (world : World) → Later world world
     later_same world =
         record { extends = facts.same world.changes; used = λ block u. u; rises = λ place w v. inl refl; moves = λ place w v. facts.stays (world.words place); journal = λ won a. a; took = λ list j t. inl t }
@@ -117,7 +116,6 @@ module _ {S W : Type 0} (form : NormalForm S W) (Extends : List Change → List 
         let entry : Entry = record { target = place; from = from; to = to } in
         won_later world _ Beside entry to (form.cause_of world Beside entry) same (record { to = moves.0; raised = raised }) moves.1 refl (facts.beside world entry shape) (λ block u. u) refl
 
-    -- every allowed step
     pub later : (world after : World) → form.shape world → IsStep form world after → Later world after
     later world _ shape nothing = later_same world
     later world _ shape (elsewhere place word none) =

@@ -20,7 +20,6 @@ gives_up Ready = false
 gives_up (Answer outcome) = false
 gives_up Contended = true
 
--- a search that gave up found that
 pub gave_up : (found : Found) → found ≡ Contended → gives_up found ≡ true
 gave_up found e = ap gives_up e
 

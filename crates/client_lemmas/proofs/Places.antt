@@ -8,7 +8,6 @@ use Rattle.normal_traits.specs.World.{World, is_word, is_state}
 
 -- ---- a client's words
 
--- the test of a client's word where its block is used and its field is none of the states
 in_used : (a b c : Bool) → (a || b || (true && true && (c || true))) ≡ true
 in_used true b c = refl
 in_used false true c = refl
@@ -31,7 +30,6 @@ node_word world block field small used =
     ap (is_word world) (node_place-reference_to block 1 field (omega arith) (omega arith))
     ∙ behind_notes world block (12 + field) (omega (arith, small)) used (omega arith)
 
--- the same test, where its block stays used
 more_used : (first used more plain : Bool) (behind : Bool) → (used ≡ true → more ≡ true) → (first || (behind && used && plain)) ≡ true → (first || (behind && more && plain)) ≡ true
 more_used true used more plain behind grows e = refl
 more_used false used more plain false grows e = e
@@ -57,16 +55,14 @@ block_of_place block field small = ap block_at (node_place-reference_to block 1 
 pub field_of_place : (block field : ℕ) → field < 5 → field_at (node_place (reference_to block 1) field) ≡ 12 + field
 field_of_place block field small = ap field_at (node_place-reference_to block 1 field (omega arith) (omega arith)) ∙ field_at-block_place block (12 + field) (omega (arith, small))
 
--- a reference to a first node names a node
 names_first : (block : ℕ) → NamesNode (reference_to block 1)
 names_first block e = omega (arith, e)
 
--- the places of two nodes differ
+-- places of one field in two nodes, or of two fields, differ
 pub apart_nodes : (block other field at : ℕ) → field < 5 → at < 5 → block ≢ other → node_place (reference_to block 1) field ≢ node_place (reference_to other 1) at
 apart_nodes block other field at small small' differ e =
     differ (omega (arith, same_node (reference_to block 1) field (reference_to other 1) at small small' (names_first block) (names_first other) e))
 
--- and so do those of two fields
 pub apart_fields : (block other field at : ℕ) → field < 5 → at < 5 → field ≢ at → node_place (reference_to block 1) field ≢ node_place (reference_to other 1) at
 apart_fields block other field at small small' differ e =
     differ (same_node_field (reference_to block 1) field (reference_to other 1) at small small' (names_first block) (names_first other) e)

@@ -34,7 +34,6 @@ module _ {S W : Type 0} (form : NormalForm S W) where
       ((world.words place ≢ from) × (after ≡ world) × (seen ≡ record { before = world.words place; won = false })) ⊎ HasWon world after seen place from to
   Went (Add place by) world after seen = ⊥
 
-  -- each request is one of these
   pub went : (request : Request) (world after : World) (seen : Seen) → Requested form request world after seen → Went request world after seen
   went _ _ _ _ (loaded place) = (refl, refl)
   went _ _ _ _ (lost place from to differs) = inl (differs, refl, refl)

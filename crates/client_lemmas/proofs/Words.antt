@@ -69,7 +69,6 @@ pub value_small : (n : ℕ) → n < 2 ^ 24 → versioned_value n ≡ n
 unfolding versioned_value
 value_small n low = omega (arith, low)
 
--- the bit of the word 0 is clear
 pub zero_bit : versioned_bit 0 ≡ 0
 unfolding versioned_bit
 zero_bit = omega arith
