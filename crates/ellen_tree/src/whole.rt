@@ -28,7 +28,7 @@ fn walk<P: Steps<EllenTree>>(op: Op, port: &mut P) -> TreeSearch
 {
     let mut above = None;
     let mut node = 0;
-    for _node in 0..MOST_NODES {
+    for _ in 0..MOST_NODES {
         let update = port.load(update_at(node));
         let key = port.load(key_at(node));
         let left = u64::from(op.key) < key;

@@ -50,7 +50,7 @@ fn walk<C: ListSteps<P>, P>(start: u32, op: Op, port: &mut P) -> (Spot, Option<M
     let mut left = Left { place: start, word };
     let mut run = false;
     let mut cur = led(word);
-    for _node in 0..MOST_NODES {
+    for _ in 0..MOST_NODES {
         if cur == 0 {
             break;
         }

@@ -16,7 +16,8 @@ use normal_traits::Found;
 use queue_laws::QueueSearch;
 use whole_calls::{Seeks, Steps};
 
-/// How often a search in one piece moves the tail on.
+/// How often a search in one piece moves the tail on. Where it answers or gives up, nothing is kept of its state, so
+/// it gives the one at its beginning.
 const MOST_HELPS: u32 = 1024;
 
 /// The search of a put: the last node is looked for from the tail on.
@@ -27,7 +28,7 @@ fn put<P: Steps<MsQueue>>(port: &mut P) -> (QueueSearch, Found)
     ensures goes { result.1 ≡ found.Going → Asks result.0 }
     ensures readies { result.1 ≡ found.Ready → IsReady result.0 }
 {
-    for _help in 0..MOST_HELPS {
+    for _ in 0..MOST_HELPS {
         let tail = port.load(TAIL);
         let next = port.load(next_place(tail));
         if node_of(next) == 0 {
@@ -52,7 +53,7 @@ fn take<P: Steps<MsQueue>>(port: &mut P) -> (QueueSearch, Found)
     ensures goes { result.1 ≡ found.Going → Asks result.0 }
     ensures readies { result.1 ≡ found.Ready → IsReady result.0 }
 {
-    for _help in 0..MOST_HELPS {
+    for _ in 0..MOST_HELPS {
         let head = port.load(HEAD);
         if is_modified(head) {
             return (QueueSearch::TakeHead, Found::Contended);

@@ -7,6 +7,6 @@ use Rattle.fast_slow_engine.specs.PhaseTable.{in_phase}
 use Rattle.ellen_tree.proofs.whole.walk.Given as goal
 
 -- each turn begins at an internal node
-abbrev pub invariant-loop-node : goal.invariant-loop-node
-invariant-loop-node g l =
+abbrev pub invariant-loop : goal.invariant-loop
+invariant-loop g l =
     (g.P.Steps.machine l.port ≡ in_phase (Generate (AtUpdate l.fn.op l.above l.node) Search) (g.P.Steps.machine l.fn.port)) × AboveInRange l.above × (l.node < 2 ^ 22)

@@ -6,5 +6,5 @@ use Rattle.fast_slow_engine.specs.PhaseTable.{in_phase}
 use Rattle.ms_queue.proofs.whole.take.Given as goal
 
 -- each turn begins with a search that begins
-abbrev pub invariant-loop-help : goal.invariant-loop-help
-invariant-loop-help g l = g.P.Steps.machine l.port ≡ in_phase (Generate TakeHead Search) (g.P.Steps.machine l.fn.port)
+abbrev pub invariant-loop : goal.invariant-loop
+invariant-loop g l = g.P.Steps.machine l.port ≡ in_phase (Generate TakeHead Search) (g.P.Steps.machine l.fn.port)
