@@ -2,12 +2,14 @@
 ghost use Rattle.std.specs.Prelude.{◌≡◌, ◌≤◌, ◌<◌};
 ghost use Rattle.bucket_set.specs.Buckets.{bucket_count, start_of};
 
+use harris_list::list_steps::ListSteps;
 use harris_list::{HarrisList, Seeking};
 use lin_report::{Client, Op};
 use list_laws::ListWrap;
 use node_arena::places::FIRST_WORDS;
 use normal_traits::{Found, List, Normalized, Stores, Wrapped};
 use step_memory::{Request, Seen};
+use whole_calls::{Seeks, Steps};
 
 /// The most buckets that there can be.
 const MOST: u32 = 32;
@@ -91,4 +93,29 @@ impl<const N: u32> Normalized for BucketSet<N> {
     ghost laws = { bucket_laws N };
 
     ghost named = { refl };
+}
+
+impl<const N: u32, P: Steps<BucketSet<N>>> ListSteps<P> for BucketSet<N> {
+    ghost use Rattle.bucket_set.specs.Buckets.{buckets};
+
+    ghost lists = { buckets N };
+
+    ghost machine = { P.machine };
+
+    #[inline(always)]
+    fn load(port: &mut P, at: u32) -> u64 {
+        port.load(at)
+    }
+
+    #[inline(always)]
+    fn exchange(port: &mut P, at: u32, from: u64, to: u64) -> Seen {
+        port.exchange(at, from, to)
+    }
+}
+
+impl<const N: u32> Seeks for BucketSet<N> {
+    #[inline(always)]
+    fn search<P: Steps<BucketSet<N>>>(op: Op, port: &mut P) -> (Seeking, Found) {
+        Seeking::sought_from::<BucketSet<N>, P>(start_of(N, op.key), op, port)
+    }
 }

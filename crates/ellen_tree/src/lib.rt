@@ -9,5 +9,6 @@ pub mod laws;
 pub mod offers;
 pub mod search;
 pub mod tree;
+mod whole;
 mod words;
 pub mod wrap;

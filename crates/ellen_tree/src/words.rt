@@ -15,6 +15,7 @@ const RIGHT_CHILD: u32 = 20;
 const UPDATE: u32 = 21;
 
 /// Whether a reference names an internal node.
+#[inline(always)]
 pub fn is_internal(reference: u32) -> bool
     ensures { result ≡ is_internal reference }
 {
@@ -22,6 +23,7 @@ pub fn is_internal(reference: u32) -> bool
 }
 
 /// The place of an internal node's child word.
+#[inline(always)]
 pub fn child_at(node: u32, left: bool) -> u32
     requires { node < 2 ^ 22 }
     ensures { result ≡ child_at node left }
@@ -30,6 +32,7 @@ pub fn child_at(node: u32, left: bool) -> u32
 }
 
 /// The place of an internal node's update word.
+#[inline(always)]
 pub fn update_at(node: u32) -> u32
     requires { node < 2 ^ 22 }
     ensures { result ≡ update_at node }
@@ -38,6 +41,7 @@ pub fn update_at(node: u32) -> u32
 }
 
 /// The place of an internal node's key.
+#[inline(always)]
 pub fn key_at(node: u32) -> u32
     requires { node < 2 ^ 22 }
     ensures { result ≡ key_at node }
@@ -46,6 +50,7 @@ pub fn key_at(node: u32) -> u32
 }
 
 /// The place of a leaf's key.
+#[inline(always)]
 pub fn leaf_key_at(leaf: u32) -> u32
     requires { leaf < 2 ^ 24 }
     ensures { result ≡ leaf_key_at leaf }
@@ -54,6 +59,7 @@ pub fn leaf_key_at(leaf: u32) -> u32
 }
 
 /// The place of a leaf's value.
+#[inline(always)]
 pub fn leaf_value_at(leaf: u32) -> u32
     requires { leaf < 2 ^ 24 }
     ensures { result ≡ leaf_value_at leaf }

@@ -1,2 +1,3 @@
 pub mod ProvedLaws
+pub mod Walks
 pub mod Ways

@@ -7,8 +7,10 @@ pub use seeking::Seeking;
 
 mod deciding;
 pub mod list;
+pub mod list_steps;
 mod offers;
 mod search;
 pub mod seeking;
 mod way;
+mod whole;
 mod words;

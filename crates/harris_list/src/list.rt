@@ -7,6 +7,7 @@ use list_laws::ListWrap;
 use list_laws::states::LIST_START;
 use normal_traits::{Found, List, Normalized, Stores, Wrapped};
 use step_memory::{Request, Seen};
+use whole_calls::{Seeks, Steps};
 
 /// The list. It begins at place 46, the next word of node 1 of block 0.
 pub struct HarrisList;
@@ -74,4 +75,11 @@ impl Normalized for HarrisList {
     ghost laws = { list_laws };
 
     ghost named = { refl };
+}
+
+impl Seeks for HarrisList {
+    #[inline(always)]
+    fn search<P: Steps<HarrisList>>(op: Op, port: &mut P) -> (Seeking, Found) {
+        Seeking::sought_from::<HarrisList, P>(LIST_START, op, port)
+    }
 }

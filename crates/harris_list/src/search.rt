@@ -14,6 +14,7 @@ use normal_traits::Found;
 use step_memory::{Request, Seen};
 
 /// What the search of an operation is for.
+#[inline(always)]
 fn aim_of(op: Op) -> Aim
     ensures { result ≡ aim_of op }
 {
@@ -25,6 +26,7 @@ fn aim_of(op: Op) -> Aim
 }
 
 /// The way of a search that begins at the place where a list begins.
+#[inline(always)]
 pub fn begun_at(start: u32, op: Op) -> Way
     ensures { search_at result ≡ begun_at start op }
 {
@@ -133,7 +135,7 @@ fn met_key(way: &mut Way, seen: Seen) -> Found
 
 /// Marked nodes were to be unlinked.
 #[inline(always)]
-fn unlinked(way: &mut Way, seen: Seen) -> Found
+pub fn unlinked(way: &mut Way, seen: Seen) -> Found
     requires stage { way.old.stage ≡ stage.Unlink }
     requires cur { way.old.cur < 2 ^ 23 }
     ensures search { (search_at way.new, result) ≡ fed (search_at way.old) seen }

@@ -1,10 +1,16 @@
 //! A search of the list, as contracts see it.
 ghost use Rattle.std.specs.Prelude.{◌≡◌, ◌+◌, ◌<◌, ◌≤◌, ◌^◌, ◌++◌, length};
+ghost use Rattle.fast_slow_engine.specs.declared.phases.Phase.TheVariants.{Generate};
+ghost use Rattle.fast_slow_engine.specs.declared.phases.Generating.TheVariants.{Search};
+ghost use Rattle.fast_slow_engine.specs.PhaseTable.{searched};
 ghost use Rattle.list_laws.specs.Search.{Asks, IsReady, asked, begun_at, fed, offered};
+ghost use Rattle.list_laws.specs.Form.{list_form};
 
+use crate::list_steps::ListSteps;
 use crate::offers::{add_stores_of, list_of};
 use crate::search::{asked, begun_at, fed};
 use crate::way::Way;
+use crate::whole::seek;
 use lin_report::Op;
 use normal_traits::{Found, List, Stores};
 use std::marker::Model;
@@ -34,6 +40,19 @@ impl Seeking {
         Seeking {
             way: begun_at(start, op),
         }
+    }
+
+    /// Makes steps of a search that begins at the place where a list begins, in one piece. It goes on after it
+    /// where it has passed 2^20 nodes.
+    #[inline(always)]
+    pub fn sought_from<C: ListSteps<P>, P>(start: u32, op: Op, port: &mut P) -> (Seeking, Found)
+        requires begins { (C.machine port.old).phase ≡ Generate (begun_at start op) Search }
+        ensures machine { C.machine port.new ≡ searched (list_form C.lists) result.1 result.0 (C.machine port.old) }
+        ensures goes { result.1 ≡ Found.Going → Asks result.0 }
+        ensures readies { result.1 ≡ Found.Ready → IsReady result.0 }
+    {
+        let (way, found) = seek::<C, P>(start, op, port);
+        (Seeking { way }, found)
     }
 
     /// What the search asks for.

@@ -8,6 +8,7 @@ use node_arena::places::{NODE_KEY, NODE_NEXT};
 use word_fields::VersionedWord;
 
 /// The value of a word.
+#[inline(always)]
 #[tactic(auto, using(word_fields::proofs::VersionedLemmas::versioned_words))]
 fn value_of(word: u64) -> u32
     ensures value { result ≡ versioned_value word }
@@ -17,6 +18,7 @@ fn value_of(word: u64) -> u32
 }
 
 /// The reference to which a next word leads; 0 is the end of the list.
+#[inline(always)]
 pub fn led(word: u64) -> u32
     ensures reference { result ≡ led word }
     ensures small { result < 2 ^ 23 }
@@ -25,6 +27,7 @@ pub fn led(word: u64) -> u32
 }
 
 /// Whether the node that has this next word is marked.
+#[inline(always)]
 pub fn is_marked(word: u64) -> bool
     ensures { result ≡ is_marked word }
 {
@@ -32,6 +35,7 @@ pub fn is_marked(word: u64) -> bool
 }
 
 /// Whether the modified bit of a word is set.
+#[inline(always)]
 pub fn is_modified(word: u64) -> bool
     ensures { result ≡ is_modified word }
 {
@@ -39,6 +43,7 @@ pub fn is_modified(word: u64) -> bool
 }
 
 /// The place of a node's next word.
+#[inline(always)]
 pub fn next_place(reference: u32) -> u32
     requires { reference < 2 ^ 23 }
     ensures { result ≡ next_place reference }
@@ -47,6 +52,7 @@ pub fn next_place(reference: u32) -> u32
 }
 
 /// The place of a node's key.
+#[inline(always)]
 pub fn key_place(reference: u32) -> u32
     requires { reference < 2 ^ 23 }
     ensures { result ≡ key_place reference }
@@ -55,6 +61,7 @@ pub fn key_place(reference: u32) -> u32
 }
 
 /// The next word that leads to a node, in the place of another.
+#[inline(always)]
 pub fn leading(word: u64, reference: u32) -> u64
     requires { reference < 2 ^ 23 }
     ensures { result ≡ leading word reference }
@@ -63,6 +70,7 @@ pub fn leading(word: u64, reference: u32) -> u64
 }
 
 /// The next word with which a node is marked.
+#[inline(always)]
 pub fn marking(word: u64) -> u64
     ensures { result ≡ marking word }
 {

@@ -10,5 +10,6 @@ pub mod queue;
 mod search;
 #[cfg(test)]
 mod tests;
+mod whole;
 mod words;
 mod wrap;

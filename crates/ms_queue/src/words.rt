@@ -8,6 +8,7 @@ use node_arena::places::NODE_NEXT;
 use word_fields::VersionedWord;
 
 /// The reference that a word has.
+#[inline(always)]
 #[tactic(auto, using(word_fields::proofs::VersionedLemmas::versioned_words))]
 pub fn node_of(word: u64) -> u32
     ensures value { result ≡ versioned_value word }
@@ -17,6 +18,7 @@ pub fn node_of(word: u64) -> u32
 }
 
 /// Whether the modified bit of a word is set.
+#[inline(always)]
 pub fn is_modified(word: u64) -> bool
     ensures { result ≡ is_modified word }
 {
@@ -24,6 +26,7 @@ pub fn is_modified(word: u64) -> bool
 }
 
 /// The place of the next word of the node that a word names.
+#[inline(always)]
 pub fn next_place(word: u64) -> u32
     ensures { result ≡ next_place word }
 {
@@ -31,6 +34,7 @@ pub fn next_place(word: u64) -> u32
 }
 
 /// The word with which the node that another word names takes the place of this one's.
+#[inline(always)]
 pub fn moved(word: u64, next: u64) -> u64
     ensures { result ≡ moved_word word next }
 {

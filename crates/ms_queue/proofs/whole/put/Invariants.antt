@@ -1,0 +1,10 @@
+use Rattle.std.proofs.Common.{◌≡◌}
+use Rattle.queue_laws.specs.declared.states.QueueSearch.TheVariants.{PutTail}
+use Rattle.fast_slow_engine.specs.declared.phases.Phase.TheVariants.{Generate}
+use Rattle.fast_slow_engine.specs.declared.phases.Generating.TheVariants.{Search}
+use Rattle.fast_slow_engine.specs.PhaseTable.{in_phase}
+use Rattle.ms_queue.proofs.whole.put.Given as goal
+
+-- each turn begins with a search that begins
+abbrev pub invariant-loop : goal.invariant-loop
+invariant-loop g l = g.P.Steps.machine l.port ≡ in_phase (Generate PutTail Search) (g.P.Steps.machine l.fn.port)
