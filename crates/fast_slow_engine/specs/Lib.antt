@@ -9,3 +9,4 @@ pub mod Events
 pub mod Runs
 pub mod Lines
 pub mod Reports
+pub mod Tries

@@ -7,6 +7,7 @@ ghost use Rattle.fast_slow_engine.specs.Doings.{phase_of};
 ghost use Rattle.fast_slow_engine.specs.Hands.{block_of};
 ghost use Rattle.fast_slow_engine.specs.Mechs.{Applies, CanOffer, Executes, Fills, Generates, WrapsUp, IsAt, IsCallOf, IsInRange, IsReadyIn, mech_of};
 ghost use Rattle.fast_slow_engine.specs.OfferStores.{own_stores};
+ghost use Rattle.fast_slow_engine.specs.Tries.{IsSameCall};
 ghost use Rattle.fast_slow_engine.specs.PhaseTable.{ends, rests, told, tried, failed, offered, offered_in, filled, readied_in, searched, spent, stopped, wrapped_up, generated, applied, stepped};
 
 use crate::call::Call;
@@ -56,8 +57,8 @@ fn fail<C: Normalized>(call: &mut Call, room: &mut Room<C::Search, C::Wrap>)
     try_again::<C>(call, room);
 }
 
-/// Puts into the room the stores that fill a block for a list that the seat executes itself.
-fn fill_for<C: Normalized>(call: &Call, search: &C::Search, block: u32, stores: &mut Stores)
+/// Makes the stores that fill a block for a list that the seat executes itself.
+pub fn fill_for<C: Normalized>(call: &Call, search: &C::Search, block: u32, stores: &mut Stores)
     requires call { IsCallOf C.form.client call.now }
     requires ready { C.form.is_ready search.now }
     requires block { block < 2 ^ 17 }
@@ -217,10 +218,11 @@ fn wrapped<C: Normalized>(
 }
 
 /// Where an entry of the list took effect, the block that it uses is no longer in hand.
-fn spend<C: Normalized>(call: &mut Call, stop: u32)
+pub fn spend<C: Normalized>(call: &mut Call, stop: u32)
     requires { IsCallOf C.form.client call.old }
     ensures machine { (phase : Phase C.Search C.Wrap) → mech_of call.new phase ≡ spent C.form stop (mech_of call.old phase) }
     ensures op { call.new.op ≡ call.old.op }
+    ensures same { IsSameCall call.new call.old }
     ensures call { IsCallOf C.form.client call.new }
 {
     if stop > 0 && C::needs_block(call.op) {

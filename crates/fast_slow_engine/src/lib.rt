@@ -1,12 +1,15 @@
 //! The engine: what a seat does, one atomic step after the other, for any structure in normalized form.
 #![tactic(auto)]
 
+pub use call::Call;
+pub use fast::{fill_for, spend};
 pub use help::{Help, Helping, Work, WorkTurn};
 pub use machine::Machine;
 pub use phases::{Announcing, Applying, Generating, Phase};
 pub use setup::{Setup, Turn};
+pub use tried::Tried;
 
-mod call;
+pub mod call;
 mod doing;
 mod executing;
 mod fast;
@@ -21,4 +24,5 @@ mod searching;
 pub mod setup;
 mod slow;
 mod steps;
-mod stores;
+pub mod stores;
+pub mod tried;

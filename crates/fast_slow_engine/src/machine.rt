@@ -5,10 +5,12 @@ ghost use Rattle.fast_slow_engine.specs.declared.setup.Turn.{Turn};
 
 use crate::call::Call;
 use crate::doing::{Doing, Room};
-use crate::phases::Applying;
+use crate::fast::try_again;
+use crate::phases::{Applying, Generating};
 use crate::requests::request_of;
 use crate::setup::{Setup, Turn};
 use crate::steps::go_on;
+use crate::tried::Tried;
 use lin_report::{Event, EventKind, Op, Path, PendingCall, Receipt};
 use normal_traits::{Contention, Normalized, Stores};
 use std::marker::Model;
@@ -34,6 +36,8 @@ impl<C: Normalized> Model for Machine<C> {
 
 impl<C: Normalized> Machine<C> {
     ghost use Rattle.lin_report.specs.Commands.{is_command};
+    ghost use Rattle.fast_slow_engine.specs.Mechs.{IsCallOf, mech_of};
+    ghost use Rattle.fast_slow_engine.specs.Tries.{CanResume, mech_tried, searches};
     ghost use Rattle.fast_slow_engine.specs.PhaseTable.{ends, mech_event, mech_new, mech_started, mech_pending, mech_request, mech_fed, mech_turn, rests, lists};
 
     /// A seat that has made no call and holds no block.
@@ -156,6 +160,47 @@ impl<C: Normalized> Machine<C> {
         };
         self.room.doing = Doing::Idle;
         self.call.receipt(reply, seen.before)
+    }
+
+    /// Whether the next step is one of a search of the call's own.
+    #[inline(always)]
+    pub fn searches(&self) -> bool
+        ensures { result ≡ searches self.now.phase }
+    {
+        match &self.room.doing {
+            Doing::Generate { at, .. } => *at == Generating::Search,
+            _ => false,
+        }
+    }
+
+    /// The call that runs, so that a try of it can be made in one piece.
+    #[inline(always)]
+    pub fn call(&self) -> Call
+        requires runs { rests self.now.phase ≡ false }
+        ensures machine { self.now ≡ mech_of result self.now.phase }
+        ensures call { IsCallOf C.form.client result }
+    {
+        self.call
+    }
+
+    /// Goes on from where a call stands of which a try was made in one piece.
+    pub fn resume(&mut self, call: Call, tried: Tried<C::Search, C::Wrap>)
+        requires call { IsCallOf C.form.client call }
+        requires can { CanResume C.form tried }
+        ensures machine { self.new ≡ mech_tried C.form call tried }
+    {
+        self.call = call;
+        match tried {
+            Tried::Ended(reply) => self.room.doing = Doing::End(reply),
+            Tried::Failed => try_again::<C>(&self.call, &mut self.room),
+            Tried::Searching(search) => {
+                self.room.doing = Doing::Generate {
+                    search,
+                    at: Generating::Search,
+                };
+            }
+            Tried::Wrapping(wrap) => self.room.doing = Doing::Wrap(wrap),
+        }
     }
 
     /// The call that runs, once its begin tick is drawn.
