@@ -1,5 +1,5 @@
 -- A setup for a view that nobody looks at.
-use Rattle.std.proofs.Common.{arith, false}
+use Rattle.std.proofs.Common.{arith}
 use Rattle.fast_slow_engine.specs.declared.setup.Setup.{Setup}
 
 pub one_seat : Setup

@@ -54,6 +54,10 @@ module _ {C S W : Type 0} where
   glued v w =
       record v { gathered = v.gathered ++ record { seat = w.machine.seat; receipts = w.receipts } ∷ w.gathered; root = (if v.root then true else w.root); made = (if v.root then v.made else w.made) }
 
+  -- what of a port a step leaves as it is where its call goes on: all but the machine
+  abbrev pub beside : Face C S W → Face C S W
+  beside p = record p { view = record p.view { machine = mech_new 0 one_seat } }
+
   module _ (form : NormalForm S W) where
     -- after a step of its seat that begins this command, if any, and saw this
     abbrev pub moved : View C S W → Option Op → Seen → View C S W

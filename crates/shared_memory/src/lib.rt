@@ -6,4 +6,5 @@ pub use port::{SeatPort, Shared, Totals};
 
 pub mod port;
 pub mod rule;
+pub mod steps;
 pub mod view;

@@ -1,6 +1,7 @@
 //! The memory and a port of it.
 ghost use Rattle.std.specs.Prelude.{◌≡◌, ℕ, ◌+◌, ◌<◌, ◌≤◌, true, false, [], IfOk, length, not};
 ghost use Rattle.lin_report.specs.declared.calls.Op.{Op};
+ghost use Rattle.step_memory.specs.declared.steps.Request.TheVariants.{Store};
 ghost use Rattle.node_arena.specs.Opening.{IsLaidOut, opening_words};
 ghost use Rattle.fast_slow_engine.specs.Runs.{CanMove, begun};
 ghost use Rattle.fast_slow_engine.specs.declared.setup.Turn.{Turn};
@@ -14,7 +15,7 @@ use atomic_table::{Seat, Table};
 use fast_slow_engine::{Machine, Setup, Turn};
 use lin_report::{NoMemory, Receipt};
 use node_arena::opening_words;
-use node_arena::places::{CLAIMS, TICKS};
+use node_arena::places::{CLAIMS, FIRST_WORDS, TICKS};
 use normal_traits::Normalized;
 use std::alloc::Global;
 use std::marker::{Brand, Model};
@@ -73,12 +74,13 @@ impl<C: Normalized> Shared<C> {
     /// One step of the port's seat, which begins this command, if any, and what it saw. A place past the last
     /// word is no word of the table: the step loads word 0 for the seat's view, and tells nothing.
     #[inline(always)]
-    fn step_as<B: Begins>(&self, port: &mut SeatPort<C>, request: Request) -> Seen
+    pub(crate) fn step_as<B: Begins>(&self, port: &mut SeatPort<C>, request: Request) -> Seen
         requires table { port.old.table ≡ self.now.table }
         requires can { CanMove C.form B.command port.old.view.machine }
         requires request { mech_request C.form (begun B.command port.old.view.machine) ≡ request }
         ensures table { port.new.table ≡ port.old.table }
         ensures view { port.new.view ≡ moved C.form port.old.view B.command result }
+        ensures stored { (at value : ℕ) → request ≡ Store at value → result.before ≡ 0 }
     {
         let shared = &self.table.shared;
         let at = request.place() as usize;
@@ -173,6 +175,17 @@ impl<C: Normalized> Shared<C> {
     {
         let seen = self.next_as::<Brand>(port, machine);
         machine.finish(seen)
+    }
+
+    /// Looks at the first word of the blocks so often. No seat takes part, so it is no step of the run: it only lets
+    /// time pass.
+    pub fn pause(&self, turns: u32) {
+        let blocks = FIRST_WORDS as usize;
+        if blocks < self.table.word_count() {
+            for _ in 0..turns {
+                self.table.shared.peek(blocks);
+            }
+        }
     }
 
     /// Splits the port of the next seat off that of seat 0, or of the one into which that was gathered.

@@ -2,5 +2,9 @@
 #![tactic(auto)]
 
 pub use steps::{Seeks, Steps};
+pub use tries::try_once;
 
+mod lists;
+mod outcomes;
 pub mod steps;
+pub mod tries;
