@@ -100,7 +100,11 @@ impl<const N: u32, P: Steps<BucketSet<N>>> ListSteps<P> for BucketSet<N> {
 
     ghost lists = { buckets N };
 
+    ghost Rest = { P.Rest };
+
     ghost machine = { P.machine };
+
+    ghost rest = { P.rest };
 
     #[inline(always)]
     fn load(port: &mut P, at: u32) -> u64 {

@@ -24,6 +24,7 @@ const MOST_NODES: u32 = 1 << 20;
 fn walk<P: Steps<EllenTree>>(op: Op, port: &mut P) -> TreeSearch
     requires begins { (P.machine port.old).phase ≡ Generate (begun op) Search }
     ensures machine { P.machine port.new ≡ in_phase (Generate result Search) (P.machine port.old) }
+    ensures rest { P.rest port.new ≡ P.rest port.old }
     ensures asks { Asks result }
 {
     let mut above = None;
@@ -60,6 +61,7 @@ fn look_again<P: Steps<EllenTree>>(
     requires last { InRange last }
     requires begins { (P.machine port.old).phase ≡ Generate (TreeSearch.Again op last is) Search }
     ensures machine { P.machine port.new ≡ searched tree_form result.1 result.0 (P.machine port.old) }
+    ensures rest { P.rest port.new ≡ P.rest port.old }
     ensures goes { result.1 ≡ found.Going → Asks result.0 }
     ensures readies { result.1 ≡ found.Ready → IsReady result.0 }
 {
@@ -74,6 +76,7 @@ fn look_at_value<P: Steps<EllenTree>>(last: Passed, key: u64, port: &mut P) -> (
     requires last { InRange last }
     requires begins { (P.machine port.old).phase ≡ Generate (TreeSearch.AtValue last key) Search }
     ensures machine { P.machine port.new ≡ searched tree_form result.1 result.0 (P.machine port.old) }
+    ensures rest { P.rest port.new ≡ P.rest port.old }
     ensures goes { result.1 ≡ found.Going → Asks result.0 }
     ensures readies { result.1 ≡ found.Ready → IsReady result.0 }
 {
@@ -93,6 +96,7 @@ fn look_at_leaf<P: Steps<EllenTree>>(
     requires last { InRange last }
     requires begins { (P.machine port.old).phase ≡ Generate (TreeSearch.AtLeaf op above last) Search }
     ensures machine { P.machine port.new ≡ searched tree_form result.1 result.0 (P.machine port.old) }
+    ensures rest { P.rest port.new ≡ P.rest port.old }
     ensures goes { result.1 ≡ found.Going → Asks result.0 }
     ensures readies { result.1 ≡ found.Ready → IsReady result.0 }
 {

@@ -19,18 +19,26 @@ pub trait ListSteps<P> {
     /// The lists.
     ghost lists: { Lists };
 
+    /// What a port has beside its machine.
+    ghost Rest: { Type 0 };
+
     /// The machine of the port's seat.
     ghost machine: { P → Mech ListSearch ListWrap };
+
+    /// What no step changes.
+    ghost rest: { P → Rest };
 
     /// Loads a word.
     fn load(port: &mut P, at: u32) -> u64
         requires request { mech_request (list_form lists) (machine port.old) ≡ Load at }
-        ensures machine { (won : Bool) × (machine port.new ≡ mech_fed (list_form lists) (machine port.old) (record { before = result; won = won })) };
+        ensures machine { (won : Bool) × (machine port.new ≡ mech_fed (list_form lists) (machine port.old) (record { before = result; won = won })) }
+        ensures rest { rest port.new ≡ rest port.old };
 
     /// Exchanges a word.
     fn exchange(port: &mut P, at: u32, from: u64, to: u64) -> Seen
         requires request { mech_request (list_form lists) (machine port.old) ≡ Exchange at from to }
-        ensures machine { machine port.new ≡ mech_fed (list_form lists) (machine port.old) result };
+        ensures machine { machine port.new ≡ mech_fed (list_form lists) (machine port.old) result }
+        ensures rest { rest port.new ≡ rest port.old };
 }
 
 impl<P: Steps<HarrisList>> ListSteps<P> for HarrisList {
@@ -38,7 +46,11 @@ impl<P: Steps<HarrisList>> ListSteps<P> for HarrisList {
 
     ghost lists = { the_list };
 
+    ghost Rest = { P.Rest };
+
     ghost machine = { P.machine };
+
+    ghost rest = { P.rest };
 
     #[inline(always)]
     fn load(port: &mut P, at: u32) -> u64 {

@@ -48,6 +48,7 @@ impl Seeking {
     pub fn sought_from<C: ListSteps<P>, P>(start: u32, op: Op, port: &mut P) -> (Seeking, Found)
         requires begins { (C.machine port.old).phase ≡ Generate (begun_at start op) Search }
         ensures machine { C.machine port.new ≡ searched (list_form C.lists) result.1 result.0 (C.machine port.old) }
+        ensures rest { C.rest port.new ≡ C.rest port.old }
         ensures goes { result.1 ≡ Found.Going → Asks result.0 }
         ensures readies { result.1 ≡ Found.Ready → IsReady result.0 }
     {

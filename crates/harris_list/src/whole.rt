@@ -44,6 +44,7 @@ pub struct Met {
 fn walk<C: ListSteps<P>, P>(start: u32, op: Op, port: &mut P) -> (Spot, Option<Met>)
     requires begins { (C.machine port.old).phase ≡ Generate (begun_at start op) Search }
     ensures machine { C.machine port.new ≡ searched (list_form C.lists) (arrived (begun_at start op) (sought_of op) result).1 (arrived (begun_at start op) (sought_of op) result).0 (C.machine port.old) }
+    ensures rest { C.rest port.new ≡ C.rest port.old }
     ensures small { result.0.cur < 2 ^ 23 }
 {
     let word = C::load(port, start);
@@ -103,6 +104,7 @@ fn unlink<C: ListSteps<P>, P>(way: &mut Way, port: &mut P) -> Found
     requires cur { way.old.cur < 2 ^ 23 }
     requires begins { (C.machine port.old).phase ≡ Generate (search_at way.old) Search }
     ensures machine { C.machine port.new ≡ searched (list_form C.lists) result (search_at way.new) (C.machine port.old) }
+    ensures rest { C.rest port.new ≡ C.rest port.old }
     ensures goes { result ≡ found.Going → Asks (search_at way.new) }
     ensures readies { result ≡ found.Ready → IsReady (search_at way.new) }
 {
@@ -117,6 +119,7 @@ fn unlink<C: ListSteps<P>, P>(way: &mut Way, port: &mut P) -> Found
 pub fn seek<C: ListSteps<P>, P>(start: u32, op: Op, port: &mut P) -> (Way, Found)
     requires begins { (C.machine port.old).phase ≡ Generate (begun_at start op) Search }
     ensures machine { C.machine port.new ≡ searched (list_form C.lists) result.1 (search_at result.0) (C.machine port.old) }
+    ensures rest { C.rest port.new ≡ C.rest port.old }
     ensures goes { result.1 ≡ found.Going → Asks (search_at result.0) }
     ensures readies { result.1 ≡ found.Ready → IsReady (search_at result.0) }
 {

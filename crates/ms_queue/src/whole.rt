@@ -25,6 +25,7 @@ const MOST_HELPS: u32 = 1024;
 fn put<P: Steps<MsQueue>>(port: &mut P) -> (QueueSearch, Found)
     requires begins { (P.machine port.old).phase ≡ Generate QueueSearch.PutTail Search }
     ensures machine { P.machine port.new ≡ searched queue_form result.1 result.0 (P.machine port.old) }
+    ensures rest { P.rest port.new ≡ P.rest port.old }
     ensures goes { result.1 ≡ found.Going → Asks result.0 }
     ensures readies { result.1 ≡ found.Ready → IsReady result.0 }
 {
@@ -50,6 +51,7 @@ fn put<P: Steps<MsQueue>>(port: &mut P) -> (QueueSearch, Found)
 fn take<P: Steps<MsQueue>>(port: &mut P) -> (QueueSearch, Found)
     requires begins { (P.machine port.old).phase ≡ Generate QueueSearch.TakeHead Search }
     ensures machine { P.machine port.new ≡ searched queue_form result.1 result.0 (P.machine port.old) }
+    ensures rest { P.rest port.new ≡ P.rest port.old }
     ensures goes { result.1 ≡ found.Going → Asks result.0 }
     ensures readies { result.1 ≡ found.Ready → IsReady result.0 }
 {

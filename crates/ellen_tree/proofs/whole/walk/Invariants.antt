@@ -10,3 +10,4 @@ use Rattle.ellen_tree.proofs.whole.walk.Given as goal
 abbrev pub invariant-loop : goal.invariant-loop
 invariant-loop g l =
     (g.P.Steps.machine l.port ≡ in_phase (Generate (AtUpdate l.fn.op l.above l.node) Search) (g.P.Steps.machine l.fn.port)) × AboveInRange l.above × (l.node < 2 ^ 22)
+    × (g.P.Steps.rest l.port ≡ g.P.Steps.rest l.fn.port)

@@ -9,3 +9,4 @@ abbrev pub invariant-loop : goal.invariant-loop
 invariant-loop g l =
     let going = moved_on (begun_at l.fn.start l.fn.op) (sought_of l.fn.op) l.left l.run l.cur in
     (g.C.ListSteps.machine l.port ≡ searched (list_form g.C.ListSteps.lists) going.1 going.0 (g.C.ListSteps.machine l.fn.port)) × (l.cur < 2 ^ 23)
+    × (g.C.ListSteps.rest l.port ≡ g.C.ListSteps.rest l.fn.port)

@@ -7,4 +7,6 @@ use Rattle.ms_queue.proofs.whole.put.Given as goal
 
 -- each turn begins with a search that begins
 abbrev pub invariant-loop : goal.invariant-loop
-invariant-loop g l = g.P.Steps.machine l.port ≡ in_phase (Generate PutTail Search) (g.P.Steps.machine l.fn.port)
+invariant-loop g l =
+    (g.P.Steps.machine l.port ≡ in_phase (Generate PutTail Search) (g.P.Steps.machine l.fn.port))
+    × (g.P.Steps.rest l.port ≡ g.P.Steps.rest l.fn.port)
