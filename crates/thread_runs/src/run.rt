@@ -8,6 +8,7 @@ use crate::gate::Gate;
 use crate::gather::gather_all;
 use crate::opening::{open, room_for, room_for_lines};
 use crate::threads::run_workers;
+use crate::tries::{Stepwise, Tries};
 use fast_slow_engine::Setup;
 use lin_report::{NoMemory, Op, Receipt};
 use normal_traits::Normalized;
@@ -45,7 +46,12 @@ fn put_together(rooms: &[Vec<Receipt>], mut lines: Vec<Receipt>) -> Vec<Receipt>
 
 /// Runs the files, each in a thread of its own. The lines of each seat stand for themselves, from the last seat
 /// down.
-fn run_by_seats<R: Threads + Wait + Sync, C: Normalized + Send + Sync, G: Gate + Sync>(
+fn run_by_seats<
+    R: Threads + Wait + Sync,
+    C: Normalized + Send + Sync,
+    T: Tries<C> + Send + Sync,
+    G: Gate + Sync,
+>(
     rt: &R,
     alloc: Global,
     setup: Setup,
@@ -59,15 +65,20 @@ fn run_by_seats<R: Threads + Wait + Sync, C: Normalized + Send + Sync, G: Gate +
 {
     let rooms = room_for(alloc, files.len())?;
     let (shared, mut workers) = open::<C>(alloc, setup, files)?;
-    run_workers(rt, &shared, gate, workers.as_mut_slice());
+    run_workers::<R, C, T, G>(rt, &shared, gate, workers.as_mut_slice());
     let (port, receipts) = gather_all(&shared, workers, rooms);
     let totals = shared.close(port);
     Ok((receipts, totals))
 }
 
 /// Runs the files, each in a thread of its own: a worker whose thread can't be made is run by the caller. All
-/// memory is taken before the first thread starts. The lines stand seat by seat, from the last seat down.
-pub fn run<R: Threads + Wait + Sync, C: Normalized + Send + Sync, G: Gate + Sync>(
+/// memory is taken before the first thread starts. The tries of a call are made in one piece. The lines stand seat by seat, from the last seat down.
+pub fn run_whole<
+    R: Threads + Wait + Sync,
+    C: Normalized + Send + Sync,
+    T: Tries<C> + Send + Sync,
+    G: Gate + Sync,
+>(
     rt: &R,
     alloc: Global,
     setup: Setup,
@@ -80,6 +91,22 @@ pub fn run<R: Threads + Wait + Sync, C: Normalized + Send + Sync, G: Gate + Sync
     ensures run { IfOk result (λ r. IsRun C.form setup (map (λ v. v.items) files.items) r.0.items r.1.ticks r.1.claimed) }
 {
     let lines = room_for_lines(alloc, calls_in(files.as_slice()))?;
-    let (rooms, totals) = run_by_seats::<R, C, G>(rt, alloc, setup, files, gate)?;
+    let (rooms, totals) = run_by_seats::<R, C, T, G>(rt, alloc, setup, files, gate)?;
     Ok((put_together(rooms.as_slice(), lines), totals))
+}
+
+/// The same, where each call goes step by step.
+pub fn run<R: Threads + Wait + Sync, C: Normalized + Send + Sync, G: Gate + Sync>(
+    rt: &R,
+    alloc: Global,
+    setup: Setup,
+    files: Vec<Vec<Op>>,
+    gate: &G,
+) -> Result<(Vec<Receipt>, Totals), NoMemory>
+    requires client { IsLaidOut C.form.client }
+    requires count { length files.items ≡ setup.seats }
+    requires files { All (λ file. IsCommandFile C.form.client file.items) files.items }
+    ensures run { IfOk result (λ r. IsRun C.form setup (map (λ v. v.items) files.items) r.0.items r.1.ticks r.1.claimed) }
+{
+    run_whole::<R, C, Stepwise, G>(rt, alloc, setup, files, gate)
 }

@@ -22,11 +22,11 @@ pub claims : {S W : Type 0} (form : NormalForm S W) (search : S) (call : Call) (
 claims form search call m0 m1 m2 w1 w2 asked claimed looks one left two more =
     let here = mech_of call (Generate search LookForBlock) in
     let goes : m1 ≡ mech_of call (Generate search Claim) = one ∙ ap (λ x. mech_fed form x (record { before = asked; won = w1 })) looks
-        ∙ ap (λ b. if b then in_phase (Generate search Claim) here else in_phase (End Exhausted) here) (is_less _ _ left) in
+    ∙ ap (λ b. if b then in_phase (Generate search Claim) here else in_phase (End Exhausted) here) (is_less _ _ left) in
     let there = mech_of call (Generate search Claim) in (
       Generate search Claim,
       two ∙ ap (λ x. mech_fed form x (record { before = claimed; won = w2 })) goes
-      ∙ ap (λ b. if b then offered form search (with_hand (Some (claimed + 1)) there) else in_phase (End Exhausted) there) (is_less _ _ more),
+          ∙ ap (λ b. if b then offered form search (with_hand (Some (claimed + 1)) there) else in_phase (End Exhausted) there) (is_less _ _ more),
     )
 
 -- a search that found its list, and one that was in another call's way

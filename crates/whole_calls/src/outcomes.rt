@@ -56,7 +56,11 @@ pub fn fail<C: Normalized, P: Steps<C>>(call: &mut Call, port: &P) -> Tried<C::S
 
 /// Makes a step of a wrap-up that goes on, where that is an exchange.
 #[inline(always)]
-fn wrap_once<C: Normalized, P: Steps<C>>(wrap: &mut C::Wrap, call: &Call, port: &mut P) -> Option<Wrapped>
+fn wrap_once<C: Normalized, P: Steps<C>>(
+    wrap: &mut C::Wrap,
+    call: &Call,
+    port: &mut P,
+) -> Option<Wrapped>
     requires goes { C.form.wraps wrap.old }
     requires after { IsAfter (wrapped_up C.form wrapping.Going wrap.old) call.now (P.machine port.old) }
     ensures goes { result ≡ Some wrapping.Going → C.form.wraps wrap.new }

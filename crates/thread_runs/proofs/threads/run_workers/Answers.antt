@@ -13,10 +13,12 @@ for_each_mut-requires-clause-accepts g c κs within i p inside is =
         subst (λ (w : Worker g.row.C.Denot g.row.C-Search.Denot g.row.C-Wrap.Denot). CanWork g.C.Normalized.form.client w.port.view w.machine w.commands.items w.receipts.items (vec_capacity w.receipts)) (sym is) r.1,
         (
           param_send _ _ (arg_send _ no _ c.type_bounds.send-C),
+          param_send _ _ (arg_send _ no _ c.type_bounds.send-T),
           param_send _ _ (arg_send _ no _ c.type_bounds.send-C-Search),
           param_send _ _ (arg_send _ no _ c.type_bounds.send-C-Wrap),
           param_sync _ _ (arg_sync _ no _ c.type_bounds.sync-R),
           param_sync _ _ (arg_sync _ no _ c.type_bounds.sync-C),
+          param_sync _ _ (arg_sync _ no _ c.type_bounds.sync-T),
           param_sync _ _ (arg_sync _ no _ c.type_bounds.sync-G),
         ),
       ),

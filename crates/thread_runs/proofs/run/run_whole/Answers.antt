@@ -4,7 +4,7 @@ use Rattle.lin_report.specs.declared.calls.Op.{Op}
 use Rattle.lin_report.specs.declared.calls.Receipt.{Receipt}
 use Rattle.thread_runs.proofs.Gathering.{map_length}
 use Rattle.thread_runs.proofs.Together.{as_many, together}
-use Rattle.thread_runs.proofs.run.run.Goals as goal
+use Rattle.thread_runs.proofs.run.run_whole.Goals as goal
 
 pub put_together-requires-clause-room : goal.put_together-requires-clause-room
 put_together-requires-clause-room g c =
