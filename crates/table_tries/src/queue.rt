@@ -1,21 +1,12 @@
-//! A seat on the table of a run, while a call of it is made in one piece.
-ghost use Rattle.std.specs.Prelude.{◌≡◌, false};
-ghost use Rattle.fast_slow_engine.specs.PhaseTable.{rests};
+//! Tries of the calls of a queue.
 
-use ms_queue::MsQueue;
-use normal_traits::Normalized;
+use crate::seated::{Seated, Whole};
+use fast_slow_engine::{Call, Tried};
+use ms_queue::{MsQueue, QueueSearch, QueueWrap};
 use shared_memory::{SeatPort, Shared};
 use step_memory::Seen;
-use whole_calls::Steps;
-
-/// The memory of a run and the port of a seat of which a call runs.
-#[derive(Drop)]
-pub struct Seated<'a, C: Normalized> {
-    pub shared: &'a Shared<C>,
-    pub port: &'a mut SeatPort<C>,
-    pub ghost of_table: { port.now.table ≡ shared.now.table },
-    pub ghost runs: { rests port.now.view.machine.phase ≡ false },
-}
+use thread_runs::Tries;
+use whole_calls::{Steps, try_once};
 
 impl Steps<MsQueue> for Seated<'_, MsQueue> {
     ghost use Rattle.std.specs.Prelude.{ℕ};
@@ -48,5 +39,16 @@ impl Steps<MsQueue> for Seated<'_, MsQueue> {
     #[inline(always)]
     fn exchange(&mut self, at: u32, from: u64, to: u64) -> Seen {
         self.shared.exchange(self.port, at, from, to)
+    }
+}
+
+impl Tries<MsQueue> for Whole {
+    #[inline(always)]
+    fn try_once(
+        shared: &Shared<MsQueue>,
+        port: &mut SeatPort<MsQueue>,
+        call: &mut Call,
+    ) -> Tried<QueueSearch, QueueWrap> {
+        try_once::<MsQueue, Seated<MsQueue>>(call, &mut Seated { shared, port })
     }
 }

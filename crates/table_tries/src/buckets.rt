@@ -1,0 +1,56 @@
+//! Tries of the calls of a set of buckets.
+
+use crate::seated::{Seated, Whole};
+use bucket_set::BucketSet;
+use fast_slow_engine::{Call, Tried};
+use harris_list::Seeking;
+use list_laws::ListWrap;
+use shared_memory::{SeatPort, Shared};
+use step_memory::Seen;
+use thread_runs::Tries;
+use whole_calls::{Steps, try_once};
+
+impl<const N: u32> Steps<BucketSet<N>> for Seated<'_, BucketSet<N>> {
+    ghost use Rattle.std.specs.Prelude.{ℕ};
+    ghost use Rattle.bucket_set.specs.declared.buckets.BucketSet.{BucketSet};
+    ghost use Rattle.list_laws.specs.declared.states.ListSearch.{ListSearch};
+    ghost use Rattle.list_laws.specs.declared.states.ListWrap.{ListWrap};
+    ghost use Rattle.shared_memory.specs.Views.{Face, Memory, beside};
+
+    ghost Rest = { ℕ × Memory × Face (BucketSet N) ListSearch ListWrap };
+
+    ghost machine = { λ s. s.port.now.view.machine };
+
+    ghost rest = { λ s. (s.port.ghost_name, s.shared.now, beside s.port.now) };
+
+    #[inline(always)]
+    fn load(&mut self, at: u32) -> u64 {
+        self.shared.load(self.port, at)
+    }
+
+    #[inline(always)]
+    fn store(&mut self, at: u32, value: u64) {
+        self.shared.store(self.port, at, value);
+    }
+
+    #[inline(always)]
+    fn add(&mut self, at: u32, by: u64) -> u64 {
+        self.shared.add(self.port, at, by)
+    }
+
+    #[inline(always)]
+    fn exchange(&mut self, at: u32, from: u64, to: u64) -> Seen {
+        self.shared.exchange(self.port, at, from, to)
+    }
+}
+
+impl<const N: u32> Tries<BucketSet<N>> for Whole {
+    #[inline(always)]
+    fn try_once(
+        shared: &Shared<BucketSet<N>>,
+        port: &mut SeatPort<BucketSet<N>>,
+        call: &mut Call,
+    ) -> Tried<Seeking, ListWrap> {
+        try_once::<BucketSet<N>, Seated<BucketSet<N>>>(call, &mut Seated { shared, port })
+    }
+}
