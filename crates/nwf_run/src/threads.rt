@@ -13,13 +13,19 @@ use normal_traits::Normalized;
 use std::alloc::Global;
 use std::sync::Wait;
 use std::thread::Threads;
+use table_tries::Whole;
 use thread_laws::laws::threads_meet_headline;
-use thread_runs::Gate;
-use thread_runs::run::run;
+use thread_runs::run::run_whole;
+use thread_runs::{Gate, Tries};
 
 /// The report of a structure's run with threads. All memory of the run and of the report is taken before the
 /// first thread starts.
-fn threaded<C: Normalized + Send + Sync, R: Threads + Wait + Sync, G: Gate + Sync>(
+fn threaded<
+    C: Normalized + Send + Sync,
+    T: Tries<C> + Send + Sync,
+    R: Threads + Wait + Sync,
+    G: Gate + Sync,
+>(
     rt: &R,
     alloc: Global,
     cap: u32,
@@ -41,7 +47,7 @@ fn threaded<C: Normalized + Send + Sync, R: Threads + Wait + Sync, G: Gate + Syn
         limit,
     };
     let mut text = report_room(alloc, commands_of(&commands))?;
-    let (mut lines, _) = run::<R, C, G>(rt, alloc, setup, commands, gate)?;
+    let (mut lines, _) = run_whole::<R, C, T, G>(rt, alloc, setup, commands, gate)?;
     lines.sort_unstable_by_key(|line| line.begin);
     threads_meet_headline::<C>();
     runs_can_be_written::<C>();
@@ -67,5 +73,5 @@ pub fn make_thread_report<R: Threads + Wait + Sync, G: Gate + Sync>(
     requires commands { All (λ ops. IsCommandFile client ops.items) commands.items }
     ensures { IfOk result (λ made. IsThreaded (form_of client) cap limit (map (λ ops. ops.items) commands.items) made.text.items made.exhausted) }
 {
-    at_client!(client, threaded[R, G](rt, alloc, cap, limit, commands, gate))
+    at_client!(client, threaded[Whole, R, G](rt, alloc, cap, limit, commands, gate))
 }
