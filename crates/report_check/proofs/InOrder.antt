@@ -1,5 +1,5 @@
 -- What holds of calls of which each may stand behind those before it.
-use Rattle.std.proofs.Common.{◌≡◌, ◌≢◌, ℕ, zero, suc, ◌<◌, ◌≤◌, Bool, true, false, ltb, ltb-true, ◌&&◌, not, Option, Some, None, IfSome, List, [], ◌∷◌, ◌++◌, map, length, get_or, All, AllPairs, le_refl, refl, sym, ap, subst, ◌∙◌, arith}
+use Rattle.std.proofs.Common.{◌≡◌, ◌≢◌, ℕ, zero, suc, ◌<◌, ◌≤◌, Bool, true, ltb-true, ◌&&◌, not, Option, Some, None, IfSome, List, [], ◌∷◌, ◌++◌, map, AllPairs, le_refl, refl, sym, ap, subst, ◌∙◌, arith}
 use Rattle.std.specs.Prelude.{IsTrue}
 use Rattle.std.specs.List.{AllByRecursion, filter_map, cons_option, list_any}
 use Rattle.std.specs.List.Sorted.{IsNonDecreasingBy}
@@ -10,7 +10,7 @@ use Rattle.lin_report.specs.declared.calls.Client.{Client}
 use Rattle.lin_report.specs.declared.calls.Reply.{Reply}
 use Rattle.lin_report.specs.declared.calls.Receipt.{Receipt}
 use Rattle.lin_report.specs.declared.calls.PendingCall.{PendingCall}
-use Rattle.lin_report.specs.Calls.{Call, Report, answered_call, pending_call, calls_of}
+use Rattle.lin_report.specs.Calls.{Call, answered_call, pending_call, calls_of}
 use Rattle.lin_report.specs.Writing.{IsPrintable, CanWrite}
 use Rattle.lin_report.proofs.Sorting.{IsBelowAll}
 use Rattle.report_check.specs.Beginnings.{last_line, rises, in_turn, ends_above, fresh_end, has_tick, last_from, may_follow, AreInOrder}

@@ -1,5 +1,5 @@
 -- A text is the text of one report of calls in order at most, and a reader finds that one.
-use Rattle.std.proofs.Common.{◌≡◌, ◌⊎◌, ℕ, ◌+◌, ◌-◌, ◌<◌, ◌≤◌, Bool, true, false, cond, eqb, ◌||◌, Option, Some, None, IfSome, inl, inr, List, [], ◌∷◌, ◌++◌, map, length, take, get_or, append_assoc, append-nil, length-append, refl, sym, ap, ap₂, subst, ◌∙◌, arith}
+use Rattle.std.proofs.Common.{◌≡◌, ℕ, ◌+◌, ◌-◌, ◌<◌, ◌≤◌, Bool, true, false, ◌||◌, Option, Some, None, IfSome, inl, inr, List, [], ◌∷◌, ◌++◌, map, length, take, get_or, append_assoc, append-nil, length-append, refl, sym, ap, ap₂, subst, ◌∙◌, arith}
 use Rattle.std.specs.List.{AllByRecursion, filter_map, list_any}
 use Rattle.std.specs.Fmt.{decimal}
 use Rattle.std.specs.Option.{option_map}
@@ -13,12 +13,12 @@ use Rattle.lin_report.specs.declared.calls.Reply.{Reply}
 use Rattle.lin_report.specs.declared.calls.Receipt.{Receipt}
 use Rattle.lin_report.specs.declared.calls.PendingCall.{PendingCall}
 use Rattle.lin_report.specs.Calls.{Call, Report, report_of, calls_of}
-use Rattle.lin_report.specs.Text.{SPACE, NEWLINE, call_line, by_begin, lines, summary_text, report_text}
+use Rattle.lin_report.specs.Text.{NEWLINE, call_line, by_begin, lines, summary_text, report_text}
 use Rattle.lin_report.specs.Writing.{IsPrintable, IsPrintableAnswer, CanWrite}
 use Rattle.report_check.specs.declared.call_lines.CallLine.{CallLine}
 use Rattle.report_check.specs.CallLines.{◌>>=◌, AsOption, line_at, call_at, call_of}
 use Rattle.report_check.specs.Beginnings.{TICKS, has_tick, ends_at, IsNext, AreInOrder, BeginsWith}
-use Rattle.report_check.specs.Reports.{REPORT_LIMIT, MOST_OVERTAKEN, receipt_in, waiting_in, report_from, AreWhole, MayTell, HasSummary, TellsSummary, KnowsCalls, IsReportText, IsTextOf, HasMore, behind, end_at, summary_at}
+use Rattle.report_check.specs.Reports.{REPORT_LIMIT, receipt_in, waiting_in, report_from, AreWhole, MayTell, HasSummary, TellsSummary, KnowsCalls, IsTextOf, HasMore, behind, end_at, summary_at}
 use Rattle.report_check.proofs.LineFields.{bind_at}
 use Rattle.report_check.proofs.CallsOnLines.{fields, line_is, call_again}
 use Rattle.report_check.proofs.CleanLines.{first_line_is}

@@ -1,18 +1,17 @@
 -- The text of a report over command files is the text of a report as a reader takes it.
-use Rattle.std.proofs.Common.{◌≡◌, ◌≢◌, ℕ, zero, suc, ◌+◌, ◌-◌, ◌*◌, ◌<◌, ◌≤◌, ◌⊎◌, ◌&&◌, Bool, true, false, not, cond, nat_lt, ltb-false, ltb-true, lt-ltb, Option, Some, None, IfSome, inl, inr, List, [], ◌∷◌, ◌++◌, map, length, get_or, slice_get, All, AllPairs, Contains, IsPermutation, append_assoc, length-append, refl, sym, ap, ap₂, subst, ◌∙◌, arith}
+use Rattle.std.proofs.Common.{◌≡◌, ◌≢◌, ℕ, zero, suc, ◌-◌, ◌<◌, ◌≤◌, ◌&&◌, Bool, true, false, not, cond, nat_lt, ltb-false, ltb-true, lt-ltb, Option, Some, None, IfSome, inl, inr, List, [], ◌∷◌, ◌++◌, map, length, get_or, All, AllPairs, Contains, IsPermutation, append_assoc, length-append, refl, sym, ap, subst, ◌∙◌, arith}
 use Rattle.std.specs.Prelude.{IsTrue}
-use Rattle.std.specs.List.{AllByRecursion, sum_by, list_any, filter_map}
+use Rattle.std.specs.List.{AllByRecursion, sum_by, list_any}
 use Rattle.std.proofs.lemmas.Bool.{and_from, cases_lt}
 use Rattle.std.proofs.lemmas.Option.{slice_get_within, get_or_from_slice_get}
 use Rattle.std.proofs.lemmas.List.{get_or_past, length-map}
-use Rattle.std.proofs.lemmas.List.Elements.{All-contains, All-contains_itself, All-from_recursion, recursion_from_All, All-append, All-map, Contains-append_right}
-use Rattle.std.proofs.lemmas.List.Sorted.{IsPermutation-sym, All-permutation, Contains-permutation, length_permutation, sum_by-IsPermutation}
+use Rattle.std.proofs.lemmas.List.Elements.{All-contains, All-contains_itself, recursion_from_All, All-append, All-map}
+use Rattle.std.proofs.lemmas.List.Sorted.{All-permutation, Contains-permutation, length_permutation, sum_by-IsPermutation}
 use Rattle.lin_report.specs.declared.calls.Client.{Client}
 use Rattle.lin_report.specs.declared.calls.Op.{Op}
-use Rattle.lin_report.specs.declared.calls.Reply.{Reply}
 use Rattle.lin_report.specs.declared.calls.Receipt.{Receipt}
 use Rattle.lin_report.specs.declared.calls.PendingCall.{PendingCall}
-use Rattle.lin_report.specs.Commands.{is_command, IsCommandOf}
+use Rattle.lin_report.specs.Commands.{is_command}
 use Rattle.lin_report.specs.CommandFiles.{IsCommandFile}
 use Rattle.lin_report.specs.Calls.{Call, Report, answered_call, pending_call, calls_of}
 use Rattle.lin_report.specs.Report.{file_of, ticks_of, IsCommand, IsReport}
@@ -23,7 +22,7 @@ use Rattle.lin_report.proofs.Sorted.{by_begin_sorts}
 use Rattle.lin_report.proofs.Merging.{count_of_calls}
 use Rattle.lin_report.proofs.Fits.{report_text_fits}
 use Rattle.report_check.specs.Beginnings.{last_line, rises, in_turn, ends_above, fresh_end, has_tick, last_from, may_follow, AreInOrder}
-use Rattle.report_check.specs.Reports.{receipt_in, ticks_drawn, AreWhole, MayTell, IsReportText, RunReportsAreTexts}
+use Rattle.report_check.specs.Reports.{ticks_drawn, AreWhole, MayTell, IsReportText, RunReportsAreTexts}
 use Rattle.report_check.proofs.Apart.{IsRising, report_again}
 use Rattle.report_check.proofs.InOrder.{ByPairs, below_more}
 use Rattle.report_check.proofs.Drawn.{hits, all_hits, once_at_most, none_hits, fresh_ticks}

@@ -1,13 +1,12 @@
 -- The calls of a seat in a report over command files: each follows the one with the number before its own.
-use Rattle.std.proofs.Common.{◌≡◌, ◌≢◌, ℕ, zero, suc, ◌+◌, ◌<◌, ◌≤◌, ◌⊎◌, Bool, true, false, cond, eqb, lt-ltb, Option, Some, None, IfSome, inl, inr, List, [], ◌∷◌, ◌++◌, map, length, All, AllPairs, Contains, le_refl, refl, sym, ap, subst, ◌∙◌, arith}
+use Rattle.std.proofs.Common.{◌≡◌, ◌≢◌, ℕ, zero, suc, ◌+◌, ◌<◌, ◌≤◌, ◌⊎◌, Bool, true, false, cond, eqb, lt-ltb, Option, Some, None, IfSome, inl, inr, List, [], ◌∷◌, ◌++◌, map, All, Contains, le_refl, refl, sym, ap, subst, ◌∙◌, arith}
 use Rattle.std.specs.List.{AllByRecursion}
 use Rattle.std.proofs.lemmas.Bool.{and_from, cases_lt, cases_order, eqb-true, eq-eqb, ltb-true}
-use Rattle.std.proofs.lemmas.Option.{same_Some}
 use Rattle.std.proofs.lemmas.List.Elements.{All-contains, All-from_recursion, All-contains_itself}
 use Rattle.lin_report.specs.declared.calls.Reply.{Reply}
 use Rattle.lin_report.specs.declared.calls.Op.{Op}
 use Rattle.lin_report.specs.declared.calls.Receipt.{Receipt}
-use Rattle.lin_report.specs.Calls.{Call, Report, answered_call, pending_call, calls_of, IsSameCall}
+use Rattle.lin_report.specs.Calls.{Call, Report, answered_call, pending_call, calls_of}
 use Rattle.lin_report.specs.Report.{FollowsAnswer, IsReport}
 use Rattle.lin_report.proofs.Sorting.{IsBelowAll}
 use Rattle.report_check.specs.Verdicts.{name_of, ended_before}

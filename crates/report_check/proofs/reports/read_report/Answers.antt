@@ -1,8 +1,8 @@
-use Rattle.std.proofs.Common.{List, [], map, length, ◌+◌, inl, inr, sym, ap, ◌∙◌, subst, arith}
+use Rattle.std.proofs.Common.{[], map, ◌+◌, inl, inr, sym, ap, ◌∙◌, subst, arith}
 use Rattle.std.proofs.lemmas.List.{length-map}
 use Rattle.lin_report.specs.Calls.{Report, report_of}
 use Rattle.report_check.specs.CallLines.{call_of}
-use Rattle.report_check.specs.Reports.{HasSummary, IsTextOf, report_from}
+use Rattle.report_check.specs.Reports.{HasSummary, IsTextOf}
 use Rattle.report_check.proofs.ReadBack.{knows_calls, report_can_be_written, none_told, some_told, nothing_left, nothing_behind, lines_of_text, text_of_lines, lines_fit}
 use Rattle.report_check.proofs.Judgeable.{read_can_be_judged}
 use Rattle.report_check.proofs.reports.read_report.Goals as goal

@@ -1,4 +1,4 @@
-use Rattle.std.proofs.Common.{List, None, ◌++◌, ap, ap₂, ◌∙◌, arith}
+use Rattle.std.proofs.Common.{List, None, ◌++◌, ap₂, ◌∙◌, arith}
 use Rattle.lin_report.specs.declared.calls.Receipt.{Receipt}
 use Rattle.lin_report.specs.declared.calls.PendingCall.{PendingCall}
 use Rattle.lin_report.specs.Calls.{report_of}
