@@ -72,7 +72,8 @@ fn run_by_seats<
 }
 
 /// Runs the files, each in a thread of its own: a worker whose thread can't be made is run by the caller. All
-/// memory is taken before the first thread starts. The tries of a call are made in one piece. The lines stand seat by seat, from the last seat down.
+/// memory is taken before the first thread starts. The tries of a call are made in one piece, as `T` makes them. The
+/// lines stand seat by seat, from the last seat down.
 pub fn run_whole<
     R: Threads + Wait + Sync,
     C: Normalized + Send + Sync,

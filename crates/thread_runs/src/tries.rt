@@ -1,5 +1,5 @@
 //! The tries of a call in one piece.
-ghost use Rattle.std.specs.Prelude.{◌≡◌, ◌≤◌, IsTrue, true, false};
+ghost use Rattle.std.specs.Prelude.{◌≡◌, true, false};
 ghost use Rattle.fast_slow_engine.specs.declared.phases.Phase.TheVariants.{Generate};
 ghost use Rattle.fast_slow_engine.specs.declared.phases.Generating.TheVariants.{Search};
 ghost use Rattle.fast_slow_engine.specs.Mechs.{IsCallOf, SameCall, mech_of};
@@ -12,7 +12,7 @@ use normal_traits::Normalized;
 use shared_memory::{SeatPort, Shared};
 
 /// How many turns a call pauses after its first failure. Each further failure doubles them, up to the most.
-const FIRST_PAUSE: u32 = 2048;
+const FIRST_PAUSE: u32 = 8192;
 /// How many turns it pauses at most.
 const LONGEST_PAUSE: u32 = 65536;
 /// How many tries are made in one piece at most. Each is a failure more, and a call has no more than 255.
