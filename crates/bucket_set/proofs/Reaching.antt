@@ -4,12 +4,12 @@ use Rattle.std.proofs.lemmas.Bool.{eq-eqb, cases_eq, true≢false}
 use Rattle.word_fields.specs.Versioned.{versioned_value}
 use Rattle.normal_traits.specs.World.{World}
 use Rattle.normal_traits.specs.Steps.{with_word}
-use Rattle.list_laws.specs.Lists.{Lists, AreLists, is_versioned}
-use Rattle.list_laws.specs.Search.{led, is_marked, next_place, key_place}
-use Rattle.list_laws.specs.Nodes.{is_node, node_key, next_at, key_at, node_rank, place_rank, rank_of, LAST_RANK, IsOf, IsLink, IsNamed}
-use Rattle.list_laws.specs.Path.{stands}
-use Rattle.list_laws.specs.Shape.{AreSorted}
-use Rattle.list_laws.proofs.Places.{same_next, start_not_next, rank_start, rank_next, rank_named, stands_start, stands_next, key_plain}
+use Rattle.harris_list_form.specs.Lists.{Lists, AreLists, is_versioned}
+use Rattle.harris_list_form.specs.Search.{led, is_marked, next_place, key_place}
+use Rattle.harris_list_form.specs.Nodes.{is_node, node_key, next_at, key_at, node_rank, place_rank, rank_of, LAST_RANK, IsOf, IsLink, IsNamed}
+use Rattle.harris_list_form.specs.Path.{stands}
+use Rattle.harris_list_form.specs.Shape.{AreSorted}
+use Rattle.harris_list_form.proofs.Places.{same_next, start_not_next, rank_start, rank_next, rank_named, stands_start, stands_next, key_plain}
 use Rattle.node_arena.specs.MemoryMap.{reference_to}
 use Rattle.node_arena.proofs.PlaceLemmas.{block-reference_to}
 use Rattle.bucket_set.specs.BucketShape.{Reached, IsMember}

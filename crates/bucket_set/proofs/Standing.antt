@@ -7,10 +7,10 @@ use Rattle.std.proofs.lemmas.Nat.{mod_below}
 use Rattle.lin_report.specs.Object.{set_object}
 use Rattle.word_fields.specs.Versioned.{versioned_value}
 use Rattle.normal_traits.specs.World.{World, held_after}
-use Rattle.list_laws.specs.Search.{is_marked, next_place, key_place}
-use Rattle.list_laws.specs.Nodes.{holds, next_at}
-use Rattle.list_laws.specs.Shape.{AreSorted}
-use Rattle.list_laws.proofs.Sets.{set_held}
+use Rattle.harris_list_form.specs.Search.{is_marked, next_place, key_place}
+use Rattle.harris_list_form.specs.Nodes.{holds, next_at}
+use Rattle.harris_list_form.specs.Shape.{AreSorted}
+use Rattle.harris_list_form.proofs.Sets.{set_held}
 use Rattle.bucket_set.specs.Buckets.{bucket_count, start_of, buckets}
 use Rattle.bucket_set.specs.BucketShape.{BucketShape, IsMember}
 use Rattle.bucket_set.specs.ProvedLaws.{counted, are_buckets}

@@ -4,8 +4,8 @@ use Rattle.std.specs.FinSet as set
 use Rattle.lin_report.specs.Object.{set_object}
 use Rattle.normal_traits.specs.World.{World, held_after}
 use Rattle.normal_traits.specs.Steps.{with_word}
-use Rattle.list_laws.specs.Lists.{is_versioned}
-use Rattle.list_laws.specs.Search.{led, is_marked, next_place, key_place}
+use Rattle.harris_list_form.specs.Lists.{is_versioned}
+use Rattle.harris_list_form.specs.Search.{led, is_marked, next_place, key_place}
 use Rattle.bucket_set.specs.Buckets.{bucket_count, buckets}
 
 -- the places through which the words lead from a beginning: after it, those of the next words of nodes

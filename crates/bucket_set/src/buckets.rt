@@ -5,7 +5,7 @@ ghost use Rattle.bucket_set.specs.Buckets.{bucket_count, start_of};
 use harris_list::list_steps::ListSteps;
 use harris_list::{HarrisList, Seeking};
 use lin_report::{Client, Op};
-use list_laws::ListWrap;
+use harris_list_form::ListWrap;
 use node_arena::places::FIRST_WORDS;
 use normal_traits::{Found, List, Normalized, Stores, Wrapped};
 use step_memory::{Request, Seen};
@@ -40,7 +40,7 @@ fn start_of(asked: u32, key: u32) -> u32
 impl<const N: u32> Normalized for BucketSet<N> {
     ghost use Rattle.std.specs.Prelude.{refl};
     ghost use Rattle.lin_report.specs.declared.calls.Client.{Client};
-    ghost use Rattle.list_laws.specs.Form.{list_form};
+    ghost use Rattle.harris_list_form.specs.Form.{list_form};
     ghost use Rattle.bucket_set.specs.Buckets.{buckets};
     ghost use Rattle.bucket_set.specs.ProvedLaws.{bucket_laws};
 

@@ -1,7 +1,7 @@
 //! What the words of the buckets stand for.
 ghost use Rattle.std.specs.Prelude.{ℕ};
 ghost use Rattle.normal_traits.specs.World.{World};
-ghost use Rattle.list_laws.specs.Form.{list_form};
+ghost use Rattle.harris_list_form.specs.Form.{list_form};
 ghost use Rattle.bucket_set.specs.Buckets.{buckets};
 ghost use Rattle.bucket_set.specs.BucketShape.{BucketShape};
 

@@ -3,7 +3,7 @@ use Rattle.std.proofs.Common.{◌≡◌, ◌∙◌, refl, sym, ap, subst, ℕ, z
 use Rattle.word_fields.specs.Versioned.{versioned_bit, versioned_version, marked_word, cleared_word}
 use Rattle.word_fields.proofs.VersionedLemmas.{bit-marked, version-marked, bit-cleared, version-cleared, cleared-clear}
 use Rattle.normal_traits.specs.declared.lists.Entry.{Entry}
-use Rattle.cas_executor_laws.specs.Entries.{IsRaised, View, IsPast, IsShown, WasSeen, Life, OwnsBit, Moves, Turn, LeavesBit, Later}
+use Rattle.cas_executor_laws.specs.Entries.{IsRaised, View, IsPast, IsShown, StandsOrPassed, Life, OwnsBit, Moves, Turn, LeavesBit, Later}
 use Rattle.cas_executor_laws.specs.Entries.Moves.{kept, cleared, raised as rises}
 use Rattle.cas_executor_laws.specs.Entries.Turn.{stays, installs, succeeds, fails, clears, moves}
 
@@ -43,7 +43,7 @@ module _ (entry : Entry) (raised : IsRaised entry) where
   moved_gone old new (cleared e) past gone shown = absurd (omega (arith, shown_bit new.word shown, ap versioned_bit e, bit-cleared old.word))
   moved_gone old new (rises more) past gone shown = absurd (omega (arith, shown_version new.word shown, past, more))
 
-  moved_seen : (old new : View) → Moves old.word new.word → WasSeen entry old → WasSeen entry new
+  moved_seen : (old new : View) → Moves old.word new.word → StandsOrPassed entry old → StandsOrPassed entry new
   moved_seen old new m (inr past) = inr (moved_past old new m past)
   moved_seen old new (kept e) (inl at) = inl (e ∙ at)
   moved_seen old new (cleared e) (inl at) = inl (e ∙ ap cleared_word at ∙ cleared-clear entry.from raised.from_clear)
@@ -106,7 +106,7 @@ module _ (entry : Entry) (raised : IsRaised entry) where
 
   -- ---- that the target holds `from` or is past it
 
-  pub seen_turned : (old new : View) → Turn entry old new → WasSeen entry old → WasSeen entry new
+  pub seen_turned : (old new : View) → Turn entry old new → StandsOrPassed entry old → StandsOrPassed entry new
   seen_turned old new (stays s w t) seen = moved_seen old new (kept w) seen
   seen_turned old new (installs at w s t) seen = inr (shown_past new w)
   seen_turned old new (succeeds waits is s w t) seen = moved_seen old new (kept w) seen

@@ -11,7 +11,7 @@ use Rattle.cas_executor.specs.declared.slow_run.SlowStep.{SlowStep}
 use Rattle.cas_executor.specs.declared.slow_run.SlowStep.TheVariants.{LoadState, Install, LoadTarget, Succeed, Fail, LoadDecision, Clear}
 use Rattle.cas_executor.specs.SlowRuns.{SlowWalk, state_place}
 use Rattle.cas_executor_laws.specs.ExecRuns.{IsEntry}
-use Rattle.cas_executor_laws.specs.Entries.{View, WasSeen, Life, LeavesBit, Later, IsShown, Moves}
+use Rattle.cas_executor_laws.specs.Entries.{View, StandsOrPassed, Life, LeavesBit, Later, IsShown, Moves}
 use Rattle.cas_executor_laws.specs.Entries.Turn.{moves, stays}
 use Rattle.cas_executor_laws.specs.Parts.{Site, IsSite, OfEach, InOrder, Offered, OwnsBits, Deed, IsDone, KnowsEntry, AreDone, Knows, KnowsStop, Helps, view_in, ShowsTaken, OwnDeed}
 use Rattle.cas_executor_laws.proofs.EntryLemmas.{shown_bit, true≢false, later, seen_turned, life_turned, bit_turned}
@@ -125,7 +125,7 @@ module _ (site : Site) (is : IsSite site) (words : ℕ → ℕ) (took : ℕ → 
 
   -- ---- the parts
 
-  pub seen_kept : Deed site words took after took' → OfEach site WasSeen words took → OfEach site WasSeen after took'
+  pub seen_kept : Deed site words took after took' → OfEach site StandsOrPassed words took → OfEach site StandsOrPassed after took'
   seen_kept deed seen j entry listed =
       seen_turned entry (is.raised j entry listed) _ _ (deed.turns j entry listed) (seen j entry listed)
 

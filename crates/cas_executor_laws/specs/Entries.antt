@@ -29,8 +29,8 @@ IsShown entry view = view.word ≡ marked_word entry.to
 -- ---- parts that hold of each entry
 
 -- the target holds `from` or is past it
-abbrev pub WasSeen : Entry → View → Type 0
-WasSeen entry view = (view.word ≡ entry.from) ⊎ IsPast entry view
+abbrev pub StandsOrPassed : Entry → View → Type 0
+StandsOrPassed entry view = (view.word ≡ entry.from) ⊎ IsPast entry view
 
 -- The life of an entry: pending and not taken; pending and taken, which its target shows; succeeded, and taken;
 -- failed, not taken, and the target is past `from` and doesn't show the entry.

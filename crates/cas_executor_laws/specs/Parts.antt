@@ -12,7 +12,7 @@ use Rattle.cas_executor.specs.declared.slow_run.SlowStep.{SlowStep}
 use Rattle.cas_executor.specs.declared.slow_run.SlowStep.TheVariants.{LoadState, Install, LoadTarget, Succeed, Fail, LoadDecision, Clear}
 use Rattle.cas_executor.specs.SlowRuns.{SlowWalk, installs, state_place, state_word}
 use Rattle.cas_executor_laws.specs.ExecRuns.{IsEntry, HasOwnTargets}
-use Rattle.cas_executor_laws.specs.Entries.{IsRaised, View, IsPast, IsShown, WasSeen, Life, OwnsBit, Turn, LeavesBit}
+use Rattle.cas_executor_laws.specs.Entries.{IsRaised, View, IsPast, IsShown, StandsOrPassed, Life, OwnsBit, Turn, LeavesBit}
 
 -- ---- blocks
 
@@ -48,7 +48,7 @@ InOrder site words took = (j : ℕ) → j < length site.entries → IsBehind sit
 
 -- what holds of an offered block for ever
 pub record Offered (site : Site) (words : ℕ → ℕ) (took : ℕ → Bool) : Type 0 where
-  pub seen : OfEach site WasSeen words took
+  pub seen : OfEach site StandsOrPassed words took
   pub lives : OfEach site Life words took
   pub order : InOrder site words took
 

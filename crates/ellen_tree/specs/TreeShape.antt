@@ -4,8 +4,8 @@ use Rattle.std.specs.FinMap as map
 use Rattle.lin_report.specs.Commands.{KEY_LIMIT}
 use Rattle.lin_report.specs.Object.{map_object}
 use Rattle.normal_traits.specs.World.{World, held_after}
-use Rattle.ellen_tree_laws.specs.Words.{is_internal}
-use Rattle.ellen_tree_laws.specs.Shape.{OnWay, way, told_by}
+use Rattle.ellen_tree_form.specs.Words.{is_internal}
+use Rattle.ellen_tree_form.specs.Shape.{OnWay, way, told_by}
 
 -- from the root on, with the left child of each node of a greater key and else the right one, one comes to this leaf
 pub record IsEnd (words : ℕ → ℕ) (key leaf : ℕ) : Type 0 where

@@ -2,10 +2,10 @@
 ghost use Rattle.std.specs.Prelude.{◌≡◌, ◌≢◌, ◌<◌, ◌^◌};
 ghost use Rattle.tree_help.specs.Updates.{is_clean, state_of};
 ghost use Rattle.tree_help.specs.declared.states.TheConstants.{CLEAN};
-ghost use Rattle.ellen_tree_laws.specs.Search.{AboveInRange, Asks, InRange, IsReady, helped, leaf_of, met_again, met_leaf, rem_at, set_at, told};
+ghost use Rattle.ellen_tree_form.specs.Search.{AboveInRange, Asks, InRange, IsReady, helped, leaf_of, met_again, met_leaf, rem_at, set_at, told};
 
 use crate::words::update_at;
-use ellen_tree_laws::{Passed, TreeSearch};
+use ellen_tree_form::{Passed, TreeSearch};
 use lin_report::calls::{GET, REM, SET};
 use lin_report::{Op, Outcome, Reply};
 use normal_traits::Found;

@@ -1,7 +1,7 @@
 //! Ellen's leaf-oriented search tree in normalized form: a map whose keys stand in the leaves.
 #![tactic(auto)]
 
-pub use ellen_tree_laws::{Passed, TreeSearch};
+pub use ellen_tree_form::{Passed, TreeSearch};
 pub use tree::EllenTree;
 
 mod deciding;

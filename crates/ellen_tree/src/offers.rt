@@ -1,12 +1,12 @@
 //! The lists that ready searches name: one entry, which sets a flag, after the stores of its block.
 ghost use Rattle.std.specs.Prelude.{◌≡◌, ◌+◌, ◌<◌, ◌≤◌, ◌^◌, nat_lt, not, true, false, [], ◌∷◌, ◌++◌, length};
 ghost use Rattle.tree_help.specs.Updates.{note_at};
-ghost use Rattle.ellen_tree_laws.specs.Words.{child_at, key_at, leaf_key_at, leaf_value_at, may_list, update_at};
-ghost use Rattle.ellen_tree_laws.specs.Search.{InRange, IsReady, block_for, flag_entry, greater, leaf_on, offered, rem_stores, set_stores};
+ghost use Rattle.ellen_tree_form.specs.Words.{child_at, key_at, leaf_key_at, leaf_value_at, may_list, update_at};
+ghost use Rattle.ellen_tree_form.specs.Search.{InRange, IsReady, block_for, flag_entry, greater, leaf_on, offered, rem_stores, set_stores};
 
 use crate::words::{child_at, key_at, leaf_key_at, leaf_value_at, update_at};
 use arrayvec::ArrayVec;
-use ellen_tree_laws::{Passed, TreeSearch};
+use ellen_tree_form::{Passed, TreeSearch};
 use lin_report::Op;
 use lin_report::calls::{REM, SET};
 use node_arena::reference_to;

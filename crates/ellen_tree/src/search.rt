@@ -1,11 +1,11 @@
 //! The steps of a search.
 ghost use Rattle.std.specs.Prelude.{◌≡◌, ◌≢◌};
 ghost use Rattle.tree_help.specs.Helps.{Fits, help_fed};
-ghost use Rattle.ellen_tree_laws.specs.Search.{AboveInRange, Asks, InRange, IsPassing, IsReady, after_help, asked, begun, came_to, fed};
+ghost use Rattle.ellen_tree_form.specs.Search.{AboveInRange, Asks, InRange, IsPassing, IsReady, after_help, asked, begun, came_to, fed};
 
 use crate::deciding::{leaf_of, met_again, met_leaf};
 use crate::words::{child_at, is_internal, key_at, leaf_key_at, leaf_value_at, update_at};
-use ellen_tree_laws::{Passed, TreeSearch};
+use ellen_tree_form::{Passed, TreeSearch};
 use lin_report::Op;
 use normal_traits::Found;
 use step_memory::{Request, Seen};

@@ -3,7 +3,7 @@
 use crate::offers::{add_stores_of, list_of, may_list};
 use crate::search::{asked, begun, fed};
 use crate::wrap::{begun_wrap, wrap_begun, wrap_fed};
-use ellen_tree_laws::TreeSearch;
+use ellen_tree_form::TreeSearch;
 use lin_report::{Client, Op};
 use normal_traits::{Found, List, Normalized, Stores, Wrapped};
 use step_memory::{Request, Seen};
@@ -15,7 +15,7 @@ pub struct EllenTree;
 impl Normalized for EllenTree {
     ghost use Rattle.std.specs.Prelude.{refl};
     ghost use Rattle.lin_report.specs.declared.calls.Client.{Client};
-    ghost use Rattle.ellen_tree_laws.specs.Form.{tree_form};
+    ghost use Rattle.ellen_tree_form.specs.Form.{tree_form};
     ghost use Rattle.ellen_tree.specs.ProvedLaws.{tree_laws};
 
     type Search = TreeSearch;

@@ -4,13 +4,13 @@ ghost use Rattle.normal_traits.specs.declared.form.Found.TheVariants as found;
 ghost use Rattle.fast_slow_engine.specs.declared.phases.Phase.TheVariants.{Generate};
 ghost use Rattle.fast_slow_engine.specs.declared.phases.Generating.TheVariants.{Search};
 ghost use Rattle.fast_slow_engine.specs.PhaseTable.{in_phase, searched};
-ghost use Rattle.ellen_tree_laws.specs.Search.{AboveInRange, Asks, InRange, IsReady, begun};
-ghost use Rattle.ellen_tree_laws.specs.Form.{tree_form};
+ghost use Rattle.ellen_tree_form.specs.Search.{AboveInRange, Asks, InRange, IsReady, begun};
+ghost use Rattle.ellen_tree_form.specs.Form.{tree_form};
 
 use crate::deciding::{leaf_of, met_again, met_leaf};
 use crate::tree::EllenTree;
 use crate::words::{child_at, is_internal, key_at, leaf_key_at, leaf_value_at, update_at};
-use ellen_tree_laws::{Passed, TreeSearch};
+use ellen_tree_form::{Passed, TreeSearch};
 use lin_report::Op;
 use normal_traits::Found;
 use tree_help::words::value_of;

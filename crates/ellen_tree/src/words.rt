@@ -1,6 +1,6 @@
 //! The places of a node, by its block, and of a leaf, by its reference.
 ghost use Rattle.std.specs.Prelude.{◌≡◌, ◌<◌, ◌^◌};
-ghost use Rattle.ellen_tree_laws.specs.Words.{child_at, is_internal, key_at, leaf_key_at, leaf_value_at, update_at};
+ghost use Rattle.ellen_tree_form.specs.Words.{child_at, is_internal, key_at, leaf_key_at, leaf_value_at, update_at};
 
 use node_arena::places::{NODE_KEY, NODE_VALUE};
 use node_arena::{node_place, place_of};

@@ -1,7 +1,7 @@
 //! The wrap-up of a list that stopped: the help of its own flag.
 ghost use Rattle.std.specs.Prelude.{◌≡◌, ℕ};
 ghost use Rattle.tree_help.specs.Helps.{help_fed};
-ghost use Rattle.ellen_tree_laws.specs.Search.{WrapsUp, begin_wrap_of, flag_of, sets_flag, wrap_begun_of, wrapped_by};
+ghost use Rattle.ellen_tree_form.specs.Search.{WrapsUp, begin_wrap_of, flag_of, sets_flag, wrap_begun_of, wrapped_by};
 
 use crate::offers::may_list;
 use lin_report::calls::{REM, SET};

@@ -19,13 +19,13 @@ use Rattle.node_arena.specs.MemoryMap.{block_at, node_place, reference_to}
 use Rattle.node_arena.proofs.PlaceLemmas.{block_at-node_place, block-reference_to}
 use Rattle.normal_traits.specs.World.{World, StandsFor, RightSince, held_after, first_changes}
 use Rattle.normal_traits.specs.Laws.{IsFixed}
-use Rattle.ellen_tree_laws.specs.declared.states.Passed.{Passed}
-use Rattle.ellen_tree_laws.specs.Words.{is_set, is_rem, leaf_key_at, leaf_value_at}
-use Rattle.ellen_tree_laws.specs.Search.{leaf_of, told}
-use Rattle.ellen_tree_laws.specs.Shape.{Shape}
-use Rattle.ellen_tree_laws.specs.Knowledge.{HasLeaf}
-use Rattle.ellen_tree_laws.specs.Form.{tree_form}
-use Rattle.ellen_tree_laws.proofs.Later.{same_later}
+use Rattle.ellen_tree_form.specs.declared.states.Passed.{Passed}
+use Rattle.ellen_tree_form.specs.Words.{is_set, is_rem, leaf_key_at, leaf_value_at}
+use Rattle.ellen_tree_form.specs.Search.{leaf_of, told}
+use Rattle.ellen_tree_form.specs.Shape.{Shape}
+use Rattle.ellen_tree_form.specs.Knowledge.{HasLeaf}
+use Rattle.ellen_tree_form.specs.Form.{tree_form}
+use Rattle.ellen_tree_form.proofs.Later.{same_later}
 use Rattle.ellen_tree_steps.proofs.Lasting.{leaf_plain}
 
 -- ---- the map

@@ -13,16 +13,16 @@ use Rattle.tree_help.specs.declared.states.Help.{Help}
 use Rattle.tree_help.specs.declared.states.Helping.{Helping}
 use Rattle.tree_help.specs.declared.states.Helping.TheVariants.{Running, Finished, BackedOut}
 use Rattle.tree_help.specs.Helps.{Fits, help_fed}
-use Rattle.ellen_tree_laws.specs.declared.states.TreeSearch.{TreeSearch}
-use Rattle.ellen_tree_laws.specs.declared.states.TreeSearch.TheVariants.{AtUpdate, AtKey, AtChild, AtLeaf, Again, AtValue, SetReady, RemReady, Helps}
-use Rattle.ellen_tree_laws.specs.Words.{child_at, update_at, leaf_key_at}
-use Rattle.ellen_tree_laws.specs.Search.{Asks, asked, fed, leaf_of, after_help}
-use Rattle.ellen_tree_laws.specs.Shape.{Shape}
-use Rattle.ellen_tree_laws.specs.Knowledge.{Knows, Follows}
-use Rattle.ellen_tree_laws.specs.Form.{tree_form}
-use Rattle.ellen_tree_laws.proofs.Offers.{key_limit}
-use Rattle.ellen_tree_laws.proofs.Later.{later}
-use Rattle.ellen_tree_laws.proofs.Spares.{spares}
+use Rattle.ellen_tree_form.specs.declared.states.TreeSearch.{TreeSearch}
+use Rattle.ellen_tree_form.specs.declared.states.TreeSearch.TheVariants.{AtUpdate, AtKey, AtChild, AtLeaf, Again, AtValue, SetReady, RemReady, Helps}
+use Rattle.ellen_tree_form.specs.Words.{child_at, update_at, leaf_key_at}
+use Rattle.ellen_tree_form.specs.Search.{Asks, asked, fed, leaf_of, after_help}
+use Rattle.ellen_tree_form.specs.Shape.{Shape}
+use Rattle.ellen_tree_form.specs.Knowledge.{Knows, Follows}
+use Rattle.ellen_tree_form.specs.Form.{tree_form}
+use Rattle.ellen_tree_form.proofs.Offers.{key_limit}
+use Rattle.ellen_tree_form.proofs.Later.{later}
+use Rattle.ellen_tree_form.proofs.Spares.{spares}
 use Rattle.ellen_tree_search.proofs.KnowsKept.{knows_kept}
 use Rattle.ellen_tree_search.proofs.Helping.{help_follows, help_fits_on}
 use Rattle.ellen_tree_search.proofs.Passing.{update_fed, child_fed}

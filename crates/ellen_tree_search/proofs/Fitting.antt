@@ -18,11 +18,11 @@ use Rattle.tree_help.specs.declared.states.Helping.{Helping}
 use Rattle.tree_help.specs.declared.states.Helping.TheVariants.{Running, Finished, BackedOut}
 use Rattle.tree_help.specs.Updates.{state_of, is_clean}
 use Rattle.tree_help.specs.Helps.{help_fed}
-use Rattle.ellen_tree_laws.specs.declared.states.TreeSearch.{TreeSearch}
-use Rattle.ellen_tree_laws.specs.declared.states.TreeSearch.TheVariants.{AtUpdate, AtKey, AtChild, AtLeaf, Again, AtValue, SetReady, RemReady, Helps}
-use Rattle.ellen_tree_laws.specs.declared.states.Passed.{Passed}
-use Rattle.ellen_tree_laws.specs.Words.{update_at, is_set, is_rem, may_list}
-use Rattle.ellen_tree_laws.specs.Search.{fed, helped, set_at, rem_at, met_leaf, told, leaf_of, after_help, wrap_begun_of, wrapped_by, flags}
+use Rattle.ellen_tree_form.specs.declared.states.TreeSearch.{TreeSearch}
+use Rattle.ellen_tree_form.specs.declared.states.TreeSearch.TheVariants.{AtUpdate, AtKey, AtChild, AtLeaf, Again, AtValue, SetReady, RemReady, Helps}
+use Rattle.ellen_tree_form.specs.declared.states.Passed.{Passed}
+use Rattle.ellen_tree_form.specs.Words.{update_at, is_set, is_rem, may_list}
+use Rattle.ellen_tree_form.specs.Search.{fed, helped, set_at, rem_at, met_leaf, told, leaf_of, after_help, wrap_begun_of, wrapped_by, flags}
 use Rattle.client_lemmas.proofs.Outcomes.{either}
 
 -- what a search found fits

@@ -25,17 +25,17 @@ use Rattle.tree_help.specs.declared.states.HelpMark.TheVariants as mark
 use Rattle.tree_help.specs.declared.states.TheConstants.{CLEAN, DELETING}
 use Rattle.tree_help.specs.Updates.{state_of, note_at, place_in, flag_place}
 use Rattle.tree_help.specs.Helps.{Fits, NamesBlock, has_mark, is_flag_of, insert_asked, insert_next, delete_asked, delete_next, mark_asked, mark_fed, help_asked, help_fed}
-use Rattle.ellen_tree_laws.specs.Words.{child_at, update_at, is_rem}
-use Rattle.ellen_tree_laws.specs.Shape.{Shape, Flagged, HasFlag, HasMark, is_node}
-use Rattle.ellen_tree_laws.specs.Knowledge.{Follows, FollowsInsert, FollowsDelete, FollowsMark, IsFlag}
-use Rattle.ellen_tree_laws.specs.Form.{tree_form}
-use Rattle.ellen_tree_laws.proofs.Plain.{marked_value}
-use Rattle.ellen_tree_laws.proofs.Owners.{up_value}
-use Rattle.ellen_tree_laws.proofs.Swings.{removes}
-use Rattle.ellen_tree_laws.proofs.WrapFed.{insert_well, delete_well}
-use Rattle.ellen_tree_laws.proofs.Later.{Later}
-use Rattle.ellen_tree_laws.proofs.Spares.{Spares}
-use Rattle.ellen_tree_laws.proofs.Kept.{follows_later}
+use Rattle.ellen_tree_form.specs.Words.{child_at, update_at, is_rem}
+use Rattle.ellen_tree_form.specs.Shape.{Shape, Flagged, HasFlag, HasMark, is_node}
+use Rattle.ellen_tree_form.specs.Knowledge.{Follows, FollowsInsert, FollowsDelete, FollowsMark, IsFlag}
+use Rattle.ellen_tree_form.specs.Form.{tree_form}
+use Rattle.ellen_tree_form.proofs.Plain.{marked_value}
+use Rattle.ellen_tree_form.proofs.Owners.{up_value}
+use Rattle.ellen_tree_form.proofs.Swings.{removes}
+use Rattle.ellen_tree_form.proofs.WrapFed.{insert_well, delete_well}
+use Rattle.ellen_tree_form.proofs.Later.{Later}
+use Rattle.ellen_tree_form.proofs.Spares.{Spares}
+use Rattle.ellen_tree_form.proofs.Kept.{follows_later}
 use Rattle.ellen_tree_steps.proofs.Waiting.{flag_states}
 use Rattle.ellen_tree_search.proofs.Known.{flag_is}
 

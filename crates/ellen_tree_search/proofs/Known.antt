@@ -13,12 +13,12 @@ use Rattle.tree_help.specs.declared.states.HelpMark.TheVariants as mark
 use Rattle.tree_help.specs.declared.states.TheConstants.{INSERTING, DELETING, MARKED}
 use Rattle.tree_help.specs.Updates.{state_of}
 use Rattle.tree_help.specs.Helps.{Fits, flag_block, help_of}
-use Rattle.ellen_tree_laws.specs.Words.{update_at, is_set}
-use Rattle.ellen_tree_laws.specs.Search.{flag_of}
-use Rattle.ellen_tree_laws.specs.Shape.{Shape, HasFlag, HasMark, IsFlagger, Inserts, Removes, is_node, flags_at, flag_state}
-use Rattle.ellen_tree_laws.specs.Knowledge.{Follows, IsFlag, IsKnown}
-use Rattle.ellen_tree_laws.proofs.Plain.{marked_value, both_ops}
-use Rattle.ellen_tree_laws.proofs.Owners.{up_value}
+use Rattle.ellen_tree_form.specs.Words.{update_at, is_set}
+use Rattle.ellen_tree_form.specs.Search.{flag_of}
+use Rattle.ellen_tree_form.specs.Shape.{Shape, HasFlag, HasMark, IsFlagger, Inserts, Removes, is_node, flags_at, flag_state}
+use Rattle.ellen_tree_form.specs.Knowledge.{Follows, IsFlag, IsKnown}
+use Rattle.ellen_tree_form.proofs.Plain.{marked_value, both_ops}
+use Rattle.ellen_tree_form.proofs.Owners.{up_value}
 use Rattle.ellen_tree_steps.proofs.Waiting.{up_alive}
 
 -- ---- help of a word by its state

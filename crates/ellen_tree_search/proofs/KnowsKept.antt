@@ -10,25 +10,25 @@ use Rattle.normal_traits.specs.World.{World}
 use Rattle.normal_traits.specs.Steps.{with_word, IsStep}
 use Rattle.tree_help.specs.declared.states.TheConstants.{CLEAN, INSERTING, DELETING, MARKED}
 use Rattle.tree_help.specs.Updates.{state_of, inner}
-use Rattle.ellen_tree_laws.specs.declared.states.TreeSearch.{TreeSearch}
-use Rattle.ellen_tree_laws.specs.declared.states.TreeSearch.TheVariants.{AtUpdate, AtKey, AtChild, AtLeaf, Again, AtValue, SetReady, RemReady, Helps}
-use Rattle.ellen_tree_laws.specs.declared.states.Passed.{Passed}
-use Rattle.ellen_tree_laws.specs.Words.{is_internal, child_at, update_at, leaf_key_at, leaf_value_at, is_set}
-use Rattle.ellen_tree_laws.specs.Search.{leaf_of}
-use Rattle.ellen_tree_laws.specs.Shape.{Shape, is_node, is_left, flag_state}
-use Rattle.ellen_tree_laws.specs.Knowledge.{Knows, Learnt, Reaches, IsKnown, HasPassed, CameFrom, IsAt, HasLeaf, SawUpdate}
-use Rattle.ellen_tree_laws.specs.Form.{tree_form}
-use Rattle.ellen_tree_laws.proofs.Plain.{both_ops, marked_value}
-use Rattle.ellen_tree_laws.proofs.Owners.{up_value}
-use Rattle.ellen_tree_laws.proofs.Ways as swung
-use Rattle.ellen_tree_laws.proofs.InsertWays as linked
-use Rattle.ellen_tree_laws.proofs.Ways.{child_same, child_update, field_small}
-use Rattle.ellen_tree_laws.proofs.Wraps.{with_other}
-use Rattle.ellen_tree_laws.proofs.Asks.{node_word}
-use Rattle.ellen_tree_laws.proofs.Offers.{key_limit}
-use Rattle.ellen_tree_laws.proofs.Later.{Later, later, seen_later, passed_on}
-use Rattle.ellen_tree_laws.proofs.Spares.{Spares, spares}
-use Rattle.ellen_tree_laws.proofs.Kept.{follows_later}
+use Rattle.ellen_tree_form.specs.declared.states.TreeSearch.{TreeSearch}
+use Rattle.ellen_tree_form.specs.declared.states.TreeSearch.TheVariants.{AtUpdate, AtKey, AtChild, AtLeaf, Again, AtValue, SetReady, RemReady, Helps}
+use Rattle.ellen_tree_form.specs.declared.states.Passed.{Passed}
+use Rattle.ellen_tree_form.specs.Words.{is_internal, child_at, update_at, leaf_key_at, leaf_value_at, is_set}
+use Rattle.ellen_tree_form.specs.Search.{leaf_of}
+use Rattle.ellen_tree_form.specs.Shape.{Shape, is_node, is_left, flag_state}
+use Rattle.ellen_tree_form.specs.Knowledge.{Knows, Learnt, Reaches, IsKnown, HasPassed, CameFrom, IsAt, HasLeaf, SawUpdate}
+use Rattle.ellen_tree_form.specs.Form.{tree_form}
+use Rattle.ellen_tree_form.proofs.Plain.{both_ops, marked_value}
+use Rattle.ellen_tree_form.proofs.Owners.{up_value}
+use Rattle.ellen_tree_form.proofs.Ways as swung
+use Rattle.ellen_tree_form.proofs.InsertWays as linked
+use Rattle.ellen_tree_form.proofs.Ways.{child_same, child_update, field_small}
+use Rattle.ellen_tree_form.proofs.Wraps.{with_other}
+use Rattle.ellen_tree_form.proofs.Asks.{node_word}
+use Rattle.ellen_tree_form.proofs.Offers.{key_limit}
+use Rattle.ellen_tree_form.proofs.Later.{Later, later, seen_later, passed_on}
+use Rattle.ellen_tree_form.proofs.Spares.{Spares, spares}
+use Rattle.ellen_tree_form.proofs.Kept.{follows_later}
 use Rattle.ellen_tree_steps.specs.Effects.{Links, Swings, Effect}
 use Rattle.ellen_tree_steps.specs.Effects.Effect.{quiet, sets, links, marks, swings, ends}
 use Rattle.ellen_tree_steps.proofs.Lasting.{node_later, key_later, left_later, leaf_field_later}

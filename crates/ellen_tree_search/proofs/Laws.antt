@@ -2,14 +2,14 @@
 use Rattle.std.proofs.Common.{arith}
 use Rattle.normal_traits.specs.Laws.{Laws}
 use Rattle.tree_help.specs.Helps.{help_fed}
-use Rattle.ellen_tree_laws.specs.Form.{tree_form}
-use Rattle.ellen_tree_laws.proofs.Opens as opening
-use Rattle.ellen_tree_laws.proofs.Asks as asking
-use Rattle.ellen_tree_laws.proofs.Offers as offering
-use Rattle.ellen_tree_laws.proofs.Kept as keeping
-use Rattle.ellen_tree_laws.proofs.WrapFed as ending
-use Rattle.ellen_tree_laws.proofs.Plain as plain
-use Rattle.ellen_tree_laws.proofs.Wraps as wraps
+use Rattle.ellen_tree_form.specs.Form.{tree_form}
+use Rattle.ellen_tree_form.proofs.Opens as opening
+use Rattle.ellen_tree_form.proofs.Asks as asking
+use Rattle.ellen_tree_form.proofs.Offers as offering
+use Rattle.ellen_tree_form.proofs.Kept as keeping
+use Rattle.ellen_tree_form.proofs.WrapFed as ending
+use Rattle.ellen_tree_form.proofs.Plain as plain
+use Rattle.ellen_tree_form.proofs.Wraps as wraps
 use Rattle.ellen_tree_steps.proofs.Steps as steps
 use Rattle.ellen_tree_search.proofs.KnowsKept as knowing
 use Rattle.ellen_tree_search.proofs.Fed as feeding

@@ -13,14 +13,14 @@ use Rattle.normal_traits.specs.World.{World}
 use Rattle.normal_traits.specs.Laws.{FoundWell}
 use Rattle.tree_help.specs.declared.states.TheConstants.{CLEAN, MARKED}
 use Rattle.tree_help.specs.Updates.{state_of, is_clean}
-use Rattle.ellen_tree_laws.specs.declared.states.TreeSearch.{TreeSearch}
-use Rattle.ellen_tree_laws.specs.declared.states.TreeSearch.TheVariants.{AtLeaf, Again, AtValue, RemReady}
-use Rattle.ellen_tree_laws.specs.declared.states.Passed.{Passed}
-use Rattle.ellen_tree_laws.specs.Words.{update_at, leaf_key_at, is_set, is_rem}
-use Rattle.ellen_tree_laws.specs.Search.{leaf_of, helped, set_at, rem_at, met_leaf, met_again, told, InRange, AboveInRange}
-use Rattle.ellen_tree_laws.specs.Shape.{Shape}
-use Rattle.ellen_tree_laws.specs.Knowledge.{Knows, Learnt, HasPassed, HasLeaf, CameFrom}
-use Rattle.ellen_tree_laws.specs.Form.{tree_form}
+use Rattle.ellen_tree_form.specs.declared.states.TreeSearch.{TreeSearch}
+use Rattle.ellen_tree_form.specs.declared.states.TreeSearch.TheVariants.{AtLeaf, Again, AtValue, RemReady}
+use Rattle.ellen_tree_form.specs.declared.states.Passed.{Passed}
+use Rattle.ellen_tree_form.specs.Words.{update_at, leaf_key_at, is_set, is_rem}
+use Rattle.ellen_tree_form.specs.Search.{leaf_of, helped, set_at, rem_at, met_leaf, met_again, told, InRange, AboveInRange}
+use Rattle.ellen_tree_form.specs.Shape.{Shape}
+use Rattle.ellen_tree_form.specs.Knowledge.{Knows, Learnt, HasPassed, HasLeaf, CameFrom}
+use Rattle.ellen_tree_form.specs.Form.{tree_form}
 use Rattle.ellen_tree_search.proofs.Known.{help_fits, marked_now}
 use Rattle.ellen_tree_search.proofs.Answers.{answers}
 

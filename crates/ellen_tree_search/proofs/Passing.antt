@@ -9,16 +9,16 @@ use Rattle.lin_report.specs.Commands.{KEY_LIMIT}
 use Rattle.lin_report.specs.Object.{map_object}
 use Rattle.normal_traits.specs.World.{Change, World, held_after}
 use Rattle.tree_help.specs.Updates.{inner}
-use Rattle.ellen_tree_laws.specs.declared.states.TreeSearch.{TreeSearch}
-use Rattle.ellen_tree_laws.specs.declared.states.TreeSearch.TheVariants.{AtUpdate, AtChild, AtLeaf}
-use Rattle.ellen_tree_laws.specs.declared.states.Passed.{Passed}
-use Rattle.ellen_tree_laws.specs.Words.{is_internal, child_at, update_at, key_at}
-use Rattle.ellen_tree_laws.specs.Search.{Asks, came_to, leaf_of}
-use Rattle.ellen_tree_laws.specs.Shape.{Shape, IsBelow, is_node, made_node, child_of, is_left, way, OnWay}
-use Rattle.ellen_tree_laws.specs.Shape.OnWay.{below}
-use Rattle.ellen_tree_laws.specs.Knowledge.{Learnt, Reaches, WasTold, HasPassed, IsAt, SawUpdate}
-use Rattle.ellen_tree_laws.specs.Knowledge.Reaches.{on, off, told}
-use Rattle.ellen_tree_laws.proofs.Ways.{inner_same, inner_is, inner_block, leaf_names, told_now}
+use Rattle.ellen_tree_form.specs.declared.states.TreeSearch.{TreeSearch}
+use Rattle.ellen_tree_form.specs.declared.states.TreeSearch.TheVariants.{AtUpdate, AtChild, AtLeaf}
+use Rattle.ellen_tree_form.specs.declared.states.Passed.{Passed}
+use Rattle.ellen_tree_form.specs.Words.{is_internal, child_at, update_at, key_at}
+use Rattle.ellen_tree_form.specs.Search.{Asks, came_to, leaf_of}
+use Rattle.ellen_tree_form.specs.Shape.{Shape, IsBelow, is_node, made_node, child_of, is_left, way, OnWay}
+use Rattle.ellen_tree_form.specs.Shape.OnWay.{below}
+use Rattle.ellen_tree_form.specs.Knowledge.{Learnt, Reaches, WasTold, HasPassed, IsAt, SawUpdate}
+use Rattle.ellen_tree_form.specs.Knowledge.Reaches.{on, off, told}
+use Rattle.ellen_tree_form.proofs.Ways.{inner_same, inner_is, inner_block, leaf_names, told_now}
 use Rattle.ellen_tree_steps.proofs.Waiting.{brought}
 use Rattle.ellen_tree_search.proofs.Known.{known_now}
 use Rattle.client_lemmas.proofs.Growing.{first_all}

@@ -2,7 +2,7 @@
 #![tactic(auto)]
 
 ghost use Rattle.normal_traits.specs.Laws.{Laws};
-ghost use Rattle.ellen_tree_laws.specs.Form.{tree_form};
+ghost use Rattle.ellen_tree_form.specs.Form.{tree_form};
 
 /// The tree meets every law of a structure in normalized form.
 pub fn every_law()

@@ -10,15 +10,15 @@ use Rattle.node_arena.proofs.PlaceLemmas.{node_place-reference_to}
 use Rattle.normal_traits.specs.World.{Change, World, held_after}
 use Rattle.tree_help.specs.declared.states.TheConstants.{MARKED}
 use Rattle.tree_help.specs.Updates.{state_of, inner}
-use Rattle.ellen_tree_laws.specs.Words.{child_at, update_at, key_at, leaf_key_at, is_internal}
-use Rattle.ellen_tree_laws.specs.Shape.{Shape, Ordered, OnWay, is_node, made_node, child_of, is_left, way, told_by, keys, children, IsLeaf, IsNamed, IsBelow}
-use Rattle.ellen_tree_laws.specs.Shape.OnWay.{root, below}
-use Rattle.ellen_tree_laws.specs.Knowledge.{Reaches}
-use Rattle.ellen_tree_laws.specs.Knowledge.Reaches.{on, off, told}
-use Rattle.ellen_tree_laws.proofs.Ways.{inner_same, inner_is, inner_block, leaf_names}
-use Rattle.ellen_tree_laws.proofs.Asks.{node_word}
-use Rattle.ellen_tree_laws.proofs.Later.{Later}
-use Rattle.ellen_tree_laws.proofs.Spares.{Spares}
+use Rattle.ellen_tree_form.specs.Words.{child_at, update_at, key_at, leaf_key_at, is_internal}
+use Rattle.ellen_tree_form.specs.Shape.{Shape, Ordered, OnWay, is_node, made_node, child_of, is_left, way, told_by, keys, children, IsLeaf, IsNamed, IsBelow}
+use Rattle.ellen_tree_form.specs.Shape.OnWay.{root, below}
+use Rattle.ellen_tree_form.specs.Knowledge.{Reaches}
+use Rattle.ellen_tree_form.specs.Knowledge.Reaches.{on, off, told}
+use Rattle.ellen_tree_form.proofs.Ways.{inner_same, inner_is, inner_block, leaf_names}
+use Rattle.ellen_tree_form.proofs.Asks.{node_word}
+use Rattle.ellen_tree_form.proofs.Later.{Later}
+use Rattle.ellen_tree_form.proofs.Spares.{Spares}
 use Rattle.ellen_tree_steps.proofs.Told.{was_told_later}
 use Rattle.ellen_tree_steps.proofs.Lasting.{node_later, key_later, left_later, leaf_field_later, told_later}
 

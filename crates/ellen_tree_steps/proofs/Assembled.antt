@@ -8,11 +8,11 @@ use Rattle.lin_report.specs.Object.{map_object}
 use Rattle.normal_traits.specs.World.{Listed, Change, World, Among, Observes, held_after}
 use Rattle.tree_help.specs.declared.states.TheConstants.{MARKED}
 use Rattle.tree_help.specs.Updates.{state_of, inner}
-use Rattle.ellen_tree_laws.specs.Words.{child_at, update_at, is_internal}
-use Rattle.ellen_tree_laws.specs.Shape.{Shape, Ordered, IsStored, IsNamed, Flagged, Changed, WasMade, EachChanges, is_node, keys, children, told_by}
-use Rattle.ellen_tree_laws.proofs.Later.{Later}
-use Rattle.ellen_tree_laws.proofs.Spares.{Spares}
-use Rattle.ellen_tree_laws.proofs.Kept.{flagged_later}
+use Rattle.ellen_tree_form.specs.Words.{child_at, update_at, is_internal}
+use Rattle.ellen_tree_form.specs.Shape.{Shape, Ordered, IsStored, IsNamed, Flagged, Changed, WasMade, EachChanges, is_node, keys, children, told_by}
+use Rattle.ellen_tree_form.proofs.Later.{Later}
+use Rattle.ellen_tree_form.proofs.Spares.{Spares}
+use Rattle.ellen_tree_form.proofs.Kept.{flagged_later}
 use Rattle.ellen_tree_steps.proofs.Lasting.{named_later}
 use Rattle.ellen_tree_steps.proofs.Made.{was_made_later}
 use Rattle.ellen_tree_steps.proofs.Asides.{ordered_stays, living_stays, tells_stays}

@@ -8,11 +8,11 @@ use Rattle.node_arena.proofs.PlaceLemmas.{field_at-block_place, field_at-node_pl
 use Rattle.normal_traits.specs.World.{World}
 use Rattle.normal_traits.specs.Steps.{with_word}
 use Rattle.tree_help.specs.Updates.{inner}
-use Rattle.ellen_tree_laws.specs.Words.{is_internal, child_at, child_field, leaf_key_at, leaf_value_at}
-use Rattle.ellen_tree_laws.specs.Shape.{Ordered, keys, children, child_of, told_by}
-use Rattle.ellen_tree_laws.proofs.Ways.{field_small, inner_is, inner_block}
-use Rattle.ellen_tree_laws.proofs.Wraps.{with_here, with_other}
-use Rattle.ellen_tree_laws.proofs.SwingLeft.{Goes}
+use Rattle.ellen_tree_form.specs.Words.{is_internal, child_at, child_field, leaf_key_at, leaf_value_at}
+use Rattle.ellen_tree_form.specs.Shape.{Ordered, keys, children, child_of, told_by}
+use Rattle.ellen_tree_form.proofs.Ways.{field_small, inner_is, inner_block}
+use Rattle.ellen_tree_form.proofs.Wraps.{with_here, with_other}
+use Rattle.ellen_tree_form.proofs.SwingLeft.{Goes}
 use Rattle.ellen_tree_steps.proofs.Asides.{ordered_same}
 use Rattle.ellen_tree_steps.proofs.ChildWords.{child_cases}
 

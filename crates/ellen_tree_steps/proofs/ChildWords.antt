@@ -7,14 +7,14 @@ use Rattle.lin_report.specs.declared.calls.Reply.TheVariants.{Yes}
 use Rattle.normal_traits.specs.World.{Listed, World, Among}
 use Rattle.normal_traits.specs.Steps.{with_word}
 use Rattle.tree_help.specs.Updates.{state_of}
-use Rattle.ellen_tree_laws.specs.Words.{child_at, update_at}
-use Rattle.ellen_tree_laws.specs.Shape.{Shape, Flagged, Inserts, InsertWaits, Removes, RemoveStands, Changed, IsStored, IsBelow, IsUp, IsMarked, OnWay, noted, is_node, child_of, is_left, way}
-use Rattle.ellen_tree_laws.proofs.Plain.{marked_value}
-use Rattle.ellen_tree_laws.proofs.Ways.{child_same, child_update}
-use Rattle.ellen_tree_laws.proofs.Wraps.{with_here, with_other}
-use Rattle.ellen_tree_laws.proofs.Later.{Later}
-use Rattle.ellen_tree_laws.proofs.Spares.{Spares}
-use Rattle.ellen_tree_laws.proofs.Kept.{marked_later}
+use Rattle.ellen_tree_form.specs.Words.{child_at, update_at}
+use Rattle.ellen_tree_form.specs.Shape.{Shape, Flagged, Inserts, InsertWaits, Removes, RemoveStands, Changed, IsStored, IsBelow, IsUp, IsMarked, OnWay, noted, is_node, child_of, is_left, way}
+use Rattle.ellen_tree_form.proofs.Plain.{marked_value}
+use Rattle.ellen_tree_form.proofs.Ways.{child_same, child_update}
+use Rattle.ellen_tree_form.proofs.Wraps.{with_here, with_other}
+use Rattle.ellen_tree_form.proofs.Later.{Later}
+use Rattle.ellen_tree_form.proofs.Spares.{Spares}
+use Rattle.ellen_tree_form.proofs.Kept.{marked_later}
 use Rattle.ellen_tree_steps.proofs.Lasting.{InsertFate, RemoveFate, note_later, below_later, left_later}
 use Rattle.ellen_tree_steps.proofs.Stored.{state_later, stored_later}
 use Rattle.ellen_tree_steps.proofs.Waiting.{same_up, up_dirty, up_alive, insert_new, insert_waits_by, remove_stands_by}

@@ -19,18 +19,18 @@ use Rattle.tree_help.specs.declared.states.HelpDelete.TheVariants as delete
 use Rattle.tree_help.specs.declared.states.TheConstants.{CLEAN, MARKED}
 use Rattle.tree_help.specs.Updates.{state_of, block_of, updated, inner}
 use Rattle.tree_help.specs.Helps.{flag_block, insert_asked, delete_asked}
-use Rattle.ellen_tree_laws.specs.Words.{child_at, child_field, update_at, key_at, is_set, is_rem}
-use Rattle.ellen_tree_laws.specs.Search.{flag_of}
-use Rattle.ellen_tree_laws.specs.Shape.{Shape, Flagged, Removes, RemoveStands, Changed, IsGone, IsGivenUp, IsMarked, IsUp, noted, flags_at, flag_over, adds_beside, cause_of, cause_here}
-use Rattle.ellen_tree_laws.specs.Knowledge.{FollowsInsert, FollowsDelete, IsFlag}
-use Rattle.ellen_tree_laws.specs.Form.{tree_form}
-use Rattle.ellen_tree_laws.proofs.Plain.{update_same, both_ops, marked_value}
-use Rattle.ellen_tree_laws.proofs.Ways.{field_small, child_same}
-use Rattle.ellen_tree_laws.proofs.Wraps.{own_block, no_child}
-use Rattle.ellen_tree_laws.proofs.Owners.{adds_own, swing_stands, child_is, up_block}
-use Rattle.ellen_tree_laws.proofs.Swings.{removes, swing_yes}
-use Rattle.ellen_tree_laws.proofs.Links.{link_yes, link_waits}
-use Rattle.ellen_tree_laws.proofs.Asks.{inserts}
+use Rattle.ellen_tree_form.specs.Words.{child_at, child_field, update_at, key_at, is_set, is_rem}
+use Rattle.ellen_tree_form.specs.Search.{flag_of}
+use Rattle.ellen_tree_form.specs.Shape.{Shape, Flagged, Removes, RemoveStands, Changed, IsGone, IsGivenUp, IsMarked, IsUp, noted, flags_at, flag_over, adds_beside, cause_of, cause_here}
+use Rattle.ellen_tree_form.specs.Knowledge.{FollowsInsert, FollowsDelete, IsFlag}
+use Rattle.ellen_tree_form.specs.Form.{tree_form}
+use Rattle.ellen_tree_form.proofs.Plain.{update_same, both_ops, marked_value}
+use Rattle.ellen_tree_form.proofs.Ways.{field_small, child_same}
+use Rattle.ellen_tree_form.proofs.Wraps.{own_block, no_child}
+use Rattle.ellen_tree_form.proofs.Owners.{adds_own, swing_stands, child_is, up_block}
+use Rattle.ellen_tree_form.proofs.Swings.{removes, swing_yes}
+use Rattle.ellen_tree_form.proofs.Links.{link_yes, link_waits}
+use Rattle.ellen_tree_form.proofs.Asks.{inserts}
 use Rattle.ellen_tree_steps.specs.Effects.{IsQuiet, IsBeside, Effect}
 use Rattle.ellen_tree_steps.specs.Effects.Effect.{quiet, links, marks, swings, ends}
 

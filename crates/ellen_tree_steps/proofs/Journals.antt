@@ -3,10 +3,10 @@ use Rattle.std.proofs.Common.{◌≡◌, ◌≢◌, ℕ, zero, suc, refl, sym, a
 use Rattle.std.specs.Prelude.{AllPairs}
 use Rattle.normal_traits.specs.World.{Listed, Maker, Won, Cause, World, Among}
 use Rattle.normal_traits.specs.World.Maker.{By, Beside}
-use Rattle.ellen_tree_laws.specs.Shape.{Shape, Flagged, IsFlagger, IsBy, IsSpent, IsOver, flag_won, cause_here}
-use Rattle.ellen_tree_laws.proofs.Later.{Later}
-use Rattle.ellen_tree_laws.proofs.Spares.{Spares}
-use Rattle.ellen_tree_laws.proofs.Kept.{flagged_later}
+use Rattle.ellen_tree_form.specs.Shape.{Shape, Flagged, IsFlagger, IsBy, IsSpent, IsOver, flag_won, cause_here}
+use Rattle.ellen_tree_form.proofs.Later.{Later}
+use Rattle.ellen_tree_form.proofs.Spares.{Spares}
+use Rattle.ellen_tree_form.proofs.Kept.{flagged_later}
 use Rattle.ellen_tree_steps.specs.Effects.{IsBeside}
 use Rattle.ellen_tree_steps.proofs.Made.{spent_later}
 use Rattle.client_lemmas.proofs.Growing.{each_more, pairs_more}

@@ -5,13 +5,13 @@ use Rattle.word_fields.proofs.VersionedLemmas.{value-changed, cleared-changed}
 use Rattle.normal_traits.specs.World.{Listed, World}
 use Rattle.tree_help.specs.declared.states.TheConstants.{CLEAN}
 use Rattle.tree_help.specs.Updates.{state_of, updated}
-use Rattle.ellen_tree_laws.specs.Words.{update_at}
-use Rattle.ellen_tree_laws.specs.Shape.{Shape, Flagged, IsFlagger, Inserts, InsertWaits, Removes, RemoveStands, Changed, IsGone, IsUp, IsMarked, IsOver, flags_at, flag_state, noted, is_node}
-use Rattle.ellen_tree_laws.proofs.Plain.{both_ops, update_same, marked_value}
-use Rattle.ellen_tree_laws.proofs.Wraps.{state_below}
-use Rattle.ellen_tree_laws.proofs.Later.{Later}
-use Rattle.ellen_tree_laws.proofs.Spares.{Spares}
-use Rattle.ellen_tree_laws.proofs.Kept.{flagged_later}
+use Rattle.ellen_tree_form.specs.Words.{update_at}
+use Rattle.ellen_tree_form.specs.Shape.{Shape, Flagged, IsFlagger, Inserts, InsertWaits, Removes, RemoveStands, Changed, IsGone, IsUp, IsMarked, IsOver, flags_at, flag_state, noted, is_node}
+use Rattle.ellen_tree_form.proofs.Plain.{both_ops, update_same, marked_value}
+use Rattle.ellen_tree_form.proofs.Wraps.{state_below}
+use Rattle.ellen_tree_form.proofs.Later.{Later}
+use Rattle.ellen_tree_form.proofs.Spares.{Spares}
+use Rattle.ellen_tree_form.proofs.Kept.{flagged_later}
 use Rattle.ellen_tree_steps.specs.Effects.{Ends}
 use Rattle.ellen_tree_steps.proofs.Lasting.{flagger_later}
 use Rattle.ellen_tree_steps.proofs.Waiting.{same_flag, same_up, up_dirty, insert_unmade, remove_unmade}

@@ -6,14 +6,14 @@ use Rattle.word_fields.specs.Versioned.{versioned_value, versioned_version}
 use Rattle.lin_report.specs.declared.calls.Reply.TheVariants.{Yes}
 use Rattle.node_arena.specs.MemoryMap.{reference_to}
 use Rattle.normal_traits.specs.World.{Listed, World, Change}
-use Rattle.ellen_tree_laws.specs.Words.{is_internal, child_at, update_at, leaf_value_at, is_set}
-use Rattle.ellen_tree_laws.specs.Search.{leaf_on, greater}
-use Rattle.ellen_tree_laws.specs.Shape.{Shape, Flagged, Changed, IsFlagger, IsStored, IsLeaf, WasMade, OnWay, is_node, made_node, brings, TOP}
-use Rattle.ellen_tree_laws.proofs.Plain.{both_ops}
-use Rattle.ellen_tree_laws.proofs.InsertWays.{still_way}
-use Rattle.ellen_tree_laws.proofs.Offers.{leaf_bounds}
-use Rattle.ellen_tree_laws.proofs.Later.{Later}
-use Rattle.ellen_tree_laws.proofs.Spares.{Spares}
+use Rattle.ellen_tree_form.specs.Words.{is_internal, child_at, update_at, leaf_value_at, is_set}
+use Rattle.ellen_tree_form.specs.Search.{leaf_on, greater}
+use Rattle.ellen_tree_form.specs.Shape.{Shape, Flagged, Changed, IsFlagger, IsStored, IsLeaf, WasMade, OnWay, is_node, made_node, brings, TOP}
+use Rattle.ellen_tree_form.proofs.Plain.{both_ops}
+use Rattle.ellen_tree_form.proofs.InsertWays.{still_way}
+use Rattle.ellen_tree_form.proofs.Offers.{leaf_bounds}
+use Rattle.ellen_tree_form.proofs.Later.{Later}
+use Rattle.ellen_tree_form.proofs.Spares.{Spares}
 use Rattle.ellen_tree_steps.specs.Effects.{Links}
 use Rattle.ellen_tree_steps.proofs.Lasting.{flagger_later, note_later, own_later}
 use Rattle.ellen_tree_steps.proofs.MapSteps.{set_effective}

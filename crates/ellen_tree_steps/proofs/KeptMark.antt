@@ -4,13 +4,13 @@ use Rattle.std.proofs.lemmas.Bool.{cases_eq}
 use Rattle.normal_traits.specs.World.{Listed, World}
 use Rattle.tree_help.specs.declared.states.TheConstants.{CLEAN, MARKED}
 use Rattle.tree_help.specs.Updates.{state_of, updated, inner}
-use Rattle.ellen_tree_laws.specs.Words.{update_at}
-use Rattle.ellen_tree_laws.specs.Shape.{Shape, Flagged, IsFlagger, Removes, RemoveStands, IsUp, IsMarked, IsOver, noted, is_node}
-use Rattle.ellen_tree_laws.proofs.Plain.{update_same, marked_value}
-use Rattle.ellen_tree_laws.proofs.Owners.{one_removal}
-use Rattle.ellen_tree_laws.proofs.Later.{Later}
-use Rattle.ellen_tree_laws.proofs.Spares.{Spares}
-use Rattle.ellen_tree_laws.proofs.Kept.{flagged_later, update_later}
+use Rattle.ellen_tree_form.specs.Words.{update_at}
+use Rattle.ellen_tree_form.specs.Shape.{Shape, Flagged, IsFlagger, Removes, RemoveStands, IsUp, IsMarked, IsOver, noted, is_node}
+use Rattle.ellen_tree_form.proofs.Plain.{update_same, marked_value}
+use Rattle.ellen_tree_form.proofs.Owners.{one_removal}
+use Rattle.ellen_tree_form.proofs.Later.{Later}
+use Rattle.ellen_tree_form.proofs.Spares.{Spares}
+use Rattle.ellen_tree_form.proofs.Kept.{flagged_later, update_later}
 use Rattle.ellen_tree_steps.specs.Effects.{Marks}
 use Rattle.ellen_tree_steps.proofs.Lasting.{RemoveFate, flagger_later, note_later}
 use Rattle.ellen_tree_steps.proofs.Waiting.{up_dirty}

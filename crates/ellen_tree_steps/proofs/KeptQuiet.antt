@@ -4,14 +4,14 @@ use Rattle.std.proofs.lemmas.Bool.{true≢false}
 use Rattle.word_fields.specs.Versioned.{versioned_bit, cleared_word}
 use Rattle.word_fields.proofs.VersionedLemmas.{bit-cleared, cleared-clear, cleared_below}
 use Rattle.normal_traits.specs.World.{Listed, World}
-use Rattle.ellen_tree_laws.specs.Words.{child_at, child_field, update_at}
-use Rattle.ellen_tree_laws.specs.Shape.{Shape, Flagged, IsFlagger, Inserts, InsertWaits, Removes, RemoveStands, IsStored, IsBelow, IsUp, IsMarked, noted, is_node}
-use Rattle.ellen_tree_laws.proofs.Fields.{field_word}
-use Rattle.ellen_tree_laws.proofs.Ways.{field_small}
-use Rattle.ellen_tree_laws.proofs.Asks.{field_high, child_unlisted}
-use Rattle.ellen_tree_laws.proofs.Later.{Later}
-use Rattle.ellen_tree_laws.proofs.Spares.{Spares}
-use Rattle.ellen_tree_laws.proofs.Kept.{marked_later}
+use Rattle.ellen_tree_form.specs.Words.{child_at, child_field, update_at}
+use Rattle.ellen_tree_form.specs.Shape.{Shape, Flagged, IsFlagger, Inserts, InsertWaits, Removes, RemoveStands, IsStored, IsBelow, IsUp, IsMarked, noted, is_node}
+use Rattle.ellen_tree_form.proofs.Fields.{field_word}
+use Rattle.ellen_tree_form.proofs.Ways.{field_small}
+use Rattle.ellen_tree_form.proofs.Asks.{field_high, child_unlisted}
+use Rattle.ellen_tree_form.proofs.Later.{Later}
+use Rattle.ellen_tree_form.proofs.Spares.{Spares}
+use Rattle.ellen_tree_form.proofs.Kept.{marked_later}
 use Rattle.ellen_tree_steps.specs.Effects.{IsQuiet}
 use Rattle.ellen_tree_steps.proofs.Lasting.{InsertFate, RemoveFate, flagger_later, note_later, below_later}
 use Rattle.ellen_tree_steps.proofs.Asides.{child_stays, way_stays, on_way_stays}

@@ -7,13 +7,13 @@ use Rattle.normal_traits.specs.World.{Listed, Maker, Won, Cause, Change, World, 
 use Rattle.normal_traits.specs.World.Maker.{By, Beside}
 use Rattle.tree_help.specs.declared.states.TheConstants.{CLEAN}
 use Rattle.tree_help.specs.Updates.{state_of}
-use Rattle.ellen_tree_laws.specs.Words.{update_at}
-use Rattle.ellen_tree_laws.specs.Shape.{Shape, Flagged, IsFlagger, IsBy, IsSpent, Removes, RemoveStands, IsUp, flag_won, flag_state, noted, is_node}
-use Rattle.ellen_tree_laws.proofs.Plain.{update_same}
-use Rattle.ellen_tree_laws.proofs.Journal.{took_of}
-use Rattle.ellen_tree_laws.proofs.Wraps.{flag_value}
-use Rattle.ellen_tree_laws.proofs.Later.{Later}
-use Rattle.ellen_tree_laws.proofs.Spares.{Spares}
+use Rattle.ellen_tree_form.specs.Words.{update_at}
+use Rattle.ellen_tree_form.specs.Shape.{Shape, Flagged, IsFlagger, IsBy, IsSpent, Removes, RemoveStands, IsUp, flag_won, flag_state, noted, is_node}
+use Rattle.ellen_tree_form.proofs.Plain.{update_same}
+use Rattle.ellen_tree_form.proofs.Journal.{took_of}
+use Rattle.ellen_tree_form.proofs.Wraps.{flag_value}
+use Rattle.ellen_tree_form.proofs.Later.{Later}
+use Rattle.ellen_tree_form.proofs.Spares.{Spares}
 use Rattle.ellen_tree_steps.specs.Effects.{Sets}
 use Rattle.ellen_tree_steps.proofs.Lasting.{RemoveFate, flagger_later, note_later}
 use Rattle.ellen_tree_steps.proofs.Made.{spent_later}

@@ -6,13 +6,13 @@ use Rattle.word_fields.specs.Versioned.{versioned_value, versioned_version}
 use Rattle.lin_report.specs.declared.calls.Reply.TheVariants.{Yes}
 use Rattle.normal_traits.specs.World.{Listed, World, Change}
 use Rattle.tree_help.specs.Updates.{state_of}
-use Rattle.ellen_tree_laws.specs.Words.{child_at, update_at, leaf_value_at, is_set, is_rem}
-use Rattle.ellen_tree_laws.specs.Shape.{Shape, Flagged, Changed, IsFlagger, IsStored, IsBelow, IsUp, WasMade, OnWay, is_node, is_left, way}
-use Rattle.ellen_tree_laws.proofs.Plain.{both_ops, marked_value}
-use Rattle.ellen_tree_laws.proofs.Ways.{swung_way}
-use Rattle.ellen_tree_laws.proofs.Later.{Later}
-use Rattle.ellen_tree_laws.proofs.Spares.{Spares}
-use Rattle.ellen_tree_laws.proofs.Kept.{marked_later, update_later}
+use Rattle.ellen_tree_form.specs.Words.{child_at, update_at, leaf_value_at, is_set, is_rem}
+use Rattle.ellen_tree_form.specs.Shape.{Shape, Flagged, Changed, IsFlagger, IsStored, IsBelow, IsUp, WasMade, OnWay, is_node, is_left, way}
+use Rattle.ellen_tree_form.proofs.Plain.{both_ops, marked_value}
+use Rattle.ellen_tree_form.proofs.Ways.{swung_way}
+use Rattle.ellen_tree_form.proofs.Later.{Later}
+use Rattle.ellen_tree_form.proofs.Spares.{Spares}
+use Rattle.ellen_tree_form.proofs.Kept.{marked_later, update_later}
 use Rattle.ellen_tree_steps.specs.Effects.{Swings}
 use Rattle.ellen_tree_steps.proofs.Lasting.{flagger_later, note_later, below_later}
 use Rattle.ellen_tree_steps.proofs.MapSteps.{rem_effective}

@@ -6,15 +6,15 @@ use Rattle.word_fields.specs.Versioned.{versioned_value, versioned_bit, versione
 use Rattle.node_arena.specs.MemoryMap.{block_place, node_place, reference_to}
 use Rattle.node_arena.proofs.PlaceLemmas.{node_place-reference_to}
 use Rattle.normal_traits.specs.World.{Listed, Change, World}
-use Rattle.ellen_tree_laws.specs.Words.{child_at, update_at, key_at, leaf_key_at, leaf_value_at, is_versioned}
-use Rattle.ellen_tree_laws.specs.Search.{greater}
-use Rattle.ellen_tree_laws.specs.Shape.{Shape, Flagged, IsFlagger, Inserts, InsertWaits, Removes, RemoveStands, Changed, IsMarked, IsGivenUp, IsMade, noted, is_node, made_node, brings, is_left, told_by, IsLeaf, IsNamed, IsBelow}
-use Rattle.ellen_tree_laws.proofs.Fields.{field_word}
-use Rattle.ellen_tree_laws.proofs.Asks.{node_word, child_word, leaf_word}
-use Rattle.ellen_tree_laws.proofs.Offers.{plain}
-use Rattle.ellen_tree_laws.proofs.Later.{Later, passed_on}
-use Rattle.ellen_tree_laws.proofs.Spares.{Spares}
-use Rattle.ellen_tree_laws.proofs.Kept.{noted_later, changed_later, given_later}
+use Rattle.ellen_tree_form.specs.Words.{child_at, update_at, key_at, leaf_key_at, leaf_value_at, is_versioned}
+use Rattle.ellen_tree_form.specs.Search.{greater}
+use Rattle.ellen_tree_form.specs.Shape.{Shape, Flagged, IsFlagger, Inserts, InsertWaits, Removes, RemoveStands, Changed, IsMarked, IsGivenUp, IsMade, noted, is_node, made_node, brings, is_left, told_by, IsLeaf, IsNamed, IsBelow}
+use Rattle.ellen_tree_form.proofs.Fields.{field_word}
+use Rattle.ellen_tree_form.proofs.Asks.{node_word, child_word, leaf_word}
+use Rattle.ellen_tree_form.proofs.Offers.{plain}
+use Rattle.ellen_tree_form.proofs.Later.{Later, passed_on}
+use Rattle.ellen_tree_form.proofs.Spares.{Spares}
+use Rattle.ellen_tree_form.proofs.Kept.{noted_later, changed_later, given_later}
 
 -- what is so of an insertion: it waits, or has made its change
 abbrev pub InsertFate : World → Listed → ℕ → ℕ → Bool → Type 0

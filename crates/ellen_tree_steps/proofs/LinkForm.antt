@@ -8,10 +8,10 @@ use Rattle.node_arena.specs.MemoryMap.{reference_to}
 use Rattle.node_arena.proofs.PlaceLemmas.{node_place-reference_to}
 use Rattle.normal_traits.specs.World.{World}
 use Rattle.tree_help.specs.Updates.{inner}
-use Rattle.ellen_tree_laws.specs.Words.{is_internal, leaf_key_at}
-use Rattle.ellen_tree_laws.specs.Search.{leaf_on, greater}
-use Rattle.ellen_tree_laws.specs.Shape.{Shape, IsLeaf, IsNamed, is_node, noted, keys, child_of}
-use Rattle.ellen_tree_laws.proofs.Ways.{InRange, next_in, way_in, inner_same, inner_is, leaf_names}
+use Rattle.ellen_tree_form.specs.Words.{is_internal, leaf_key_at}
+use Rattle.ellen_tree_form.specs.Search.{leaf_on, greater}
+use Rattle.ellen_tree_form.specs.Shape.{Shape, IsLeaf, IsNamed, is_node, noted, keys, child_of}
+use Rattle.ellen_tree_form.proofs.Ways.{InRange, next_in, way_in, inner_same, inner_is, leaf_names}
 use Rattle.ellen_tree_steps.specs.Effects.{Links}
 use Rattle.ellen_tree_steps.proofs.Waiting.{insert_new}
 use Rattle.ellen_tree_steps.proofs.ChildForm.{keys_same}

@@ -11,14 +11,14 @@ use Rattle.node_arena.specs.MemoryMap.{reference_to}
 use Rattle.normal_traits.specs.World.{World, Change, held_after}
 use Rattle.tree_help.specs.declared.states.TheConstants.{MARKED}
 use Rattle.tree_help.specs.Updates.{state_of, inner}
-use Rattle.ellen_tree_laws.specs.Words.{is_internal, child_at, leaf_value_at, update_at, is_set}
-use Rattle.ellen_tree_laws.specs.Search.{leaf_on}
-use Rattle.ellen_tree_laws.specs.Shape.{Shape, Ordered, IsNamed, is_node, made_node, brings, keys, children, told_by}
-use Rattle.ellen_tree_laws.proofs.Ways.{inner_is, child_same, child_update}
-use Rattle.ellen_tree_laws.proofs.Insert.{inserted}
-use Rattle.ellen_tree_laws.proofs.SwingLeft.{Goes}
-use Rattle.ellen_tree_laws.proofs.Later.{Later}
-use Rattle.ellen_tree_laws.proofs.Spares.{Spares}
+use Rattle.ellen_tree_form.specs.Words.{is_internal, child_at, leaf_value_at, update_at, is_set}
+use Rattle.ellen_tree_form.specs.Search.{leaf_on}
+use Rattle.ellen_tree_form.specs.Shape.{Shape, Ordered, IsNamed, is_node, made_node, brings, keys, children, told_by}
+use Rattle.ellen_tree_form.proofs.Ways.{inner_is, child_same, child_update}
+use Rattle.ellen_tree_form.proofs.Insert.{inserted}
+use Rattle.ellen_tree_form.proofs.SwingLeft.{Goes}
+use Rattle.ellen_tree_form.proofs.Later.{Later}
+use Rattle.ellen_tree_form.proofs.Spares.{Spares}
 use Rattle.ellen_tree_steps.specs.Effects.{Links}
 use Rattle.ellen_tree_steps.proofs.MapSteps.{set_gets}
 use Rattle.ellen_tree_steps.proofs.Lasting.{named_later}

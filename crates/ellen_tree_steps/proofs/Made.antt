@@ -1,14 +1,14 @@
 -- What every allowed step leaves of changes that were made and of causes that are over.
 use Rattle.std.proofs.Common.{◌≡◌, ℕ, zero, suc, true, sym, subst, ◌∙◌, inl, inr, ◌⊎◌, arith}
 use Rattle.normal_traits.specs.World.{Listed, Cause, World}
-use Rattle.ellen_tree_laws.specs.Words.{update_at, is_rem}
-use Rattle.ellen_tree_laws.specs.Shape.{Shape, Flagged, Inserts, Removes, WasMade, IsOver, IsSpent, noted, is_node}
-use Rattle.ellen_tree_laws.proofs.Ways.{child_same, child_update}
-use Rattle.ellen_tree_laws.proofs.Swings.{removes}
-use Rattle.ellen_tree_laws.proofs.Asks.{inserts, node_word}
-use Rattle.ellen_tree_laws.proofs.Later.{Later, passed_on}
-use Rattle.ellen_tree_laws.proofs.Spares.{Spares}
-use Rattle.ellen_tree_laws.proofs.Kept.{flagged_later, changed_later, marked_later, update_later}
+use Rattle.ellen_tree_form.specs.Words.{update_at, is_rem}
+use Rattle.ellen_tree_form.specs.Shape.{Shape, Flagged, Inserts, Removes, WasMade, IsOver, IsSpent, noted, is_node}
+use Rattle.ellen_tree_form.proofs.Ways.{child_same, child_update}
+use Rattle.ellen_tree_form.proofs.Swings.{removes}
+use Rattle.ellen_tree_form.proofs.Asks.{inserts, node_word}
+use Rattle.ellen_tree_form.proofs.Later.{Later, passed_on}
+use Rattle.ellen_tree_form.proofs.Spares.{Spares}
+use Rattle.ellen_tree_form.proofs.Kept.{flagged_later, changed_later, marked_later, update_later}
 use Rattle.ellen_tree_steps.proofs.Lasting.{is_made_later}
 
 module _ (world after : World) (shape : Shape world) (l : Later world after) (s : Spares world after) where

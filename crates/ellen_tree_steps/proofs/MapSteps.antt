@@ -12,7 +12,7 @@ use Rattle.lin_report.specs.declared.calls.Reply.TheVariants.{Yes, No}
 use Rattle.lin_report.specs.declared.calls.TheConstants.{SET, REM}
 use Rattle.lin_report.specs.Object.{map_object, map_apply}
 use Rattle.normal_traits.specs.World.{Observes}
-use Rattle.ellen_tree_laws.specs.Words.{is_set, is_rem}
+use Rattle.ellen_tree_form.specs.Words.{is_set, is_rem}
 
 -- what a set comes to, by whether the map holds the key
 abbrev set_by : Bool → map.FinMap nat_cmp ℕ → map.FinMap nat_cmp ℕ → map.FinMap nat_cmp ℕ × Reply

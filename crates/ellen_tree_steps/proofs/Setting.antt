@@ -15,20 +15,20 @@ use Rattle.normal_traits.specs.World.Maker.{By}
 use Rattle.normal_traits.specs.Steps.{with_word, using_block, IsFilled}
 use Rattle.tree_help.specs.declared.states.TheConstants.{CLEAN, MARKED}
 use Rattle.tree_help.specs.Updates.{state_of, inner}
-use Rattle.ellen_tree_laws.specs.Words.{is_internal, child_at, update_at, leaf_key_at, leaf_value_at}
-use Rattle.ellen_tree_laws.specs.declared.states.Passed.{Passed}
-use Rattle.ellen_tree_laws.specs.declared.states.TreeSearch.TheVariants.{SetReady, RemReady}
-use Rattle.ellen_tree_laws.specs.Search.{leaf_of, leaf_on, greater, offered}
-use Rattle.ellen_tree_laws.specs.Shape.{Shape, Ordered, HasFlag, HasMark, IsFlagger, Inserts, Removes, IsGivenUp, IsLeaf, IsUp, cause_here, flags_at, noted, is_left, is_node, way, OnWay}
-use Rattle.ellen_tree_laws.specs.Knowledge.{Knows, HasPassed}
-use Rattle.ellen_tree_laws.proofs.Plain.{update_same, marked_value}
-use Rattle.ellen_tree_laws.proofs.Ways.{way_in, inner_is, children_are, child_update}
-use Rattle.ellen_tree_laws.proofs.Wraps.{with_here, with_other}
-use Rattle.ellen_tree_laws.proofs.Owners.{up_value}
-use Rattle.ellen_tree_laws.proofs.Offers.{key_limit}
-use Rattle.ellen_tree_laws.proofs.Flags.{Stands, LeafBelow, rem_flags, set_flags}
-use Rattle.ellen_tree_laws.proofs.Later.{Later}
-use Rattle.ellen_tree_laws.proofs.Spares.{Spares}
+use Rattle.ellen_tree_form.specs.Words.{is_internal, child_at, update_at, leaf_key_at, leaf_value_at}
+use Rattle.ellen_tree_form.specs.declared.states.Passed.{Passed}
+use Rattle.ellen_tree_form.specs.declared.states.TreeSearch.TheVariants.{SetReady, RemReady}
+use Rattle.ellen_tree_form.specs.Search.{leaf_of, leaf_on, greater, offered}
+use Rattle.ellen_tree_form.specs.Shape.{Shape, Ordered, HasFlag, HasMark, IsFlagger, Inserts, Removes, IsGivenUp, IsLeaf, IsUp, cause_here, flags_at, noted, is_left, is_node, way, OnWay}
+use Rattle.ellen_tree_form.specs.Knowledge.{Knows, HasPassed}
+use Rattle.ellen_tree_form.proofs.Plain.{update_same, marked_value}
+use Rattle.ellen_tree_form.proofs.Ways.{way_in, inner_is, children_are, child_update}
+use Rattle.ellen_tree_form.proofs.Wraps.{with_here, with_other}
+use Rattle.ellen_tree_form.proofs.Owners.{up_value}
+use Rattle.ellen_tree_form.proofs.Offers.{key_limit}
+use Rattle.ellen_tree_form.proofs.Flags.{Stands, LeafBelow, rem_flags, set_flags}
+use Rattle.ellen_tree_form.proofs.Later.{Later}
+use Rattle.ellen_tree_form.proofs.Spares.{Spares}
 use Rattle.ellen_tree_steps.proofs.Lasting.{RemoveFate, leaf_later, left_later, leaf_field_later}
 use Rattle.ellen_tree_steps.proofs.Asides.{on_way_stays, way_stays}
 use Rattle.ellen_tree_steps.proofs.Waiting.{flag_states}

@@ -23,17 +23,17 @@ use Rattle.tree_help.specs.declared.states.HelpMark.TheVariants as mark
 use Rattle.tree_help.specs.declared.states.TheConstants.{CLEAN}
 use Rattle.tree_help.specs.Updates.{state_of}
 use Rattle.tree_help.specs.Helps.{help_asked, insert_asked, delete_asked, mark_asked}
-use Rattle.ellen_tree_laws.specs.declared.states.TreeSearch.{TreeSearch}
-use Rattle.ellen_tree_laws.specs.declared.states.TreeSearch.TheVariants.{AtUpdate, AtKey, AtChild, AtLeaf, Again, AtValue, SetReady, RemReady, Helps}
-use Rattle.ellen_tree_laws.specs.Words.{update_at, is_update, is_set, is_rem}
-use Rattle.ellen_tree_laws.specs.Search.{Asks, asked, offered}
-use Rattle.ellen_tree_laws.specs.Shape.{Shape, IsFlagger, flag_state, flags_at}
-use Rattle.ellen_tree_laws.specs.Knowledge.{Knows, Follows, FollowsInsert, FollowsDelete, FollowsMark}
-use Rattle.ellen_tree_laws.specs.Form.{tree_form}
-use Rattle.ellen_tree_laws.proofs.Plain.{both_ops, offered_entries}
-use Rattle.ellen_tree_laws.proofs.Wraps.{with_here, with_other, state_below}
-use Rattle.ellen_tree_laws.proofs.Later.{Later, later}
-use Rattle.ellen_tree_laws.proofs.Spares.{Spares, spares}
+use Rattle.ellen_tree_form.specs.declared.states.TreeSearch.{TreeSearch}
+use Rattle.ellen_tree_form.specs.declared.states.TreeSearch.TheVariants.{AtUpdate, AtKey, AtChild, AtLeaf, Again, AtValue, SetReady, RemReady, Helps}
+use Rattle.ellen_tree_form.specs.Words.{update_at, is_update, is_set, is_rem}
+use Rattle.ellen_tree_form.specs.Search.{Asks, asked, offered}
+use Rattle.ellen_tree_form.specs.Shape.{Shape, IsFlagger, flag_state, flags_at}
+use Rattle.ellen_tree_form.specs.Knowledge.{Knows, Follows, FollowsInsert, FollowsDelete, FollowsMark}
+use Rattle.ellen_tree_form.specs.Form.{tree_form}
+use Rattle.ellen_tree_form.proofs.Plain.{both_ops, offered_entries}
+use Rattle.ellen_tree_form.proofs.Wraps.{with_here, with_other, state_below}
+use Rattle.ellen_tree_form.proofs.Later.{Later, later}
+use Rattle.ellen_tree_form.proofs.Spares.{Spares, spares}
 use Rattle.ellen_tree_steps.specs.Effects.{Effect}
 use Rattle.ellen_tree_steps.specs.Effects.Effect.{quiet, sets, links, marks, swings, ends}
 use Rattle.ellen_tree_steps.proofs.Exchanges.{same_quiet, link_effect, swing_effect, mark_effect, end_effect}

@@ -6,11 +6,11 @@ use Rattle.node_arena.specs.MemoryMap.{reference_to}
 use Rattle.normal_traits.specs.World.{World}
 use Rattle.tree_help.specs.declared.states.TheConstants.{CLEAN}
 use Rattle.tree_help.specs.Updates.{state_of}
-use Rattle.ellen_tree_laws.specs.Words.{child_at, update_at}
-use Rattle.ellen_tree_laws.specs.Shape.{Shape, IsStored, HasFlag, HasMark, IsLeaf, IsBelow, is_node, child_of}
-use Rattle.ellen_tree_laws.proofs.Later.{Later}
-use Rattle.ellen_tree_laws.proofs.Spares.{Spares}
-use Rattle.ellen_tree_laws.proofs.Kept.{flagged_later, marked_later, update_later}
+use Rattle.ellen_tree_form.specs.Words.{child_at, update_at}
+use Rattle.ellen_tree_form.specs.Shape.{Shape, IsStored, HasFlag, HasMark, IsLeaf, IsBelow, is_node, child_of}
+use Rattle.ellen_tree_form.proofs.Later.{Later}
+use Rattle.ellen_tree_form.proofs.Spares.{Spares}
+use Rattle.ellen_tree_form.proofs.Kept.{flagged_later, marked_later, update_later}
 use Rattle.ellen_tree_steps.proofs.Lasting.{key_later, leaf_field_later}
 
 -- a node is clean, or has a flag, or a mark

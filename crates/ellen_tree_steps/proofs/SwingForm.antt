@@ -11,15 +11,15 @@ use Rattle.node_arena.proofs.PlaceLemmas.{node_place-reference_to}
 use Rattle.normal_traits.specs.World.{World, Change, held_after}
 use Rattle.tree_help.specs.declared.states.TheConstants.{MARKED}
 use Rattle.tree_help.specs.Updates.{state_of, inner}
-use Rattle.ellen_tree_laws.specs.Words.{is_internal, leaf_key_at, leaf_value_at, update_at, is_set}
-use Rattle.ellen_tree_laws.specs.Shape.{Shape, Ordered, IsNamed, is_node, keys, child_of, is_left, way, TOP}
-use Rattle.ellen_tree_laws.specs.Shape.OnWay.{below}
-use Rattle.ellen_tree_laws.proofs.Plain.{both_ops, marked_value}
-use Rattle.ellen_tree_laws.proofs.Ways.{InRange, way_in, inner_same, inner_is, leaf_names, child_update, told_now}
-use Rattle.ellen_tree_laws.proofs.SwingLeft.{Goes, swing_left, tells_left}
-use Rattle.ellen_tree_laws.proofs.SwingRight.{swing_right, tells_right}
-use Rattle.ellen_tree_laws.proofs.Later.{Later}
-use Rattle.ellen_tree_laws.proofs.Spares.{Spares}
+use Rattle.ellen_tree_form.specs.Words.{is_internal, leaf_key_at, leaf_value_at, update_at, is_set}
+use Rattle.ellen_tree_form.specs.Shape.{Shape, Ordered, IsNamed, is_node, keys, child_of, is_left, way, TOP}
+use Rattle.ellen_tree_form.specs.Shape.OnWay.{below}
+use Rattle.ellen_tree_form.proofs.Plain.{both_ops, marked_value}
+use Rattle.ellen_tree_form.proofs.Ways.{InRange, way_in, inner_same, inner_is, leaf_names, child_update, told_now}
+use Rattle.ellen_tree_form.proofs.SwingLeft.{Goes, swing_left, tells_left}
+use Rattle.ellen_tree_form.proofs.SwingRight.{swing_right, tells_right}
+use Rattle.ellen_tree_form.proofs.Later.{Later}
+use Rattle.ellen_tree_form.proofs.Spares.{Spares}
 use Rattle.ellen_tree_steps.specs.Effects.{Swings}
 use Rattle.ellen_tree_steps.proofs.MapSteps.{rem_gets}
 use Rattle.ellen_tree_steps.proofs.Lasting.{named_later}

@@ -4,9 +4,9 @@ use Rattle.std.specs.Prelude.{drop}
 use Rattle.std.specs.FinMap as map
 use Rattle.lin_report.specs.Object.{map_object}
 use Rattle.normal_traits.specs.World.{Change, World, held_after, first_changes}
-use Rattle.ellen_tree_laws.specs.Shape.{Shape}
-use Rattle.ellen_tree_laws.specs.Knowledge.{WasTold}
-use Rattle.ellen_tree_laws.proofs.Later.{Later}
+use Rattle.ellen_tree_form.specs.Shape.{Shape}
+use Rattle.ellen_tree_form.specs.Knowledge.{WasTold}
+use Rattle.ellen_tree_form.proofs.Later.{Later}
 use Rattle.ellen_tree_steps.proofs.Lasting.{leaf_later, told_later}
 
 module _ (world after : World) (shape : Shape world) (l : Later world after) where

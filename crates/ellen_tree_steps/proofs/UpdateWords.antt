@@ -4,14 +4,14 @@ use Rattle.std.proofs.lemmas.Bool.{cases_eq}
 use Rattle.word_fields.specs.Versioned.{cleared_word}
 use Rattle.normal_traits.specs.World.{Listed, World}
 use Rattle.normal_traits.specs.Steps.{with_word}
-use Rattle.ellen_tree_laws.specs.Words.{child_at, update_at}
-use Rattle.ellen_tree_laws.specs.Shape.{Shape, Flagged, Inserts, InsertWaits, Removes, RemoveStands, IsStored, IsBelow, IsUp, IsMarked, noted, is_node}
-use Rattle.ellen_tree_laws.proofs.Plain.{update_same}
-use Rattle.ellen_tree_laws.proofs.Ways.{child_update}
-use Rattle.ellen_tree_laws.proofs.Wraps.{with_here, with_other}
-use Rattle.ellen_tree_laws.proofs.Later.{Later}
-use Rattle.ellen_tree_laws.proofs.Spares.{Spares}
-use Rattle.ellen_tree_laws.proofs.Kept.{marked_later}
+use Rattle.ellen_tree_form.specs.Words.{child_at, update_at}
+use Rattle.ellen_tree_form.specs.Shape.{Shape, Flagged, Inserts, InsertWaits, Removes, RemoveStands, IsStored, IsBelow, IsUp, IsMarked, noted, is_node}
+use Rattle.ellen_tree_form.proofs.Plain.{update_same}
+use Rattle.ellen_tree_form.proofs.Ways.{child_update}
+use Rattle.ellen_tree_form.proofs.Wraps.{with_here, with_other}
+use Rattle.ellen_tree_form.proofs.Later.{Later}
+use Rattle.ellen_tree_form.proofs.Spares.{Spares}
+use Rattle.ellen_tree_form.proofs.Kept.{marked_later}
 use Rattle.ellen_tree_steps.proofs.Lasting.{InsertFate, RemoveFate, note_later, below_later}
 use Rattle.ellen_tree_steps.proofs.Asides.{child_stays, way_stays, on_way_stays}
 use Rattle.ellen_tree_steps.proofs.Stored.{State, state_later, stored_later}

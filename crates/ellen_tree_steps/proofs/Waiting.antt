@@ -9,13 +9,13 @@ use Rattle.normal_traits.specs.declared.lists.Entry.{Entry}
 use Rattle.normal_traits.specs.World.{Listed, Change, World, Among}
 use Rattle.tree_help.specs.declared.states.TheConstants.{CLEAN, INSERTING, DELETING, MARKED}
 use Rattle.tree_help.specs.Updates.{state_of}
-use Rattle.ellen_tree_laws.specs.Words.{child_at, update_at, leaf_key_at, is_set}
-use Rattle.ellen_tree_laws.specs.Search.{leaf_on}
-use Rattle.ellen_tree_laws.specs.Shape.{Shape, Flagged, Inserts, InsertWaits, Removes, RemoveStands, Changed, IsUp, IsLeaf, OnWay, noted, flags_at, flag_state, is_node, made_node, brings, way}
-use Rattle.ellen_tree_laws.proofs.Plain.{both_ops, update_same}
-use Rattle.ellen_tree_laws.proofs.Owners.{up_value, up_block}
-use Rattle.ellen_tree_laws.proofs.Later.{Later}
-use Rattle.ellen_tree_laws.proofs.Spares.{Spares}
+use Rattle.ellen_tree_form.specs.Words.{child_at, update_at, leaf_key_at, is_set}
+use Rattle.ellen_tree_form.specs.Search.{leaf_on}
+use Rattle.ellen_tree_form.specs.Shape.{Shape, Flagged, Inserts, InsertWaits, Removes, RemoveStands, Changed, IsUp, IsLeaf, OnWay, noted, flags_at, flag_state, is_node, made_node, brings, way}
+use Rattle.ellen_tree_form.proofs.Plain.{both_ops, update_same}
+use Rattle.ellen_tree_form.proofs.Owners.{up_value, up_block}
+use Rattle.ellen_tree_form.proofs.Later.{Later}
+use Rattle.ellen_tree_form.proofs.Spares.{Spares}
 use Rattle.ellen_tree_steps.proofs.Lasting.{note_later, leaf_later, leaf_field_later}
 
 -- ---- who brought a node

@@ -8,8 +8,8 @@ use Rattle.normal_traits.specs.World.Maker.{Beside}
 use Rattle.normal_traits.specs.Steps.{IsFresh, with_word, using_block}
 use Rattle.tree_help.specs.declared.states.TheConstants.{CLEAN, MARKED}
 use Rattle.tree_help.specs.Updates.{state_of, updated, inner}
-use Rattle.ellen_tree_laws.specs.Words.{child_at, update_at, is_update, is_set, is_rem}
-use Rattle.ellen_tree_laws.specs.Shape.{Flagged, flags_at, flag_won, cause_here, noted, child_of, is_left, Changed, IsGone, IsMarked, Inserts, InsertWaits, Removes, RemoveStands, IsFlagger}
+use Rattle.ellen_tree_form.specs.Words.{child_at, update_at, is_update, is_set, is_rem}
+use Rattle.ellen_tree_form.specs.Shape.{Flagged, flags_at, flag_won, cause_here, noted, child_of, is_left, Changed, IsGone, IsMarked, Inserts, InsertWaits, Removes, RemoveStands, IsFlagger}
 
 -- nothing is exchanged: a client's word stays, or an update word has its bit cleared
 pub record IsQuiet (world after : World) : Type 0 where

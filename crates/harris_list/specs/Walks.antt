@@ -1,9 +1,9 @@
 -- What a search comes to where its walk ended.
 use Rattle.std.specs.Prelude.{Option, Some, None}
 use Rattle.normal_traits.specs.declared.form.Found.{Found}
-use Rattle.list_laws.specs.declared.states.ListSearch.{ListSearch}
-use Rattle.list_laws.specs.declared.states.Sought.{Sought}
-use Rattle.list_laws.specs.Search.{finished, moved_on}
+use Rattle.harris_list_form.specs.declared.states.ListSearch.{ListSearch}
+use Rattle.harris_list_form.specs.declared.states.Sought.{Sought}
+use Rattle.harris_list_form.specs.Search.{finished, moved_on}
 use Rattle.harris_list.specs.declared.whole.Spot.{Spot}
 use Rattle.harris_list.specs.declared.whole.Met.{Met}
 

@@ -1,6 +1,6 @@
 -- The search that the fields of a way stand for.
-use Rattle.list_laws.specs.declared.states.ListSearch.{ListSearch}
-use Rattle.list_laws.specs.declared.states.ListSearch.TheVariants.{Start, Next, Key, Unlink, AddReady, DelReady}
+use Rattle.harris_list_form.specs.declared.states.ListSearch.{ListSearch}
+use Rattle.harris_list_form.specs.declared.states.ListSearch.TheVariants.{Start, Next, Key, Unlink, AddReady, DelReady}
 use Rattle.harris_list.specs.declared.way.Stage.{Stage}
 use Rattle.harris_list.specs.declared.way.Stage.TheVariants as stage
 use Rattle.harris_list.specs.declared.way.Way.{Way}

@@ -1,12 +1,12 @@
 //! What a search comes to at the end of its way.
 ghost use Rattle.std.specs.Prelude.{◌≡◌, ◌<◌, ◌^◌};
-ghost use Rattle.list_laws.specs.Search.{Asks, IsReady, decided, decided_absent, decided_found, finished, moved_on};
+ghost use Rattle.harris_list_form.specs.Search.{Asks, IsReady, decided, decided_absent, decided_found, finished, moved_on};
 ghost use Rattle.harris_list.specs.Ways.{search_at};
 
 use crate::way::{Stage, Way};
 use crate::words::is_modified;
 use lin_report::{Outcome, Reply};
-use list_laws::{Aim, Left};
+use harris_list_form::{Aim, Left};
 use normal_traits::Found;
 
 /// The end of a way: the left word, and the node that was come to, with its next word and whether its key is

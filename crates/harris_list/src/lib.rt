@@ -2,7 +2,7 @@
 #![tactic(auto)]
 
 pub use list::HarrisList;
-pub use list_laws::{Aim, Left, ListWrap, Sought};
+pub use harris_list_form::{Aim, Left, ListWrap, Sought};
 pub use seeking::Seeking;
 
 mod deciding;

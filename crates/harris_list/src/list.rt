@@ -3,8 +3,8 @@
 use crate::seeking::Seeking;
 use lin_report::calls::ADD;
 use lin_report::{Client, Op, Outcome, Reply};
-use list_laws::ListWrap;
-use list_laws::states::LIST_START;
+use harris_list_form::ListWrap;
+use harris_list_form::states::LIST_START;
 use normal_traits::{Found, List, Normalized, Stores, Wrapped};
 use step_memory::{Request, Seen};
 use whole_calls::{Seeks, Steps};
@@ -15,8 +15,8 @@ pub struct HarrisList;
 impl Normalized for HarrisList {
     ghost use Rattle.std.specs.Prelude.{refl};
     ghost use Rattle.lin_report.specs.declared.calls.Client.{Client};
-    ghost use Rattle.list_laws.specs.Lists.{the_list};
-    ghost use Rattle.list_laws.specs.Form.{list_form};
+    ghost use Rattle.harris_list_form.specs.Lists.{the_list};
+    ghost use Rattle.harris_list_form.specs.Form.{list_form};
     ghost use Rattle.harris_list.specs.ProvedLaws.{list_laws};
 
     type Search = Seeking;

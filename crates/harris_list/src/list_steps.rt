@@ -11,10 +11,10 @@ pub trait ListSteps<P> {
     ghost use Rattle.step_memory.specs.declared.steps.Request.TheVariants.{Load, Exchange};
     ghost use Rattle.fast_slow_engine.specs.Mechs.{Mech};
     ghost use Rattle.fast_slow_engine.specs.PhaseTable.{mech_fed, mech_request};
-    ghost use Rattle.list_laws.specs.declared.states.ListSearch.{ListSearch};
-    ghost use Rattle.list_laws.specs.declared.states.ListWrap.{ListWrap};
-    ghost use Rattle.list_laws.specs.Lists.{Lists};
-    ghost use Rattle.list_laws.specs.Form.{list_form};
+    ghost use Rattle.harris_list_form.specs.declared.states.ListSearch.{ListSearch};
+    ghost use Rattle.harris_list_form.specs.declared.states.ListWrap.{ListWrap};
+    ghost use Rattle.harris_list_form.specs.Lists.{Lists};
+    ghost use Rattle.harris_list_form.specs.Form.{list_form};
 
     /// The lists.
     ghost lists: { Lists };
@@ -42,7 +42,7 @@ pub trait ListSteps<P> {
 }
 
 impl<P: Steps<HarrisList>> ListSteps<P> for HarrisList {
-    ghost use Rattle.list_laws.specs.Lists.{the_list};
+    ghost use Rattle.harris_list_form.specs.Lists.{the_list};
 
     ghost lists = { the_list };
 

@@ -1,7 +1,7 @@
 //! The lists that ready searches name.
 ghost use Rattle.std.specs.Prelude.{◌≡◌, ◌+◌, ◌*◌, ◌<◌, ◌≤◌, ◌^◌, [], ◌∷◌, ◌++◌, length};
 ghost use Rattle.node_arena.specs.MemoryMap.{reference_to};
-ghost use Rattle.list_laws.specs.Search.{IsReady, block_for, del_offer, key_place, leading, next_place, offered};
+ghost use Rattle.harris_list_form.specs.Search.{IsReady, block_for, del_offer, key_place, leading, next_place, offered};
 ghost use Rattle.harris_list.specs.Ways.{search_at};
 
 use crate::way::{Stage, Way};
@@ -9,7 +9,7 @@ use crate::words::{key_place, leading, led, marking, next_place};
 use arrayvec::ArrayVec;
 use lin_report::Op;
 use lin_report::calls::ADD;
-use list_laws::Left;
+use harris_list_form::Left;
 use node_arena::reference_to;
 use normal_traits::{Entry, List, Stores};
 

@@ -1,6 +1,6 @@
 //! The steps of a search.
 ghost use Rattle.std.specs.Prelude.{◌≡◌, ◌<◌, ◌^◌};
-ghost use Rattle.list_laws.specs.Search.{Asks, IsReady, aim_of, begun_at, asked, fed};
+ghost use Rattle.harris_list_form.specs.Search.{Asks, IsReady, aim_of, begun_at, asked, fed};
 ghost use Rattle.harris_list.specs.declared.way.Stage.TheVariants as stage;
 ghost use Rattle.harris_list.specs.Ways.{search_at};
 
@@ -9,7 +9,7 @@ use crate::way::{Stage, Way};
 use crate::words::{is_marked, key_place, leading, led, next_place};
 use lin_report::Op;
 use lin_report::calls::{ADD, DEL};
-use list_laws::{Aim, Left, Sought};
+use harris_list_form::{Aim, Left, Sought};
 use normal_traits::Found;
 use step_memory::{Request, Seen};
 

@@ -3,8 +3,8 @@ ghost use Rattle.std.specs.Prelude.{◌≡◌, ◌+◌, ◌<◌, ◌≤◌, ◌^
 ghost use Rattle.fast_slow_engine.specs.declared.phases.Phase.TheVariants.{Generate};
 ghost use Rattle.fast_slow_engine.specs.declared.phases.Generating.TheVariants.{Search};
 ghost use Rattle.fast_slow_engine.specs.PhaseTable.{searched};
-ghost use Rattle.list_laws.specs.Search.{Asks, IsReady, asked, begun_at, fed, offered};
-ghost use Rattle.list_laws.specs.Form.{list_form};
+ghost use Rattle.harris_list_form.specs.Search.{Asks, IsReady, asked, begun_at, fed, offered};
+ghost use Rattle.harris_list_form.specs.Form.{list_form};
 
 use crate::list_steps::ListSteps;
 use crate::offers::{add_stores_of, list_of};
@@ -23,7 +23,7 @@ pub struct Seeking {
 }
 
 impl Model for Seeking {
-    ghost use Rattle.list_laws.specs.declared.states.ListSearch.{ListSearch};
+    ghost use Rattle.harris_list_form.specs.declared.states.ListSearch.{ListSearch};
 
     ghost Value = { ListSearch };
 

@@ -1,6 +1,6 @@
 //! Where a search stands on its way through the list, in fields that its steps change in place.
 
-use list_laws::{Left, Sought};
+use harris_list_form::{Left, Sought};
 
 /// What a search loads or exchanges next, or that it can name a list.
 #[derive(Clone, Copy)]

@@ -4,8 +4,8 @@ ghost use Rattle.normal_traits.specs.declared.form.Found.TheVariants as found;
 ghost use Rattle.fast_slow_engine.specs.declared.phases.Phase.TheVariants.{Generate};
 ghost use Rattle.fast_slow_engine.specs.declared.phases.Generating.TheVariants.{Search};
 ghost use Rattle.fast_slow_engine.specs.PhaseTable.{searched};
-ghost use Rattle.list_laws.specs.Search.{Asks, IsReady, begun_at, sought_of};
-ghost use Rattle.list_laws.specs.Form.{list_form};
+ghost use Rattle.harris_list_form.specs.Search.{Asks, IsReady, begun_at, sought_of};
+ghost use Rattle.harris_list_form.specs.Form.{list_form};
 ghost use Rattle.harris_list.specs.declared.way.Stage.TheVariants as stage;
 ghost use Rattle.harris_list.specs.Ways.{search_at};
 ghost use Rattle.harris_list.specs.Walks.{arrived};
@@ -16,7 +16,7 @@ use crate::search::{begun_at, unlinked};
 use crate::way::{Stage, Way};
 use crate::words::{is_marked, key_place, leading, led, next_place};
 use lin_report::Op;
-use list_laws::Left;
+use harris_list_form::Left;
 use normal_traits::Found;
 
 /// How many nodes a search in one piece passes.

@@ -1,7 +1,7 @@
 //! The next words of nodes: the node to which one leads, and whether its own node is marked.
 ghost use Rattle.std.specs.Prelude.{◌≡◌, ◌<◌, ◌^◌};
 ghost use Rattle.word_fields.specs.Versioned.{is_modified, versioned_value};
-ghost use Rattle.list_laws.specs.Search.{led, is_marked, next_place, key_place, leading, marking};
+ghost use Rattle.harris_list_form.specs.Search.{led, is_marked, next_place, key_place, leading, marking};
 
 use node_arena::node_place;
 use node_arena::places::{NODE_KEY, NODE_NEXT};

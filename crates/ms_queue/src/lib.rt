@@ -3,7 +3,7 @@
 #![tactic(auto)]
 
 pub use queue::MsQueue;
-pub use queue_laws::{QueueSearch, QueueWrap};
+pub use ms_queue_form::{QueueSearch, QueueWrap};
 
 mod offers;
 pub mod queue;

@@ -1,6 +1,6 @@
 //! The lists that ready searches name, with the stores that come before them.
 ghost use Rattle.std.specs.Prelude.{◌≡◌, ◌+◌, ◌<◌, ◌≤◌, ◌^◌, [], ◌∷◌, ◌++◌, length};
-ghost use Rattle.queue_laws.specs.Search.{IsReady, block_for, offered, put_offer, take_offer};
+ghost use Rattle.ms_queue_form.specs.Search.{IsReady, block_for, offered, put_offer, take_offer};
 
 use crate::words::{moved, next_place};
 use arrayvec::ArrayVec;
@@ -9,7 +9,7 @@ use lin_report::calls::PUT;
 use node_arena::places::{HEAD, NODE_NEXT, NODE_VALUE};
 use node_arena::{node_place, reference_to};
 use normal_traits::{Entry, List, Stores};
-use queue_laws::QueueSearch;
+use ms_queue_form::QueueSearch;
 use word_fields::VersionedWord;
 
 /// The list of a put: node 1 of the block is linked behind the tail's node.

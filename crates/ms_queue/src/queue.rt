@@ -6,7 +6,7 @@ use crate::wrap::{wrap_asked, wrap_begun, wrap_fed};
 use lin_report::calls::PUT;
 use lin_report::{Client, Op};
 use normal_traits::{Found, List, Normalized, Stores, Wrapped};
-use queue_laws::{QueueSearch, QueueWrap};
+use ms_queue_form::{QueueSearch, QueueWrap};
 use step_memory::{Request, Seen};
 
 /// The queue. Its head and its tail stand at places 20 and 21, and block 0 has the first dummy node.
@@ -15,7 +15,7 @@ pub struct MsQueue;
 impl Normalized for MsQueue {
     ghost use Rattle.std.specs.Prelude.{refl};
     ghost use Rattle.lin_report.specs.declared.calls.Client.{Client};
-    ghost use Rattle.queue_laws.specs.Form.{queue_form};
+    ghost use Rattle.ms_queue_form.specs.Form.{queue_form};
     ghost use Rattle.ms_queue.specs.ProvedLaws.{queue_laws};
 
     type Search = QueueSearch;

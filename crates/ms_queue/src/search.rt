@@ -1,13 +1,13 @@
 //! The steps of a search.
 ghost use Rattle.std.specs.Prelude.{◌≡◌, true};
-ghost use Rattle.queue_laws.specs.Search.{begun, asked, fed, met_by_put, met_by_take};
+ghost use Rattle.ms_queue_form.specs.Search.{begun, asked, fed, met_by_put, met_by_take};
 
 use crate::words::{is_modified, moved, next_place, node_of};
 use lin_report::calls::PUT;
 use lin_report::{Op, Outcome, Reply};
 use node_arena::places::{HEAD, TAIL};
 use normal_traits::Found;
-use queue_laws::QueueSearch;
+use ms_queue_form::QueueSearch;
 use step_memory::{Request, Seen};
 
 /// A search that begins.

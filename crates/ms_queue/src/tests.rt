@@ -5,7 +5,7 @@ use crate::wrap::{wrap_asked, wrap_begun, wrap_fed};
 use lin_report::{Client, Op, Outcome, Reply};
 use node_arena::opening_words;
 use normal_traits::{Found, List, Stores, Wrapped};
-use queue_laws::{QueueSearch, QueueWrap};
+use ms_queue_form::{QueueSearch, QueueWrap};
 use std::alloc::Global;
 use std::test::Fail;
 use step_memory::{Cells, Port, Request};

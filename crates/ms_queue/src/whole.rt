@@ -4,8 +4,8 @@ ghost use Rattle.normal_traits.specs.declared.form.Found.TheVariants as found;
 ghost use Rattle.fast_slow_engine.specs.declared.phases.Phase.TheVariants.{Generate};
 ghost use Rattle.fast_slow_engine.specs.declared.phases.Generating.TheVariants.{Search};
 ghost use Rattle.fast_slow_engine.specs.PhaseTable.{searched};
-ghost use Rattle.queue_laws.specs.Search.{Asks, IsReady};
-ghost use Rattle.queue_laws.specs.Form.{queue_form};
+ghost use Rattle.ms_queue_form.specs.Search.{Asks, IsReady};
+ghost use Rattle.ms_queue_form.specs.Form.{queue_form};
 
 use crate::queue::MsQueue;
 use crate::words::{is_modified, moved, next_place, node_of};
@@ -13,7 +13,7 @@ use lin_report::calls::PUT;
 use lin_report::{Op, Outcome, Reply};
 use node_arena::places::{HEAD, TAIL};
 use normal_traits::Found;
-use queue_laws::QueueSearch;
+use ms_queue_form::QueueSearch;
 use whole_calls::{Seeks, Steps};
 
 /// How often a search in one piece moves the tail on. Where it answers or gives up, nothing is kept of its state, so

@@ -1,7 +1,7 @@
 //! The words of the queue: what they name, and what is written in their place.
 ghost use Rattle.std.specs.Prelude.{◌≡◌, ◌<◌, ◌^◌};
 ghost use Rattle.word_fields.specs.Versioned.{versioned_value, is_modified};
-ghost use Rattle.queue_laws.specs.Search.{next_place, moved_word};
+ghost use Rattle.ms_queue_form.specs.Search.{next_place, moved_word};
 
 use node_arena::node_place;
 use node_arena::places::NODE_NEXT;

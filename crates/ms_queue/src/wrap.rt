@@ -1,13 +1,13 @@
 //! The steps of a wrap-up.
 ghost use Rattle.std.specs.Prelude.{◌≡◌};
-ghost use Rattle.queue_laws.specs.Wrap.{done, after_entry, wrap_begun, wrap_asked, wrap_fed};
+ghost use Rattle.ms_queue_form.specs.Wrap.{done, after_entry, wrap_begun, wrap_asked, wrap_fed};
 
 use crate::words::{moved, next_place, node_of};
 use lin_report::calls::PUT;
 use lin_report::{Op, Outcome, Reply};
 use node_arena::places::TAIL;
 use normal_traits::{Entry, List, Wrapped};
-use queue_laws::QueueWrap;
+use ms_queue_form::QueueWrap;
 use step_memory::{Request, Seen};
 
 /// Nothing is left to do, and there is nothing to tell.

@@ -17,7 +17,7 @@ use Rattle.normal_traits.specs.declared.form.Found.TheVariants as found
 use Rattle.normal_traits.specs.declared.form.Wrapped.{Wrapped}
 use Rattle.normal_traits.specs.declared.form.Wrapped.TheVariants as wrapped
 use Rattle.normal_traits.specs.declared.lists.Entry.{Entry}
-use Rattle.normal_traits.specs.World.{Listed, Won, Change, World, Among, held_after, is_word, WasSeen, Took, Stopped, ChangedBy, RightSince, Observes}
+use Rattle.normal_traits.specs.World.{Listed, Won, Change, World, Among, held_after, is_word, StandsOrPassed, Took, Stopped, ChangedBy, RightSince, Observes}
 use Rattle.normal_traits.specs.NormalForm.{NormalForm, Offered}
 use Rattle.normal_traits.specs.Steps.{IsStep, IsFresh, IsOffered, Requested}
 
@@ -41,7 +41,7 @@ pub record IsGoodEntry {S W : Type 0} (form : NormalForm S W) (world : World) (e
   pub versioned : form.is_versioned entry.target ≡ true
   pub listable : form.is_listable entry.target ≡ true
   pub clear : versioned_bit entry.from ≡ 0
-  pub seen : WasSeen world entry.target entry.from
+  pub seen : StandsOrPassed world entry.target entry.from
   pub changed : (value : ℕ) × (value < 2 ^ 24) × (entry.to ≡ changed_word entry.from value)
 
 -- a store of an offer: into a field of the block behind its notes; a versioned word has its bit clear and

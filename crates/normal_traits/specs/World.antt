@@ -82,8 +82,8 @@ is_word world place =
     || (nat_le FIRST_WORDS place && world.used (block_at place) && (block_at place == 0 || not (is_state (field_at place))))
 
 -- a word with its bit clear was seen at a place: it still stands there, or the place is past it
-abbrev pub WasSeen : World → ℕ → ℕ → Type 0
-WasSeen world place word =
+abbrev pub StandsOrPassed : World → ℕ → ℕ → Type 0
+StandsOrPassed world place word =
     versioned_bit word ≡ 0 → (world.words place ≡ word) ⊎ (versioned_version word < versioned_version (world.words place))
 
 -- an entry's place is past the word from which it would be exchanged, so it never will be

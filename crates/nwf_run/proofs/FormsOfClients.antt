@@ -3,9 +3,9 @@ use Rattle.std.proofs.Common.{◌≡◌, [], refl}
 use Rattle.lin_report.specs.declared.calls.Client.{Client}
 use Rattle.lin_report.specs.declared.calls.Client.TheVariants as client
 use Rattle.normal_traits.specs.World.{Listed}
-use Rattle.queue_laws.proofs.AtOnce.{queue_changes_at_once}
-use Rattle.list_laws.specs.Lists.{the_list}
-use Rattle.list_laws.proofs.AtOnce.{list_changes_at_once}
+use Rattle.ms_queue_form.proofs.AtOnce.{queue_changes_at_once}
+use Rattle.harris_list_form.specs.Lists.{the_list}
+use Rattle.harris_list_form.proofs.AtOnce.{list_changes_at_once}
 use Rattle.bucket_set.specs.Buckets.{buckets}
 use Rattle.nwf_run.specs.Forms.{AtOnceButTheTree, BUCKETS, form_of}
 

@@ -4,16 +4,16 @@ use Rattle.lin_report.specs.declared.calls.Client.{Client}
 use Rattle.lin_report.specs.declared.calls.Client.TheVariants as client
 use Rattle.normal_traits.specs.AtOnce.{ChangesAtOnce}
 use Rattle.normal_traits.specs.NormalForm.{NormalForm}
-use Rattle.queue_laws.specs.declared.states.QueueSearch.{QueueSearch}
-use Rattle.queue_laws.specs.declared.states.QueueWrap.{QueueWrap}
-use Rattle.queue_laws.specs.Form.{queue_form}
-use Rattle.list_laws.specs.declared.states.ListSearch.{ListSearch}
-use Rattle.list_laws.specs.declared.states.ListWrap.{ListWrap}
-use Rattle.list_laws.specs.Lists.{the_list}
-use Rattle.list_laws.specs.Form.{list_form}
+use Rattle.ms_queue_form.specs.declared.states.QueueSearch.{QueueSearch}
+use Rattle.ms_queue_form.specs.declared.states.QueueWrap.{QueueWrap}
+use Rattle.ms_queue_form.specs.Form.{queue_form}
+use Rattle.harris_list_form.specs.declared.states.ListSearch.{ListSearch}
+use Rattle.harris_list_form.specs.declared.states.ListWrap.{ListWrap}
+use Rattle.harris_list_form.specs.Lists.{the_list}
+use Rattle.harris_list_form.specs.Form.{list_form}
 use Rattle.tree_help.specs.declared.states.Help.{Help}
-use Rattle.ellen_tree_laws.specs.declared.states.TreeSearch.{TreeSearch}
-use Rattle.ellen_tree_laws.specs.Form.{tree_form}
+use Rattle.ellen_tree_form.specs.declared.states.TreeSearch.{TreeSearch}
+use Rattle.ellen_tree_form.specs.Form.{tree_form}
 use Rattle.bucket_set.specs.Buckets.{buckets}
 
 -- over how many lists the buckets are spread

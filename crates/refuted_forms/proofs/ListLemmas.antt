@@ -14,14 +14,14 @@ use Rattle.normal_traits.specs.Steps.{IsStep, IsFresh, IsOffered, IsExchanged, e
 use Rattle.normal_traits.specs.Steps.IsStep.{first}
 use Rattle.normal_traits.specs.Steps.Requested.{loaded}
 use Rattle.normal_traits.specs.Laws.{Laws}
-use Rattle.list_laws.specs.declared.states.TheConstants.{LIST_START}
-use Rattle.list_laws.specs.declared.states.ListSearch.TheVariants.{Start, Next, Key, AddReady, DelReady}
-use Rattle.list_laws.specs.declared.states.ListSearch.{ListSearch}
-use Rattle.list_laws.specs.Lists.{the_list}
-use Rattle.list_laws.specs.Shape.{AreSorted}
-use Rattle.list_laws.specs.Knowledge.{Knows}
-use Rattle.list_laws.specs.Form.{list_form}
-use Rattle.list_laws.specs.Search.{key_place, next_place, marking, offered, sought_of}
+use Rattle.harris_list_form.specs.declared.states.TheConstants.{LIST_START}
+use Rattle.harris_list_form.specs.declared.states.ListSearch.TheVariants.{Start, Next, Key, AddReady, DelReady}
+use Rattle.harris_list_form.specs.declared.states.ListSearch.{ListSearch}
+use Rattle.harris_list_form.specs.Lists.{the_list}
+use Rattle.harris_list_form.specs.Shape.{AreSorted}
+use Rattle.harris_list_form.specs.Knowledge.{Knows}
+use Rattle.harris_list_form.specs.Form.{list_form}
+use Rattle.harris_list_form.specs.Search.{key_place, next_place, marking, offered, sought_of}
 use Rattle.refuted_forms.specs.ListForms.{fed_at_a_set_bit, list_from_a_set_bit, fed_past_a_mark, list_past_a_mark}
 use Rattle.refuted_forms.proofs.ListWorlds.{at_start, the_entry, linked, linked_shape}
 

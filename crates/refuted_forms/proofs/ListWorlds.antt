@@ -17,15 +17,15 @@ use Rattle.normal_traits.specs.World.Maker.{By}
 use Rattle.normal_traits.specs.Steps.{IsStep, IsOffered, IsFilled, IsExchanged, exchanged, put_word, using_block}
 use Rattle.normal_traits.specs.Steps.IsStep.{elsewhere, first_of_block}
 use Rattle.normal_traits.specs.Laws.{Laws, opening_world}
-use Rattle.list_laws.specs.declared.states.TheConstants.{LIST_START}
-use Rattle.list_laws.specs.declared.states.Left.{Left}
-use Rattle.list_laws.specs.declared.states.ListSearch.{ListSearch}
-use Rattle.list_laws.specs.declared.states.ListSearch.TheVariants.{AddReady}
-use Rattle.list_laws.specs.Lists.{the_list}
-use Rattle.list_laws.specs.Search.{leading, key_place, next_place, offered}
-use Rattle.list_laws.specs.Shape.{AreSorted}
-use Rattle.list_laws.specs.Knowledge.{Knows}
-use Rattle.list_laws.specs.Form.{list_form}
+use Rattle.harris_list_form.specs.declared.states.TheConstants.{LIST_START}
+use Rattle.harris_list_form.specs.declared.states.Left.{Left}
+use Rattle.harris_list_form.specs.declared.states.ListSearch.{ListSearch}
+use Rattle.harris_list_form.specs.declared.states.ListSearch.TheVariants.{AddReady}
+use Rattle.harris_list_form.specs.Lists.{the_list}
+use Rattle.harris_list_form.specs.Search.{leading, key_place, next_place, offered}
+use Rattle.harris_list_form.specs.Shape.{AreSorted}
+use Rattle.harris_list_form.specs.Knowledge.{Knows}
+use Rattle.harris_list_form.specs.Form.{list_form}
 use Rattle.refuted_forms.specs.ListForms.{list_with}
 
 -- ---- add 5 of seat 0

@@ -18,11 +18,11 @@ use Rattle.normal_traits.specs.Steps.{IsStep, exchanged}
 use Rattle.normal_traits.specs.Steps.IsStep.{searches}
 use Rattle.normal_traits.specs.Steps.Requested.{loaded, won}
 use Rattle.normal_traits.specs.Laws.{Laws, IsFixed}
-use Rattle.queue_laws.specs.declared.states.QueueSearch.TheVariants.{TakeTail, PutHelp}
-use Rattle.queue_laws.specs.declared.states.QueueSearch.{QueueSearch}
-use Rattle.queue_laws.specs.Search.{moved_word}
-use Rattle.queue_laws.specs.Knowledge.{Knows}
-use Rattle.queue_laws.specs.Form.{queue_form}
+use Rattle.ms_queue_form.specs.declared.states.QueueSearch.TheVariants.{TakeTail, PutHelp}
+use Rattle.ms_queue_form.specs.declared.states.QueueSearch.{QueueSearch}
+use Rattle.ms_queue_form.specs.Search.{moved_word}
+use Rattle.ms_queue_form.specs.Knowledge.{Knows}
+use Rattle.ms_queue_form.specs.Form.{queue_form}
 use Rattle.refuted_forms.specs.QueueForms.{found_at_the_tail, restarts, cause_of_the_node, queue_without_a_look, queue_that_restarts, queue_of_one_cause}
 use Rattle.refuted_forms.proofs.QueueWorlds.{the_put, the_command, the_list, the_search, the_entry, linked, linked_shape, knows_linked, offered_in}
 

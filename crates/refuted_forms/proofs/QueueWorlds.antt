@@ -20,13 +20,13 @@ use Rattle.normal_traits.specs.NormalForm.{NormalForm}
 use Rattle.normal_traits.specs.Steps.{IsStep, IsOffered, IsFilled, IsExchanged, exchanged, put_word, using_block}
 use Rattle.normal_traits.specs.Steps.IsStep.{elsewhere, first_of_block}
 use Rattle.normal_traits.specs.Laws.{Laws, opening_world}
-use Rattle.queue_laws.specs.declared.states.QueueSearch.{QueueSearch}
-use Rattle.queue_laws.specs.declared.states.QueueSearch.TheVariants.{PutReady}
-use Rattle.queue_laws.specs.declared.states.QueueWrap.{QueueWrap}
-use Rattle.queue_laws.specs.Search.{offered, next_place}
-use Rattle.queue_laws.specs.Shape.{IsQueue}
-use Rattle.queue_laws.specs.Knowledge.{Knows}
-use Rattle.queue_laws.specs.Form.{queue_form}
+use Rattle.ms_queue_form.specs.declared.states.QueueSearch.{QueueSearch}
+use Rattle.ms_queue_form.specs.declared.states.QueueSearch.TheVariants.{PutReady}
+use Rattle.ms_queue_form.specs.declared.states.QueueWrap.{QueueWrap}
+use Rattle.ms_queue_form.specs.Search.{offered, next_place}
+use Rattle.ms_queue_form.specs.Shape.{IsQueue}
+use Rattle.ms_queue_form.specs.Knowledge.{Knows}
+use Rattle.ms_queue_form.specs.Form.{queue_form}
 
 -- ---- put 7 of seat 0
 

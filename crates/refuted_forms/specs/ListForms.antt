@@ -4,14 +4,14 @@ use Rattle.step_memory.specs.declared.steps.Seen.{Seen}
 use Rattle.normal_traits.specs.declared.form.Found.{Found}
 use Rattle.normal_traits.specs.declared.form.Found.TheVariants.{Going, Ready}
 use Rattle.normal_traits.specs.NormalForm.{NormalForm}
-use Rattle.list_laws.specs.declared.states.Aim.{Aim}
-use Rattle.list_laws.specs.declared.states.Aim.TheVariants.{Add, Del, Has}
-use Rattle.list_laws.specs.declared.states.ListSearch.{ListSearch}
-use Rattle.list_laws.specs.declared.states.ListSearch.TheVariants.{Next, Key, AddReady}
-use Rattle.list_laws.specs.declared.states.ListWrap.{ListWrap}
-use Rattle.list_laws.specs.Lists.{the_list}
-use Rattle.list_laws.specs.Search.{fed}
-use Rattle.list_laws.specs.Form.{list_form}
+use Rattle.harris_list_form.specs.declared.states.Aim.{Aim}
+use Rattle.harris_list_form.specs.declared.states.Aim.TheVariants.{Add, Del, Has}
+use Rattle.harris_list_form.specs.declared.states.ListSearch.{ListSearch}
+use Rattle.harris_list_form.specs.declared.states.ListSearch.TheVariants.{Next, Key, AddReady}
+use Rattle.harris_list_form.specs.declared.states.ListWrap.{ListWrap}
+use Rattle.harris_list_form.specs.Lists.{the_list}
+use Rattle.harris_list_form.specs.Search.{fed}
+use Rattle.harris_list_form.specs.Form.{list_form}
 
 -- a list whose searches find and become this
 abbrev pub list_with : (ListSearch → Seen → ListSearch × Found) → NormalForm ListSearch ListWrap

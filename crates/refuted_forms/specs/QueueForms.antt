@@ -12,10 +12,10 @@ use Rattle.normal_traits.specs.declared.form.Wrapped.TheVariants.{Restart}
 use Rattle.normal_traits.specs.declared.lists.Entry.{Entry}
 use Rattle.normal_traits.specs.World.{World, Maker, Cause}
 use Rattle.normal_traits.specs.NormalForm.{NormalForm}
-use Rattle.queue_laws.specs.declared.states.QueueSearch.{QueueSearch}
-use Rattle.queue_laws.specs.declared.states.QueueSearch.TheVariants.{TakeTail}
-use Rattle.queue_laws.specs.declared.states.QueueWrap.{QueueWrap}
-use Rattle.queue_laws.specs.Form.{queue_form}
+use Rattle.ms_queue_form.specs.declared.states.QueueSearch.{QueueSearch}
+use Rattle.ms_queue_form.specs.declared.states.QueueSearch.TheVariants.{TakeTail}
+use Rattle.ms_queue_form.specs.declared.states.QueueWrap.{QueueWrap}
+use Rattle.ms_queue_form.specs.Form.{queue_form}
 
 -- a take that has loaded head and tail answers empty where both name one node
 abbrev pub found_at_the_tail : QueueSearch → Seen → Found

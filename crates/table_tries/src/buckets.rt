@@ -4,7 +4,7 @@ use crate::seated::{Seated, Whole};
 use bucket_set::BucketSet;
 use fast_slow_engine::{Call, Tried};
 use harris_list::Seeking;
-use list_laws::ListWrap;
+use harris_list_form::ListWrap;
 use shared_memory::{SeatPort, Shared};
 use step_memory::Seen;
 use thread_runs::Tries;
@@ -13,8 +13,8 @@ use whole_calls::{Steps, try_once};
 impl<const N: u32> Steps<BucketSet<N>> for Seated<'_, BucketSet<N>> {
     ghost use Rattle.std.specs.Prelude.{ℕ};
     ghost use Rattle.bucket_set.specs.declared.buckets.BucketSet.{BucketSet};
-    ghost use Rattle.list_laws.specs.declared.states.ListSearch.{ListSearch};
-    ghost use Rattle.list_laws.specs.declared.states.ListWrap.{ListWrap};
+    ghost use Rattle.harris_list_form.specs.declared.states.ListSearch.{ListSearch};
+    ghost use Rattle.harris_list_form.specs.declared.states.ListWrap.{ListWrap};
     ghost use Rattle.shared_memory.specs.Views.{Face, Memory, beside};
 
     ghost Rest = { ℕ × Memory × Face (BucketSet N) ListSearch ListWrap };

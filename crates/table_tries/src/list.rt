@@ -3,7 +3,7 @@
 use crate::seated::{Seated, Whole};
 use fast_slow_engine::{Call, Tried};
 use harris_list::{HarrisList, Seeking};
-use list_laws::ListWrap;
+use harris_list_form::ListWrap;
 use shared_memory::{SeatPort, Shared};
 use step_memory::Seen;
 use thread_runs::Tries;
@@ -12,8 +12,8 @@ use whole_calls::{Steps, try_once};
 impl Steps<HarrisList> for Seated<'_, HarrisList> {
     ghost use Rattle.std.specs.Prelude.{ℕ};
     ghost use Rattle.harris_list.specs.declared.list.HarrisList.{HarrisList};
-    ghost use Rattle.list_laws.specs.declared.states.ListSearch.{ListSearch};
-    ghost use Rattle.list_laws.specs.declared.states.ListWrap.{ListWrap};
+    ghost use Rattle.harris_list_form.specs.declared.states.ListSearch.{ListSearch};
+    ghost use Rattle.harris_list_form.specs.declared.states.ListWrap.{ListWrap};
     ghost use Rattle.shared_memory.specs.Views.{Face, Memory, beside};
 
     ghost Rest = { ℕ × Memory × Face HarrisList ListSearch ListWrap };

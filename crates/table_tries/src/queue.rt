@@ -11,8 +11,8 @@ use whole_calls::{Steps, try_once};
 impl Steps<MsQueue> for Seated<'_, MsQueue> {
     ghost use Rattle.std.specs.Prelude.{ℕ};
     ghost use Rattle.ms_queue.specs.declared.queue.MsQueue.{MsQueue};
-    ghost use Rattle.queue_laws.specs.declared.states.QueueSearch.{QueueSearch};
-    ghost use Rattle.queue_laws.specs.declared.states.QueueWrap.{QueueWrap};
+    ghost use Rattle.ms_queue_form.specs.declared.states.QueueSearch.{QueueSearch};
+    ghost use Rattle.ms_queue_form.specs.declared.states.QueueWrap.{QueueWrap};
     ghost use Rattle.shared_memory.specs.Views.{Face, Memory, beside};
 
     ghost Rest = { ℕ × Memory × Face MsQueue QueueSearch QueueWrap };

@@ -2,7 +2,7 @@
 
 use crate::seated::{Seated, Whole};
 use ellen_tree::EllenTree;
-use ellen_tree_laws::TreeSearch;
+use ellen_tree_form::TreeSearch;
 use fast_slow_engine::{Call, Tried};
 use shared_memory::{SeatPort, Shared};
 use step_memory::Seen;
@@ -13,7 +13,7 @@ use whole_calls::{Steps, try_once};
 impl Steps<EllenTree> for Seated<'_, EllenTree> {
     ghost use Rattle.std.specs.Prelude.{ℕ};
     ghost use Rattle.ellen_tree.specs.declared.tree.EllenTree.{EllenTree};
-    ghost use Rattle.ellen_tree_laws.specs.declared.states.TreeSearch.{TreeSearch};
+    ghost use Rattle.ellen_tree_form.specs.declared.states.TreeSearch.{TreeSearch};
     ghost use Rattle.tree_help.specs.declared.states.Help.{Help};
     ghost use Rattle.shared_memory.specs.Views.{Face, Memory, beside};
 

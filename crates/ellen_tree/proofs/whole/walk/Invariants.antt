@@ -1,6 +1,6 @@
 use Rattle.std.proofs.Common.{◌≡◌, ◌<◌, ◌^◌}
-use Rattle.ellen_tree_laws.specs.declared.states.TreeSearch.TheVariants.{AtUpdate}
-use Rattle.ellen_tree_laws.specs.Search.{AboveInRange}
+use Rattle.ellen_tree_form.specs.declared.states.TreeSearch.TheVariants.{AtUpdate}
+use Rattle.ellen_tree_form.specs.Search.{AboveInRange}
 use Rattle.fast_slow_engine.specs.declared.phases.Phase.TheVariants.{Generate}
 use Rattle.fast_slow_engine.specs.declared.phases.Generating.TheVariants.{Search}
 use Rattle.fast_slow_engine.specs.PhaseTable.{in_phase}

@@ -1,6 +1,6 @@
 use Rattle.std.proofs.Common.{◌≡◌, ◌<◌, ◌^◌}
-use Rattle.list_laws.specs.Search.{begun_at, sought_of, moved_on}
-use Rattle.list_laws.specs.Form.{list_form}
+use Rattle.harris_list_form.specs.Search.{begun_at, sought_of, moved_on}
+use Rattle.harris_list_form.specs.Form.{list_form}
 use Rattle.fast_slow_engine.specs.PhaseTable.{searched}
 use Rattle.harris_list.proofs.whole.walk.Given as goal
 

@@ -1,5 +1,5 @@
 use Rattle.std.proofs.Common.{◌≡◌}
-use Rattle.queue_laws.specs.declared.states.QueueSearch.TheVariants.{PutTail}
+use Rattle.ms_queue_form.specs.declared.states.QueueSearch.TheVariants.{PutTail}
 use Rattle.fast_slow_engine.specs.declared.phases.Phase.TheVariants.{Generate}
 use Rattle.fast_slow_engine.specs.declared.phases.Generating.TheVariants.{Search}
 use Rattle.fast_slow_engine.specs.PhaseTable.{in_phase}

@@ -1,5 +1,0 @@
-use Rattle.flagged_register.proofs.Whole.{flagged_laws}
-use Rattle.flagged_register.proofs.every_law.Goals as goal
-
-pub returns : goal.returns
-returns c = flagged_laws

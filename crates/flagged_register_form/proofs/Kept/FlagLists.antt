@@ -1,0 +1,54 @@
+-- The lists that set the flag, before and after a step, and the one whose flag is up.
+use Rattle.std.proofs.Common.{◌≡◌, ℕ, ◌<◌, Bool, true, false, List, ◌∷◌, sym, ap, ◌∙◌, inl, inr, ◌⊎◌, arith}
+use Rattle.word_fields.specs.Versioned.{versioned_value, versioned_version, cleared_word}
+use Rattle.word_fields.proofs.VersionedLemmas.{value-cleared}
+use Rattle.normal_traits.specs.World.{Listed, Maker, Won, World, Among}
+use Rattle.normal_traits.specs.World.Maker.{By, Beside}
+use Rattle.flagged_register_form.specs.Register.{FLAG, REGISTER, note_place, flag_value, flag_of, decided}
+use Rattle.flagged_register_form.specs.Meanings.{Flagged, Stands, Shape, flag_won}
+use Rattle.flagged_register_form.proofs.Effects.{flag_set}
+use Rattle.flagged_register_form.proofs.Later.{flag_names}
+
+-- ---- lists that set the flag, before and after
+
+pub flagged_from : (a b : World) (list : Listed) → ((item : Won) → Among item a.journal → Among item b.journal) → Flagged a list → Flagged b list
+flagged_from a b list f flagged = record { from = flagged.from; entries = flagged.entries; won = f (flag_won list flagged.from) flagged.won }
+
+abbrev list_of : Listed → Maker → Listed
+list_of other (By list j) = list
+list_of other Beside = other
+
+abbrev is_by : Maker → Bool
+is_by (By list j) = true
+is_by Beside = false
+
+-- an exchange beside the lists sets no flag
+pub older : (list : Listed) (from : ℕ) (new : Won) (journal : List Won) → new.maker ≡ Beside → Among (flag_won list from) (new ∷ journal) → Among (flag_won list from) journal
+older list from new journal beside (inl e) = let e' : true ≡ false = ap (λ (w : Won). is_by w.maker) e ∙ ap is_by beside in absurd cc
+older list from new journal beside (inr among) = among
+
+-- after the setting of a flag, the lists that set one are those before and the new one
+pub newly : (world : World) (list : Listed) (from word : ℕ) (other : Listed) → Flagged (flag_set list from word world) other → (other ≡ list) ⊎ Flagged world other
+newly world list from word other flagged = by_place flagged.won
+  where
+    by_place : Among (flag_won other flagged.from) (flag_won list from ∷ world.journal) → (other ≡ list) ⊎ Flagged world other
+    by_place (inl e) = inl (ap (λ (w : Won). list_of list w.maker) e)
+    by_place (inr among) = inr (record { from = flagged.from; entries = flagged.entries; won = among })
+
+-- ---- one flag is up
+
+-- two lists whose flags are up are one
+module _ (world : World) (shape : Shape world) where
+  pub one_up : (a b : Listed) → Flagged world a → Flagged world b → cleared_word (world.words FLAG) ≡ flag_of a.entries → cleared_word (world.words FLAG) ≡ flag_of b.entries → a ≡ b
+  one_up a b fa fb ua ub = shape.same_block a b fa fb (omega (arith, flag_names world a shape fa, flag_names world b shape fb, ap versioned_value (sym ua ∙ ub)))
+
+  -- a list's change isn't made while its flag stands
+  pub not_both : (list : Listed) → Stands world list → versioned_version (world.words (note_place list.block)) < versioned_version (world.words REGISTER) → ⊥
+  not_both list stands passed = omega (arith, passed, ap versioned_version stands.register)
+
+  pub up_value : (list : Listed) → Flagged world list → cleared_word (world.words FLAG) ≡ flag_of list.entries → versioned_value (world.words FLAG) ≡ flag_value list.block
+  up_value list flagged up = sym (value-cleared (world.words FLAG)) ∙ ap versioned_value up ∙ flag_names world list shape flagged
+
+-- a decision that is open or taken
+abbrev pub IsDecision : ℕ → Type 0
+IsDecision word = (word ≡ 0) ⊎ ((word ≡ decided true) ⊎ (word ≡ decided false))

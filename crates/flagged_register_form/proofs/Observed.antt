@@ -1,0 +1,154 @@
+-- An operation that finds the register as it would leave it only observes.
+use Rattle.std.proofs.Common.{◌≡◌, ℕ, ◌/◌, Bool, true, false, not, ◌||◌, ◌&&◌, is_some, refl, sym, ap, subst, ◌∙◌, inl, inr, ◌⊎◌, arith}
+use Rattle.std.specs.Prelude.{◌==◌, if◌then◌else◌, IsTrue, Some, None, nat_lt}
+use Rattle.std.specs.FinMap as map
+use Rattle.std.specs.Ordering.{nat_cmp}
+use Rattle.std.specs.Cmp.{nat_cmp_total, unsigned_tied}
+use Rattle.std.proofs.lemmas.Bool.{eqb-true, eq-eqb, ne_eqb, or_cases, and_parts}
+use Rattle.lin_report.specs.declared.calls.Op.{Op}
+use Rattle.lin_report.specs.declared.calls.Outcome.{Outcome}
+use Rattle.lin_report.specs.declared.calls.Outcome.TheVariants.{Plain, ValueOf}
+use Rattle.lin_report.specs.declared.calls.Reply.{Reply}
+use Rattle.lin_report.specs.declared.calls.Reply.TheVariants.{No, Yes, Absent, Value}
+use Rattle.lin_report.specs.declared.calls.Client.TheVariants.{Tree}
+use Rattle.lin_report.specs.declared.calls.TheConstants.{SET, REM, GET, HAS}
+use Rattle.lin_report.specs.Object.{map_apply, set_absent, value_or_absent, yes_if}
+use Rattle.lin_report.specs.Commands.{IsCommandOf, takes_key, may_exhaust, KEY_LIMIT}
+use Rattle.node_arena.specs.declared.places.TheConstants.{NODE_VALUE}
+use Rattle.node_arena.specs.MemoryMap.{node_place, block_at}
+use Rattle.node_arena.proofs.PlaceLemmas.{node_place-reference_to, block_at-block_place, field_at-block_place}
+use Rattle.word_fields.specs.Versioned.{versioned_value}
+use Rattle.normal_traits.specs.World.{World, StandsFor}
+use Rattle.normal_traits.specs.Laws.{IsFixed}
+use Rattle.flagged_register_form.specs.Register.{FLAG, REGISTER, value_at, flag_value, is_in, toggles, told}
+use Rattle.flagged_register_form.specs.Meanings.{content, IsName, flagged_form}
+use Rattle.flagged_register_form.proofs.Basics.{value_flag, value_register}
+
+remove_same : (pairs : map.FinMap nat_cmp ℕ) → map.get pairs 0 ≡ None → map.remove pairs 0 ≡ pairs
+remove_same pairs has = map.same_map nat_cmp_total map.nat_cmp-IsAntisymmetric (map.remove pairs 0) pairs (λ q.
+    map.get-remove nat_cmp_total pairs 0 q ∙ ap (λ (b : Bool). if b then None else map.get pairs q) (unsigned_tied q 0) ∙ by_test q (q == 0) refl)
+  where
+    by_test : (q : ℕ) (b : Bool) → (q == 0) ≡ b → (if b then None else map.get pairs q) ≡ map.get pairs q
+    by_test q true e = sym (ap (map.get pairs) (eqb-true q 0 e) ∙ has)
+    by_test q false e = refl
+
+-- ---- what a register says
+
+-- the register's value at a node, or none
+module _ (world : World) (register : ℕ) where
+  none_in : versioned_value register ≡ 0 → is_in register ≡ false
+  none_in e = ap not (eq-eqb (versioned_value register) 0 e)
+
+  pub none_content : versioned_value register ≡ 0 → content register world.words ≡ None
+  none_content e = ap (λ b. if b then None else Some (world.words (value_at (versioned_value register / 4)))) (eq-eqb (versioned_value register) 0 e)
+
+  module _ (block : ℕ) (name : versioned_value register ≡ flag_value block) where
+    some_test : (versioned_value register == 0) ≡ false
+    some_test = ne_eqb (versioned_value register) 0 (λ e. absurd (omega (arith, e, name)))
+
+    some_in : is_in register ≡ true
+    some_in = ap not some_test
+
+    pub some_content : content register world.words ≡ Some (world.words (value_at block))
+    some_content =
+        let same : versioned_value register / 4 ≡ block = omega (arith, name) in
+        ap (λ b. if b then None else Some (world.words (value_at (versioned_value register / 4)))) some_test ∙ ap (λ b. Some (world.words (value_at b))) same
+
+    node_is : node_place (versioned_value register) NODE_VALUE ≡ value_at block
+    node_is = ap (λ reference. node_place reference NODE_VALUE) name ∙ node_place-reference_to block 1 1 (omega arith) (omega arith)
+
+    fixed_value : flagged_form.is_versioned (node_place (versioned_value register) NODE_VALUE) ≡ false
+    fixed_value = subst (λ place. flagged_form.is_versioned place ≡ false) (sym node_is)
+        (rw (ne_eqb (value_at block) FLAG (value_flag block), ne_eqb (value_at block) REGISTER (value_register block), field_at-block_place block 13 (omega arith)) refl)
+
+  pub has_key : (pairs : map.FinMap nat_cmp ℕ) → IsName register world.used → map.get pairs 0 ≡ content register world.words → map.contains_key pairs 0 ≡ is_in register
+  has_key pairs (inl e) tells = ap is_some (tells ∙ none_content e) ∙ sym (none_in e)
+  has_key pairs (inr name) tells = ap is_some (tells ∙ some_content name.0 name.3) ∙ sym (some_in name.0 name.3)
+
+-- ---- observations
+
+abbrev applied : ℕ → ℕ → map.FinMap nat_cmp ℕ → map.FinMap nat_cmp ℕ × Reply
+applied code value pairs = if code == SET then set_absent 0 value pairs else (if code == REM then (map.remove pairs 0, yes_if (map.contains_key pairs 0)) else (pairs, value_or_absent (map.get pairs 0)))
+
+abbrev told_by : ℕ → ℕ → Outcome
+told_by code register = if code == GET then (if is_in register then ValueOf (versioned_value register) else Plain Absent) else Plain No
+
+abbrev IsObserved : World → ℕ → ℕ → ℕ → map.FinMap nat_cmp ℕ → Type 0
+IsObserved world register value code pairs =
+    (if code == SET then not (is_in register) else (if code == REM then is_in register else false)) ≡ false
+    → ((applied code value pairs).0 ≡ pairs) × StandsFor world (told_by code register) (applied code value pairs).1 × IsFixed flagged_form (told_by code register)
+
+module _ (world : World) (register value : ℕ) (pairs : map.FinMap nat_cmp ℕ) (names : IsName register world.used) (tells : map.get pairs 0 ≡ content register world.words) where
+  has : map.contains_key pairs 0 ≡ is_in register
+  has = has_key world register pairs names tells
+
+  observed_set : IsObserved world register value SET pairs
+  observed_set = λ same.
+      let key : map.contains_key pairs 0 ≡ true = has ∙ by_not (is_in register) same in
+      let after : set_absent 0 value pairs ≡ (pairs, No) = ap (λ (b : Bool). if b then (pairs, No) else (map.insert pairs 0 value, Yes)) key in
+      (ap (λ (x : map.FinMap nat_cmp ℕ × Reply). x.0) after, sym (ap (λ (x : map.FinMap nat_cmp ℕ × Reply). x.1) after), tt)
+    where
+      by_not : (b : Bool) → not b ≡ false → b ≡ true
+      by_not true e = refl
+      by_not false e = absurd cc
+
+  observed_rem : IsObserved world register value REM pairs
+  observed_rem = λ same. (remove_same pairs (by_name names same), sym (ap yes_if (has ∙ same)), tt)
+    where
+      by_name : IsName register world.used → is_in register ≡ false → map.get pairs 0 ≡ None
+      by_name (inl e) out = tells ∙ none_content world register e
+      by_name (inr name) out = let one = some_in world register name.0 name.3 in absurd cc
+
+  observed_get : IsObserved world register value GET pairs
+  observed_get = λ same. (refl, (by_name names).0, (by_name names).1)
+    where
+      told_get : Bool → Outcome
+      told_get b = if b then ValueOf (versioned_value register) else Plain Absent
+
+      by_name : IsName register world.used → StandsFor world (if is_in register then ValueOf (versioned_value register) else Plain Absent) (value_or_absent (map.get pairs 0))
+          × IsFixed flagged_form (if is_in register then ValueOf (versioned_value register) else Plain Absent)
+      by_name (inl e) =
+          subst (λ (b : Bool). StandsFor world (if b then ValueOf (versioned_value register) else Plain Absent) (value_or_absent (map.get pairs 0)) × IsFixed flagged_form (if b then ValueOf (versioned_value register) else Plain Absent))
+          (sym (none_in world register e)) (ap value_or_absent (sym (tells ∙ none_content world register e)), tt)
+      by_name (inr name) =
+          let place = node_is world register name.0 name.3 in
+          let used : world.used (block_at (node_place (versioned_value register) NODE_VALUE)) ≡ true = ap (λ p. world.used (block_at p)) place ∙ ap world.used (block_at-block_place name.0 13 (omega arith)) ∙ name.1 in
+          let word : Value (world.words (node_place (versioned_value register) NODE_VALUE)) ≡ value_or_absent (map.get pairs 0) =
+          ap (λ p. Value (world.words p)) place ∙ sym (ap value_or_absent (tells ∙ some_content world register name.0 name.3)) in
+          subst (λ (b : Bool). StandsFor world (if b then ValueOf (versioned_value register) else Plain Absent) (value_or_absent (map.get pairs 0)) × IsFixed flagged_form (if b then ValueOf (versioned_value register) else Plain Absent))
+          (sym (some_in world register name.0 name.3)) ((used, word), fixed_value world register name.0 name.3)
+
+code_of : (op : Op) → IsCommandOf Tree op → (op.code ≡ SET) ⊎ ((op.code ≡ REM) ⊎ (op.code ≡ GET))
+code_of op command = by_set (or_cases (op.code == SET && nat_lt op.key KEY_LIMIT) ((op.code == REM || op.code == GET) && takes_key op) command.command)
+  where
+    by_rem : ((op.code == REM) ≡ true) ⊎ ((op.code == GET) ≡ true) → (op.code ≡ SET) ⊎ ((op.code ≡ REM) ⊎ (op.code ≡ GET))
+    by_rem (inl e) = inr (inl (eqb-true op.code REM e))
+    by_rem (inr e) = inr (inr (eqb-true op.code GET e))
+
+    by_set : ((op.code == SET && nat_lt op.key KEY_LIMIT) ≡ true) ⊎ (((op.code == REM || op.code == GET) && takes_key op) ≡ true) → (op.code ≡ SET) ⊎ ((op.code ≡ REM) ⊎ (op.code ≡ GET))
+    by_set (inl e) = inl (eqb-true op.code SET (and_parts (op.code == SET) (nat_lt op.key KEY_LIMIT) e).0)
+    by_set (inr e) = by_rem (or_cases (op.code == REM) (op.code == GET) (and_parts (op.code == REM || op.code == GET) (takes_key op) e).0)
+
+pub observed : (world : World) (op : Op) (register : ℕ) (pairs : map.FinMap nat_cmp ℕ) → IsCommandOf Tree op → op.key ≡ 0 → toggles op register ≡ false → IsName register world.used → map.get pairs 0 ≡ content register world.words
+    → ((map_apply op pairs).0 ≡ pairs) × StandsFor world (told op register) (map_apply op pairs).1 × IsFixed flagged_form (told op register)
+observed world op register pairs command key same names tells = rw key (by_code (code_of op command) same)
+  where
+    by_code : (op.code ≡ SET) ⊎ ((op.code ≡ REM) ⊎ (op.code ≡ GET)) → IsObserved world register op.value op.code pairs
+    by_code (inl e) = subst (λ c. IsObserved world register op.value c pairs) (sym e) (observed_set world register op.value pairs names tells)
+    by_code (inr (inl e)) = subst (λ c. IsObserved world register op.value c pairs) (sym e) (observed_rem world register op.value pairs names tells)
+    by_code (inr (inr e)) = subst (λ c. IsObserved world register op.value c pairs) (sym e) (observed_get world register op.value pairs names tells)
+
+abbrev may : ℕ → Type 0
+may code = IsTrue (code == SET || code == REM) × IsTrue (not (code == HAS || code == GET))
+
+-- an operation that would change the register may be listed, and may find no block
+pub listed : (op : Op) (register : ℕ) → toggles op register ≡ true → IsTrue (op.code == SET || op.code == REM) × IsTrue (may_exhaust op)
+listed op register e = by_set (op.code == SET) refl e
+  where
+    by_rem : (d : Bool) → (op.code == REM) ≡ d → (if d then is_in register else false) ≡ true → may op.code
+    by_rem true is e' = subst may (sym (eqb-true op.code REM is)) (refl, refl)
+    by_rem false is e' = absurd cc
+
+    by_set : (a : Bool) → (op.code == SET) ≡ a → (if a then not (is_in register) else (if op.code == REM then is_in register else false)) ≡ true → may op.code
+    by_set true is e' = subst may (sym (eqb-true op.code SET is)) (refl, refl)
+    by_set false is e' = by_rem (op.code == REM) refl e'

@@ -1,0 +1,244 @@
+-- Each allowed step has one of the four effects.
+use Rattle.std.proofs.Common.{◌≡◌, ◌≢◌, ℕ, ◌+◌, ◌/◌, ◌<◌, true, false, not, ◌∷◌, Option, refl, sym, ap, subst, ◌∙◌, inl, inr, ◌⊎◌, arith, Bool}
+use Rattle.std.specs.Prelude.{◌==◌, if◌then◌else◌, slice_get, Some, None}
+use Rattle.std.proofs.lemmas.Bool.{eq-eqb, ne_eqb, eqb-true}
+use Rattle.node_arena.specs.MemoryMap.{block_place, block_at}
+use Rattle.node_arena.proofs.PlaceLemmas.{block_at-block_place}
+use Rattle.word_fields.specs.Versioned.{versioned_value, versioned_version, changed_word, cleared_word}
+use Rattle.word_fields.proofs.VersionedLemmas.{value-cleared}
+use Rattle.lin_report.specs.declared.calls.Op.{Op}
+use Rattle.lin_report.specs.Object.{map_object}
+use Rattle.step_memory.specs.declared.steps.Request.TheVariants.{Load, Exchange}
+use Rattle.step_memory.specs.declared.steps.Seen.{Seen}
+use Rattle.normal_traits.specs.declared.lists.Entry.{Entry}
+use Rattle.normal_traits.specs.World.{Listed, Cause, World, is_word, is_state}
+use Rattle.normal_traits.specs.World.Maker.{By, Beside}
+use Rattle.normal_traits.specs.Steps.{with_word, put_word, with_change, IsExchanged, IsFresh, IsFilled, IsOffered, Requested, IsStep, exchanged, using_block}
+use Rattle.normal_traits.specs.Steps.IsStep.{nothing, elsewhere, clears, searches, wraps, first, first_of_block, second}
+use Rattle.flagged_register_form.specs.Register.{FLAG, REGISTER, note_place, flag_value, toggled, toggles, flag_entry, flag_of, offer_of, Help, Search, request_of, request_of_help, decision_place, decided, value_at}
+use Rattle.flagged_register_form.specs.Register.Help.{Deciding, Checking, Reading, Changing, Clearing}
+use Rattle.flagged_register_form.specs.Register.Search.{AtFlag, AtRegister, Named, Helping}
+use Rattle.flagged_register_form.specs.Meanings.{Flagged, Made, Stands, Shape, flagged_block, cause_here, cause_of, flagger, adds_beside, Helps, WasRead, Knows, flagged_form, asks, IsGone}
+use Rattle.flagged_register_form.proofs.Basics.{register_flag, flag_register, note_flag, decision_flag, decided_once, decision_register, value_flag}
+use Rattle.flagged_register_form.proofs.Effects.{Effect, Sets, change_made, flag_cleared, change_decided}
+use Rattle.flagged_register_form.proofs.Effects.Effect.{quiet, sets, makes, decides}
+use Rattle.flagged_register_form.proofs.Journal.{took_of, flagger_is}
+use Rattle.flagged_register_form.proofs.Later.{flag_names}
+use Rattle.normal_traits.proofs.Stays.{word_beside}
+use Rattle.client_lemmas.proofs.Places.{field_word}
+use Rattle.client_lemmas.proofs.Words.{same_place, not_word}
+use Rattle.client_lemmas.proofs.Entries.{the_entry, no_second}
+use Rattle.client_lemmas.proofs.Requests.{HasWon, Went, went}
+
+-- ---- a request of a help
+
+abbrev entry_here : ℕ → ℕ → ℕ → Entry
+entry_here place from to = record { target = place; from = from; to = to }
+
+unchanged : (world : World) → Effect world world
+unchanged world = quiet world.words (record { flag = inl refl; register = refl; notes = λ block used. refl; values = λ block used. refl; decisions = λ block used. refl })
+
+-- ---- the exchange of the register
+
+abbrev with_made : World → ℕ → ℕ → Option Listed → Cause → World
+with_made world register to added cause =
+    record {
+      words = with_word REGISTER to world.words;
+      changes = with_change map_object added world.changes;
+      used = world.used;
+      journal = record { place = REGISTER; before = register; after = to; maker = Beside; cause = cause } ∷ world.journal;
+    }
+
+-- of a flag that is up, the block and the list are found by its word
+module _ (world : World) (list : Listed) (shape : Shape world) (flagged : Flagged world list) (up : cleared_word (world.words FLAG) ≡ flag_of list.entries) where
+  up_value : versioned_value (world.words FLAG) ≡ flag_value list.block
+  up_value = sym (value-cleared (world.words FLAG)) ∙ ap versioned_value up ∙ flag_names world list shape flagged
+
+  up_block : flagged_block (world.words FLAG) ≡ list.block
+  up_block = omega (arith, up_value)
+
+  pub adds_own : (from to : ℕ) → adds_beside world (entry_here REGISTER from to) ≡ Some list
+  adds_own from to =
+      ap (λ b. if b then flagger (flagged_block (world.words FLAG)) world.journal else None) (eq-eqb REGISTER REGISTER refl)
+      ∙ ap (λ block. flagger block world.journal) up_block ∙ flagger_is world list shape flagged
+
+  own_cause : (from to : ℕ) → cause_of world Beside (entry_here REGISTER from to) ≡ cause_here list.block 1
+  own_cause from to =
+      ap (λ b. if b then cause_here (flagged_block (world.words FLAG)) 1 else (if REGISTER == FLAG then cause_here (flagged_block from) 2 else cause_here (block_at REGISTER) 3)) (eq-eqb REGISTER REGISTER refl)
+      ∙ ap (λ block. cause_here block 1) up_block
+
+pub make_effect : (world after : World) (seen : Seen) (list : Listed) (noted : ℕ) → Shape world → Flagged world list → world.words (decision_place list.block) ≡ decided true → noted ≡ world.words (note_place list.block) → HasWon flagged_form world after seen REGISTER noted (toggled noted list.block) → Effect world after
+make_effect world after seen list noted shape flagged agreed own w = by_fate (shape.flaggers list flagged).fate
+  where
+    by_fate : Stands world list ⊎ (Made world list ⊎ IsGone world list) → Effect world after
+    by_fate (inr (inr gone)) = absurd (decided_once (sym agreed ∙ gone))
+    by_fate (inr (inl made)) = absurd (omega (arith, made.passed, ap versioned_version (w.0 ∙ own)))
+    by_fate (inl stands) =
+        let e : after ≡ change_made list world =
+        w.2 ∙ ap (λ added. with_made world noted (toggled noted list.block) added (cause_of world Beside (entry_here REGISTER noted (toggled noted list.block)))) (adds_own world list shape flagged stands.flag noted (toggled noted list.block))
+        ∙ ap (with_made world noted (toggled noted list.block) (Some list)) (own_cause world list shape flagged stands.flag noted (toggled noted list.block))
+        ∙ ap (λ register. with_made world register (toggled register list.block) (Some list) (cause_here list.block 1)) (sym w.0) in
+        let raised : versioned_version (toggled (world.words REGISTER) list.block) ≡ versioned_version (world.words REGISTER) + 1 = subst (λ r. versioned_version (toggled r list.block) ≡ versioned_version r + 1) (sym w.0) w.1 in
+        subst (Effect world) (sym e) (makes list (record { flagged = flagged; stands = stands; agreed = agreed; raised = raised }))
+
+-- ---- the exchange of the flag
+
+abbrev with_cleared : World → ℕ → Option Listed → Cause → World
+with_cleared world flag added cause =
+    record {
+      words = with_word FLAG (changed_word flag 0) world.words;
+      changes = with_change map_object added world.changes;
+      used = world.used;
+      journal = record { place = FLAG; before = flag; after = changed_word flag 0; maker = Beside; cause = cause } ∷ world.journal;
+    }
+
+pub clear_effect : (world after : World) (seen : Seen) (list : Listed) (flag : ℕ) → Shape world → Flagged world list → flag ≡ flag_of list.entries → Made world list ⊎ IsGone world list → HasWon flagged_form world after seen FLAG flag (changed_word flag 0) → Effect world after
+clear_effect world after seen list flag shape flagged own ends w =
+    let test : (FLAG == REGISTER) ≡ false = ne_eqb FLAG REGISTER flag_register in
+    let adds : adds_beside world (entry_here FLAG flag (changed_word flag 0)) ≡ None = ap (λ b. if b then flagger (flagged_block (world.words FLAG)) world.journal else None) test in
+    let value : versioned_value flag ≡ flag_value list.block = ap versioned_value own ∙ flag_names world list shape flagged in
+    let block : flagged_block flag ≡ list.block = omega (arith, value) in
+    let cause : cause_of world Beside (entry_here FLAG flag (changed_word flag 0)) ≡ cause_here list.block 2 =
+    ap (λ b. if b then cause_here (flagged_block (world.words FLAG)) 1 else (if FLAG == FLAG then cause_here (flagged_block flag) 2 else cause_here (block_at FLAG) 3)) test
+    ∙ ap (λ b. if b then cause_here (flagged_block flag) 2 else cause_here (block_at FLAG) 3) (eq-eqb FLAG FLAG refl) ∙ ap (λ b. cause_here b 2) block in
+    let e : after ≡ flag_cleared list flag world =
+    w.2 ∙ ap (λ added. with_cleared world flag added (cause_of world Beside (entry_here FLAG flag (changed_word flag 0)))) adds ∙ ap (with_cleared world flag None) cause in
+    subst (Effect world) (sym e) (Effect.clears list flag (record { flagged = flagged; ends = ends; own = own; here = w.0; raised = w.1 }))
+
+-- ---- the exchange of a decision
+
+abbrev with_decided : World → ℕ → Bool → Option Listed → Cause → World
+with_decided world place made added cause =
+    record {
+      words = with_word place (decided made) world.words;
+      changes = with_change map_object added world.changes;
+      used = world.used;
+      journal = record { place = place; before = 0; after = decided made; maker = Beside; cause = cause } ∷ world.journal;
+    }
+
+pub decide_effect : (world after : World) (seen : Seen) (list : Listed) (made : Bool) → Shape world → Flagged world list → HasWon flagged_form world after seen (decision_place list.block) 0 (decided made) → Effect world after
+decide_effect world after seen list made shape flagged w =
+    let place = decision_place list.block in
+    let not_register : (place == REGISTER) ≡ false = ne_eqb place REGISTER (decision_register list.block) in
+    let not_flag : (place == FLAG) ≡ false = ne_eqb place FLAG (decision_flag list.block) in
+    let adds : adds_beside world (entry_here place 0 (decided made)) ≡ None = ap (λ b. if b then flagger (flagged_block (world.words FLAG)) world.journal else None) not_register in
+    let cause : cause_of world Beside (entry_here place 0 (decided made)) ≡ cause_here list.block 3 =
+    ap (λ b. if b then cause_here (flagged_block (world.words FLAG)) 1 else (if place == FLAG then cause_here (flagged_block 0) 2 else cause_here (block_at place) 3)) not_register
+    ∙ ap (λ b. if b then cause_here (flagged_block 0) 2 else cause_here (block_at place) 3) not_flag ∙ ap (λ b. cause_here b 3) (block_at-block_place list.block 28 (omega arith)) in
+    let e : after ≡ change_decided list made world =
+    w.2 ∙ ap (λ added. with_decided world place made added (cause_of world Beside (entry_here place 0 (decided made)))) adds ∙ ap (with_decided world place made None) cause in
+    subst (Effect world) (sym e) (decides list made (record { flagged = flagged; undecided = w.0 }))
+
+-- ---- the requests of a help
+
+-- the block that its flag names is the list's
+pub named_block : (world : World) (list : Listed) (flag : ℕ) → Shape world → Flagged world list → flag ≡ flag_of list.entries → versioned_value flag / 4 ≡ list.block
+named_block world list flag shape flagged own = omega (arith, ap versioned_value own, flag_names world list shape flagged)
+
+pub help_effect : (world after : World) (seen : Seen) (help : Help) (list : Listed) → Shape world → Helps help world list → Requested flagged_form (request_of_help help) world after seen → Effect world after
+help_effect world after seen (Deciding flag make) list shape h r = by_cases (went flagged_form (Exchange (decision_place (versioned_value flag / 4)) 0 (decided make)) world after seen r)
+  where
+    by_cases : Went flagged_form (Exchange (decision_place (versioned_value flag / 4)) 0 (decided make)) world after seen → Effect world after
+    by_cases (inl l) = subst (Effect world) (sym l.1) (unchanged world)
+    by_cases (inr w) = decide_effect world after seen list make shape h.0 (subst (λ block. HasWon flagged_form world after seen (decision_place block) 0 (decided make)) (named_block world list flag shape h.0 h.1) w)
+help_effect world after seen (Checking flag) list shape h r = subst (Effect world) (sym (went flagged_form (Load (decision_place (versioned_value flag / 4))) world after seen r).0) (unchanged world)
+help_effect world after seen (Reading flag) list shape h r = subst (Effect world) (sym (went flagged_form (Load (note_place (versioned_value flag / 4))) world after seen r).0) (unchanged world)
+help_effect world after seen (Changing flag noted) list shape h r = by_cases (went flagged_form (Exchange REGISTER noted (toggled noted (versioned_value flag / 4))) world after seen r)
+  where
+    by_cases : Went flagged_form (Exchange REGISTER noted (toggled noted (versioned_value flag / 4))) world after seen → Effect world after
+    by_cases (inl l) = subst (Effect world) (sym l.1) (unchanged world)
+    by_cases (inr w) = make_effect world after seen list noted shape h.0 h.2 h.3 (subst (λ block. HasWon flagged_form world after seen REGISTER noted (toggled noted block)) (named_block world list flag shape h.0 h.1) w)
+help_effect world after seen (Clearing flag made) list shape h r = by_cases (went flagged_form (Exchange FLAG flag (changed_word flag 0)) world after seen r)
+  where
+    by_cases : Went flagged_form (Exchange FLAG flag (changed_word flag 0)) world after seen → Effect world after
+    by_cases (inl l) = subst (Effect world) (sym l.1) (unchanged world)
+    by_cases (inr w) = by_made made h w
+      where
+        by_made : (m : Bool) → Helps (Clearing flag m) world list → HasWon flagged_form world after seen FLAG flag (changed_word flag 0) → Effect world after
+        by_made true h' w' = clear_effect world after seen list flag shape h'.0 h'.1 (inl h'.2) w'
+        by_made false h' w' = clear_effect world after seen list flag shape h'.0 h'.1 (inr h'.2) w'
+
+-- ---- the setting of a flag
+
+-- the world after the first entry of a list with a block
+abbrev with_flag : World → Listed → Entry → ℕ → World
+with_flag world list entry word =
+    record {
+      words = with_word entry.target word world.words;
+      changes = world.changes;
+      used = using_block list.block world.used;
+      journal = record { place = entry.target; before = entry.from; after = entry.to; maker = By list 0; cause = cause_here list.block 0 } ∷ world.journal;
+    }
+
+pub flag_effect : (world : World) (list : Listed) (search : Search) (since : ℕ) (entry : Entry) (word : ℕ) → IsOffered flagged_form world list search since → IsFresh world list → 0 < list.block → world.used list.block ≡ false
+    → IsFilled world list (offer_of search list.call.op list.block).stores → slice_get list.entries 0 ≡ Some entry → world.words entry.target ≡ entry.from → IsExchanged entry word → Effect world (with_flag world list entry word)
+flag_effect world list (Named op flag register) since entry word offered fresh some unused filled listed here exchanged =
+    let read : WasRead world list.call.op flag register = offered.knows.1.1 in
+    let is : entry ≡ flag_entry flag list.block = sym (the_entry list.entries entry (flag_entry flag list.block) listed offered.entries) in
+    let here' : world.words FLAG ≡ flag = subst (λ (e : Entry). world.words e.target ≡ e.from) is here in
+    let same : world.words REGISTER ≡ register = read.same here' in
+    let noted : world.words (note_place list.block) ≡ register = filled.stored 1 (0, 0) (omega arith) in
+    let value : world.words (value_at list.block) ≡ list.call.op.value = filled.stored 0 (0, 0) (omega arith) in
+    let undecided : world.words (decision_place list.block) ≡ 0 = filled.stored 2 (0, 0) (omega arith) in
+    let s : Sets world list flag word = record {
+      entries = offered.entries;
+      some = some;
+      small = offered.small;
+      unused = unused;
+      key = read.key;
+      toggles = subst (λ r. toggles list.call.op r ≡ true) (sym same) read.toggles;
+      down = read.down.down;
+      here = here';
+      noted = same ∙ sym noted;
+      undecided = undecided;
+      value = value;
+      exchanged = subst (λ (e : Entry). IsExchanged e word) is exchanged;
+      fresh = λ other equal flagged. fresh other 0 equal (took_of world other flagged);
+    } in
+    subst (λ (e : Entry). Effect world (with_flag world list e word)) (sym is) (sets list flag word s)
+flag_effect world list _ since entry word offered fresh some unused filled listed here exchanged = absurd offered.ready
+
+-- a list has one entry
+one_entry : (world : World) (list : Listed) (search : Search) (since : ℕ) (entry : Entry) → IsOffered flagged_form world list search since → slice_get list.entries 1 ≡ Some entry → ⊥
+one_entry world list (Named op flag register) since entry offered listed = no_second list.entries (flag_entry flag list.block) entry offered.entries listed
+one_entry world list _ since entry offered listed = absurd offered.ready
+
+-- ---- any step
+
+elsewhere_effect : (world : World) (place word : ℕ) → Shape world → is_word world place ≡ false → Effect world (put_word place word world)
+elsewhere_effect world place word shape is = quiet (with_word place word world.words) (record {
+  flag = inl (word_beside place word world.words FLAG (differs 0 16 (omega arith) shape.opened refl));
+  register = word_beside place word world.words REGISTER (differs 0 14 (omega arith) shape.opened refl);
+  notes = λ block used. word_beside place word world.words (note_place block) (differs block 27 (omega arith) used refl);
+  values = λ block used. word_beside place word world.words (value_at block) (differs block 13 (omega arith) used refl);
+  decisions = λ block used. word_beside place word world.words (decision_place block) (differs block 28 (omega arith) used refl);
+})
+  where
+    differs : (block field : ℕ) → field < 32 → world.used block ≡ true → not (is_state field) ≡ true → block_place block field ≢ place
+    differs block field small used plain = not_word world place (block_place block field) is (field_word world block field small used plain)
+
+clears_effect : (world : World) (place : ℕ) → place ≡ FLAG → Effect world (put_word place (cleared_word (world.words place)) world)
+clears_effect world place e = subst (λ p. Effect world (put_word p (cleared_word (world.words p)) world)) (sym e) (quiet (with_word FLAG (cleared_word (world.words FLAG)) world.words) (record {
+  flag = inr (same_place FLAG (cleared_word (world.words FLAG)) world.words);
+  register = word_beside FLAG (cleared_word (world.words FLAG)) world.words REGISTER register_flag;
+  notes = λ block used. word_beside FLAG (cleared_word (world.words FLAG)) world.words (note_place block) (note_flag block);
+  values = λ block used. word_beside FLAG (cleared_word (world.words FLAG)) world.words (value_at block) (value_flag block);
+  decisions = λ block used. word_beside FLAG (cleared_word (world.words FLAG)) world.words (decision_place block) (decision_flag block);
+}))
+
+search_effect : (world after : World) (seen : Seen) (search : Search) (op : Op) (since : ℕ) → Shape world → asks search → Knows search op world since → Requested flagged_form (request_of search) world after seen → Effect world after
+search_effect world after seen (AtFlag o) op since shape asking knows r = subst (Effect world) (sym (went flagged_form (Load FLAG) world after seen r).0) (unchanged world)
+search_effect world after seen (AtRegister o flag) op since shape asking knows r = subst (Effect world) (sym (went flagged_form (Load REGISTER) world after seen r).0) (unchanged world)
+search_effect world after seen (Named o flag register) op since shape asking knows r = absurd asking
+search_effect world after seen (Helping o help) op since shape asking knows r = help_effect world after seen help knows.1.1.0 shape knows.1.1.1 r
+
+pub effect_of : (world after : World) → Shape world → IsStep flagged_form world after → Effect world after
+effect_of world after shape nothing = unchanged world
+effect_of world after shape (elsewhere place word is) = elsewhere_effect world place word shape is
+effect_of world after shape (clears place is versioned listable) = clears_effect world place (eqb-true place FLAG listable)
+effect_of world after shape (searches {seen = seen} search op since command asking knows r) = search_effect world after seen search op since shape asking knows r
+effect_of world after shape (wraps {seen = seen} help list stop command asking follows r) = help_effect world after seen help list shape follows r
+effect_of world after shape (first list search since entry word offered fresh block needs listed here exchanged) = absurd cc
+effect_of world after shape (first_of_block list search since entry word offered fresh some unused filled listed here exchanged) =
+    flag_effect world list search since entry word offered fresh some unused filled listed here exchanged
+effect_of world after shape (second list search since entry word offered took fails listed here exchanged) = absurd (one_entry world list search since entry offered listed)
