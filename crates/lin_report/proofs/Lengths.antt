@@ -10,7 +10,7 @@ use Rattle.lin_report.specs.declared.calls.Path.{Path}
 use Rattle.lin_report.specs.declared.calls.Path.TheVariants.{Fast, Slow}
 use Rattle.lin_report.specs.declared.calls.Receipt.{Receipt}
 use Rattle.lin_report.specs.declared.calls.PendingCall.{PendingCall}
-use Rattle.lin_report.specs.declared.calls.TheConstants.{TAKE, GET}
+use Rattle.lin_report.specs.declared.calls.TheConstants.{TAKE, GET, PEEK, MIN}
 use Rattle.lin_report.specs.Commands.{is_some_command, may_answer, told_value, KEY_LIMIT, VALUE_LIMIT}
 use Rattle.lin_report.specs.Calls.{answered_call, pending_call}
 use Rattle.lin_report.specs.Writing.{IsPrintable, TICK_LIMIT}
@@ -29,7 +29,7 @@ command_length op command value =
     grind (arith, nat_tests, length-append {A = ℕ})
 
 -- a command that is told a value takes a key at most
-asking_length : (op : Op) → IsTrue (is_some_command op) → IsTrue (op.code == TAKE || op.code == GET) → length (spaced (command_words op)) ≤ 12
+asking_length : (op : Op) → IsTrue (is_some_command op) → IsTrue (op.code == TAKE || op.code == GET || op.code == PEEK || op.code == MIN) → length (spaced (command_words op)) ≤ 12
 unfolding command_words spaced
 asking_length op command asks =
     let key_digits : length (decimal op.key) ≤ 7 = length-decimal-le 7 op.key (omega arith) (omega (arith, key_in_range op command)) (omega (arith, key_in_range op command)) in

@@ -6,6 +6,8 @@ pub mod Sorting
 pub mod Sorted
 pub mod Merging
 pub mod Summaries
+pub mod Least
+pub mod AppliedSets
 pub mod Sets
 pub mod Maps
 pub mod Sequences

@@ -9,8 +9,8 @@ use Rattle.lin_report.specs.declared.calls.Op.{Op}
 use Rattle.lin_report.specs.declared.calls.Reply.{Reply}
 use Rattle.lin_report.specs.declared.calls.Reply.TheVariants.{Exhausted}
 use Rattle.lin_report.specs.declared.calls.Receipt.{Receipt}
-use Rattle.lin_report.specs.declared.calls.TheConstants.{PUT, ADD, DEL, SET, REM}
-use Rattle.lin_report.specs.Object.{Object, object_of, yes_if, take_first, value_or_absent, set_apply}
+use Rattle.lin_report.specs.declared.calls.TheConstants.{PUT, TAKE, ADD, DEL, HAS, SET, REM}
+use Rattle.lin_report.specs.Object.{Object, object_of, yes_if, take_first, value_or_empty, value_or_absent, least, set_apply}
 use Rattle.lin_report.specs.Sequence.{sequential_receipts}
 
 -- the k-th receipt is that of the k-th operation, with the number and the ticks of its place
@@ -38,12 +38,17 @@ value_answers : (value : Option ℕ) → value_or_absent value ≢ Exhausted
 value_answers None = λ same. cc
 value_answers (Some value) = λ same. cc
 
+told_answers : (value : Option ℕ) → value_or_empty value ≢ Exhausted
+told_answers None = λ same. cc
+told_answers (Some value) = λ same. cc
+
 set_answers : (op : Op) (keys : set.FinSet nat_cmp) → (set_apply op keys).1 ≢ Exhausted
-set_answers op keys = choice_answers (op.code == ADD) _ _ (yes_if_answers _) (choice_answers (op.code == DEL) _ _ (yes_if_answers _) (yes_if_answers _))
+set_answers op keys =
+    choice_answers (op.code == ADD) _ _ (yes_if_answers _) (choice_answers (op.code == DEL) _ _ (yes_if_answers _) (choice_answers (op.code == HAS) _ _ (yes_if_answers _) (told_answers (least (set.items keys)))))
 
 -- exhausted is no reply of an object
 pub object_answers : (c : Client) (op : Op) (held : (object_of c).Held) → ((object_of c).apply op held).1 ≢ Exhausted
-object_answers client.Queue op held = choice_answers (op.code == PUT) _ _ (λ same. cc) (take_first_answers held)
+object_answers client.Queue op held = choice_answers (op.code == PUT) _ _ (λ same. cc) (choice_answers (op.code == TAKE) _ _ (take_first_answers held) (told_answers (slice_get held 0)))
 object_answers client.List op held = set_answers op held
 object_answers client.Tree op held =
     choice_answers (op.code == SET) _ _ (choice_answers (map.contains_key held op.key) _ _ (λ same. cc) (λ same. cc)) (choice_answers (op.code == REM) _ _ (yes_if_answers _) (value_answers _))

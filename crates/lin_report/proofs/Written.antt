@@ -22,7 +22,7 @@ pub replies_fit_from : (c : Client) (held : (object_of c).Held) (ops : List Op) 
 replies_fit_from c held [] op small cans can = reply_fits c op held can small
 replies_fit_from c held (first ∷ ops) op small cans can =
     let is = All-head (IsCommandOf c) first ops cans in
-    replies_fit_from c ((object_of c).apply first held).0 ops op (range_kept c first held is.value small) (All-tail (IsCommandOf c) first ops cans) can
+    replies_fit_from c ((object_of c).apply first held).0 ops op (range_kept c first held is small) (All-tail (IsCommandOf c) first ops cans) can
 
 pub replies_fit : RepliesFitCommands
 replies_fit c ops op cans can = replies_fit_from c (object_of c).empty ops op (range_empty c) cans can
@@ -38,7 +38,7 @@ all_fitting c first held (op ∷ ops) small cans =
     let is = All-head (IsCommandOf c) op ops cans in
     let after = ((object_of c).apply op held).0 in
     All-cons (IsFitting c) _ _ (record { command = is; reply = reply_fits c op held is small })
-    (all_fitting c (first + 1) after ops (range_kept c op held is.value small) (All-tail (IsCommandOf c) op ops cans))
+    (all_fitting c (first + 1) after ops (range_kept c op held is small) (All-tail (IsCommandOf c) op ops cans))
 
 is_some_command-from_client : (c : Client) (op : Op) → IsTrue (is_command c op) → IsTrue (is_some_command op)
 is_some_command-from_client client.Queue op command = grind (arith, nat_tests)

@@ -6,7 +6,7 @@ use Rattle.lin_report.specs.declared.calls.Client.TheVariants.{Queue, List, Tree
 use Rattle.lin_report.specs.declared.calls.Op.{Op}
 use Rattle.lin_report.specs.declared.calls.Reply.{Reply}
 use Rattle.lin_report.specs.declared.calls.Reply.TheVariants.{Yes, No, Done, Value, Empty, Absent, Exhausted}
-use Rattle.lin_report.specs.declared.calls.TheConstants.{PUT, TAKE, ADD, DEL, HAS, SET, REM, GET}
+use Rattle.lin_report.specs.declared.calls.TheConstants.{PUT, TAKE, ADD, DEL, HAS, SET, REM, GET, PEEK, MIN}
 
 -- keys are below this
 abbrev pub KEY_LIMIT : ℕ
@@ -24,13 +24,17 @@ takes_nothing op = op.key == 0 && op.value == 0
 abbrev pub takes_key : Op → Bool
 takes_key op = nat_lt op.key KEY_LIMIT && op.value == 0
 
--- put with any value, or take
+-- put with any value, or take or peek
 abbrev pub is_queue_command : Op → Bool
-is_queue_command op = (op.code == PUT && op.key == 0) || (op.code == TAKE && takes_nothing op)
+is_queue_command op = (op.code == PUT && op.key == 0) || ((op.code == TAKE || op.code == PEEK) && takes_nothing op)
 
 -- add, del or has with a key
 abbrev pub is_set_command : Op → Bool
 is_set_command op = (op.code == ADD || op.code == DEL || op.code == HAS) && takes_key op
+
+-- one of these, or min
+abbrev pub is_list_command : Op → Bool
+is_list_command op = is_set_command op || (op.code == MIN && takes_nothing op)
 
 -- set with a key and a value, or rem or get with a key
 abbrev pub is_map_command : Op → Bool
@@ -39,7 +43,7 @@ is_map_command op = (op.code == SET && nat_lt op.key KEY_LIMIT) || ((op.code == 
 -- whether the operation is a command of the client
 abbrev pub is_command : Client → Op → Bool
 is_command Queue op = is_queue_command op
-is_command List op = is_set_command op
+is_command List op = is_list_command op
 is_command Buckets op = is_set_command op
 is_command Tree op = is_map_command op
 
@@ -50,11 +54,11 @@ pub record IsCommandOf (client : Client) (op : Op) : Type 0 where
 
 -- a command of one client or another
 abbrev pub is_some_command : Op → Bool
-is_some_command op = is_queue_command op || is_set_command op || is_map_command op
+is_some_command op = is_queue_command op || is_list_command op || is_map_command op
 
 -- a command that only looks; each other may find no block left
 abbrev pub only_observes : Op → Bool
-only_observes op = op.code == HAS || op.code == GET
+only_observes op = op.code == HAS || op.code == GET || op.code == PEEK || op.code == MIN
 
 -- a command that may be answered Exhausted
 abbrev pub may_exhaust : Op → Bool
@@ -69,8 +73,8 @@ abbrev pub may_answer : Op → Reply → Bool
 may_answer op Yes = tells_presence op
 may_answer op No = tells_presence op
 may_answer op Done = op.code == PUT
-may_answer op (Value value) = op.code == TAKE || op.code == GET
-may_answer op Empty = op.code == TAKE
+may_answer op (Value value) = op.code == TAKE || op.code == GET || op.code == PEEK || op.code == MIN
+may_answer op Empty = op.code == TAKE || op.code == PEEK || op.code == MIN
 may_answer op Absent = op.code == GET
 may_answer op Exhausted = may_exhaust op
 

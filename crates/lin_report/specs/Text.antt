@@ -8,7 +8,7 @@ use Rattle.lin_report.specs.declared.calls.Reply.{Reply}
 use Rattle.lin_report.specs.declared.calls.Reply.TheVariants.{Yes, No, Done, Value, Empty, Absent, Exhausted}
 use Rattle.lin_report.specs.declared.calls.Path.{Path}
 use Rattle.lin_report.specs.declared.calls.Path.TheVariants.{Fast, Slow}
-use Rattle.lin_report.specs.declared.calls.TheConstants.{PUT, TAKE, ADD, DEL, HAS, SET, REM}
+use Rattle.lin_report.specs.declared.calls.TheConstants.{PUT, TAKE, ADD, DEL, HAS, SET, REM, GET, PEEK}
 use Rattle.lin_report.specs.Calls.{Call, Report, calls_of}
 
 -- the byte between two words of a line, and the one at its end
@@ -36,7 +36,9 @@ command_words op =
     else (if op.code == HAS then codes "has" ∷ decimal op.key ∷ []
     else (if op.code == SET then codes "set" ∷ decimal op.key ∷ decimal op.value ∷ []
     else (if op.code == REM then codes "rem" ∷ decimal op.key ∷ []
-    else codes "get" ∷ decimal op.key ∷ []))))))
+    else (if op.code == GET then codes "get" ∷ decimal op.key ∷ []
+    else (if op.code == PEEK then codes "peek" ∷ []
+    else codes "min" ∷ []))))))))
 
 -- a reply with its value
 unfoldable pub reply_words : Reply → List (List ℕ)

@@ -29,6 +29,10 @@ pub const SET: u8 = 6;
 pub const REM: u8 = 7;
 /// `get K`: the value at K.
 pub const GET: u8 = 8;
+/// `peek`: the first value, which stays in the queue.
+pub const PEEK: u8 = 9;
+/// `min`: the least key of the set, which stays in it.
+pub const MIN: u8 = 10;
 
 /// One operation: which command by its code, with the numbers that the command takes. A number that
 /// it doesn't take is 0. The default has a code that no command has; it only fills unused room.

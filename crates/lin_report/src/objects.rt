@@ -1,6 +1,6 @@
 //! What a sequential object is to the code: it is given operations and answers as the definition does.
 ghost use Rattle.std.specs.Prelude.{◌≡◌, IfOk, OnErr, IsTrue};
-ghost use Rattle.lin_report.specs.Object.{yes_if};
+ghost use Rattle.lin_report.specs.Object.{yes_if, value_or_empty};
 
 use crate::calls::{Op, Reply};
 use std::alloc::{AllocError, AllocFailed};
@@ -48,6 +48,16 @@ pub(crate) fn yes_if(is_so: bool) -> Reply
     ensures { result ≡ yes_if is_so }
 {
     if is_so { Reply::Yes } else { Reply::No }
+}
+
+/// The number, if there is one, and else empty.
+pub(crate) fn value_or_empty(number: Option<u32>) -> Reply
+    ensures { result ≡ value_or_empty number }
+{
+    match number {
+        Some(value) => Reply::Value(value),
+        None => Reply::Empty,
+    }
 }
 
 #[cfg(test)]

@@ -1,8 +1,8 @@
 //! The sequential queue.
-ghost use Rattle.std.specs.Prelude.{◌≡◌, ℕ, List, []};
+ghost use Rattle.std.specs.Prelude.{◌≡◌, ℕ, List, [], slice_get};
 
-use crate::calls::{Op, PUT, Reply};
-use crate::objects::{NoMemory, Sequential};
+use crate::calls::{Op, PUT, Reply, TAKE};
+use crate::objects::{NoMemory, Sequential, value_or_empty};
 use std::alloc::Global;
 use std::collections::VecDeque;
 use std::marker::Model;
@@ -28,6 +28,15 @@ impl FifoObject {
             values: VecDeque::new(alloc),
         }
     }
+
+    fn first(&self) -> Option<u32>
+        ensures { result ≡ slice_get self.now 0 }
+    {
+        match self.values.front() {
+            Some(value) => Some(*value),
+            None => None,
+        }
+    }
 }
 
 impl Sequential for FifoObject {
@@ -42,9 +51,9 @@ impl Sequential for FifoObject {
             self.values.push_back(op.value)?;
             return Ok(Reply::Done);
         }
-        match self.values.pop_front() {
-            Some(value) => Ok(Reply::Value(value)),
-            None => Ok(Reply::Empty),
+        if op.code == TAKE {
+            return Ok(value_or_empty(self.values.pop_front()));
         }
+        Ok(value_or_empty(self.first()))
     }
 }

@@ -3,14 +3,15 @@ ghost use Rattle.std.specs.Prelude.{◌≡◌, not, IfOk, OnOk, OnErr};
 ghost use Rattle.std.specs.Ordering.{nat_cmp};
 ghost use Rattle.std.specs.FinSet as set;
 ghost use Rattle.std.specs.Coded.{coded_ℕ};
+ghost use Rattle.lin_report.specs.Object.{least};
 
-use crate::calls::{ADD, DEL, Op, Reply};
-use crate::objects::{NoMemory, Sequential, yes_if};
+use crate::calls::{ADD, DEL, HAS, Op, Reply};
+use crate::objects::{NoMemory, Sequential, value_or_empty, yes_if};
 use std::alloc::Global;
 use std::collections::BTreeSet;
 use std::marker::Model;
 
-/// A set that answers one operation at a time, as the definition of the sequential set does. Each
+/// A set that answers one operation at a time, as the definition of the sequential set with its least key does. Each
 /// operation takes a number of steps that grows with the logarithm of the number of keys.
 #[derive(Drop)]
 pub struct SetObject {
@@ -55,12 +56,21 @@ impl SetObject {
     {
         self.keys.remove(&key)
     }
+
+    fn least(&self) -> Option<u32>
+        ensures { result ≡ least (set.items self.now) }
+    {
+        match self.keys.first() {
+            Some(key) => Some(*key),
+            None => None,
+        }
+    }
 }
 
 impl Sequential for SetObject {
-    ghost use Rattle.lin_report.specs.Object.{set_object};
+    ghost use Rattle.lin_report.specs.Object.{list_object};
 
-    ghost object = { set_object };
+    ghost object = { list_object };
 
     ghost held = { λ s. s };
 
@@ -68,7 +78,8 @@ impl Sequential for SetObject {
         match op.code {
             ADD => Ok(yes_if(self.insert(op.key)?)),
             DEL => Ok(yes_if(self.remove(op.key))),
-            _ => Ok(yes_if(self.contains(op.key))),
+            HAS => Ok(yes_if(self.contains(op.key))),
+            _ => Ok(value_or_empty(self.least())),
         }
     }
 }

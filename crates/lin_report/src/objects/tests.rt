@@ -1,5 +1,5 @@
 //! What the three objects answer on worked commands.
-use crate::calls::{ADD, DEL, GET, HAS, Op, PUT, REM, Reply, SET, TAKE};
+use crate::calls::{ADD, DEL, GET, HAS, MIN, Op, PEEK, PUT, REM, Reply, SET, TAKE};
 use crate::map_object::MapObject;
 use crate::objects::Sequential;
 use crate::queue_object::FifoObject;
@@ -9,6 +9,18 @@ use std::test::Fail;
 const ADD_FIVE: Op = Op {
     code: ADD,
     key: 5,
+    value: 0,
+};
+
+const ADD_NINE: Op = Op {
+    code: ADD,
+    key: 9,
+    value: 0,
+};
+
+const ADD_THREE: Op = Op {
+    code: ADD,
+    key: 3,
     value: 0,
 };
 
@@ -32,6 +44,18 @@ const PUT_SEVEN: Op = Op {
 
 const TAKE_FIRST: Op = Op {
     code: TAKE,
+    key: 0,
+    value: 0,
+};
+
+const PEEK_FIRST: Op = Op {
+    code: PEEK,
+    key: 0,
+    value: 0,
+};
+
+const LEAST: Op = Op {
+    code: MIN,
     key: 0,
     value: 0,
 };
@@ -63,9 +87,14 @@ const REM_ONE: Op = Op {
 #[test]
 fn a_set(rt: HostRuntime) -> Result<(), Fail> {
     let mut set = SetObject::new(rt.alloc());
+    assert_eq!(rt; set.apply(LEAST)?, Reply::Empty);
     assert_eq!(rt; set.apply(ADD_FIVE)?, Reply::Yes);
     assert_eq!(rt; set.apply(ADD_FIVE)?, Reply::No);
     assert_eq!(rt; set.apply(HAS_FIVE)?, Reply::Yes);
+    assert_eq!(rt; set.apply(ADD_NINE)?, Reply::Yes);
+    assert_eq!(rt; set.apply(ADD_THREE)?, Reply::Yes);
+    assert_eq!(rt; set.apply(LEAST)?, Reply::Value(3));
+    assert_eq!(rt; set.apply(LEAST)?, Reply::Value(3));
     assert_eq!(rt; set.apply(DEL_FIVE)?, Reply::Yes);
     assert_eq!(rt; set.apply(DEL_FIVE)?, Reply::No);
     assert_eq!(rt; set.apply(HAS_FIVE)?, Reply::No);
@@ -75,7 +104,9 @@ fn a_set(rt: HostRuntime) -> Result<(), Fail> {
 #[test]
 fn a_queue(rt: HostRuntime) -> Result<(), Fail> {
     let mut queue = FifoObject::new(rt.alloc());
+    assert_eq!(rt; queue.apply(PEEK_FIRST)?, Reply::Empty);
     assert_eq!(rt; queue.apply(PUT_SEVEN)?, Reply::Done);
+    assert_eq!(rt; queue.apply(PEEK_FIRST)?, Reply::Value(7));
     assert_eq!(rt; queue.apply(TAKE_FIRST)?, Reply::Value(7));
     assert_eq!(rt; queue.apply(TAKE_FIRST)?, Reply::Empty);
     Ok(())

@@ -5,7 +5,9 @@ ghost use Rattle.lin_report.specs.Room.{HasRoom, Appends};
 ghost use Rattle.lin_report.specs.Calls.{answered_call, pending_call};
 ghost use Rattle.lin_report.specs.Text.{SPACE, NEWLINE, spaced, command_words, reply_words, path_word, call_line};
 
-use crate::calls::{ADD, DEL, HAS, Op, PUT, Path, PendingCall, REM, Receipt, Reply, SET, TAKE};
+use crate::calls::{
+    ADD, DEL, GET, HAS, Op, PEEK, PUT, Path, PendingCall, REM, Receipt, Reply, SET, TAKE,
+};
 use crate::report::bytes::{append, append_decimal};
 
 /// Puts a space and a word last.
@@ -54,7 +56,9 @@ fn append_command(room: &mut Vec<u8>, op: Op)
             append_number(room, value);
         }
         REM => append_named(room, b"rem", key),
-        _ => append_named(room, b"get", key),
+        GET => append_named(room, b"get", key),
+        PEEK => append_word(room, b"peek"),
+        _ => append_word(room, b"min"),
     }
 }
 

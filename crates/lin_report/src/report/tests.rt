@@ -5,7 +5,7 @@ ghost use Rattle.lin_report.specs.Writing.{CanWrite};
 
 use super::{report_room, write_report, write_summary};
 use crate::calls::{
-    ADD, DEL, GET, HAS, Op, PUT, Path, PendingCall, REM, Receipt, Reply, SET, TAKE,
+    ADD, DEL, GET, HAS, MIN, Op, PEEK, PUT, Path, PendingCall, REM, Receipt, Reply, SET, TAKE,
 };
 use crate::objects::NoMemory;
 use std::alloc::Global;
@@ -150,6 +150,21 @@ fn the_commands_of_a_set_and_of_a_map(rt: HostRuntime) -> Result<(), Fail> {
     assert_eq!(rt;
         text.as_slice(),
         b"0 1 add 1048575 yes 0 1 fast\n0 2 del 5 no 2 5 slow\n1 1 has 5 no 3 4 fast\n2 1 set 1 9 yes 6 7 fast\n2 2 get 1 value 9 8 9 fast\n2 3 rem 1 exhausted 10 11 slow\n2 4 get 2 absent 12 13 fast\ncalls 7 fast 5 slow 2 exhausted 1 pending 0 overtaken 1\n".as_slice()
+    );
+    Ok(())
+}
+
+#[test]
+fn the_commands_without_a_number(rt: HostRuntime) -> Result<(), Fail> {
+    let receipts = [
+        line((0, 1), op(PEEK, 0, 0), Reply::Empty, (0, 1), Path::Fast),
+        line((0, 2), op(TAKE, 0, 0), Reply::Empty, (2, 3), Path::Fast),
+        line((1, 1), op(MIN, 0, 0), Reply::Value(3), (4, 5), Path::Slow),
+    ];
+    let text = written_report(rt.alloc(), &receipts, &[], Some(0))?;
+    assert_eq!(rt;
+        text.as_slice(),
+        b"0 1 peek empty 0 1 fast\n0 2 take empty 2 3 fast\n1 1 min value 3 4 5 slow\ncalls 3 fast 2 slow 1 exhausted 0 pending 0 overtaken 0\n".as_slice()
     );
     Ok(())
 }

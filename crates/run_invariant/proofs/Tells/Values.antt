@@ -47,7 +47,7 @@ AreCommandsOf client changes = (change : Change) → Among change changes → Is
 pub held_in_range : (client : Client) (changes : List Change) → AreCommandsOf client changes → HoldsInRange client (held_after (object_of client) changes)
 held_in_range client [] are = range_empty client
 held_in_range client (change ∷ older) are =
-    range_kept client change.list.call.op (held_after (object_of client) older) (are change (inl refl)).value (held_in_range client older (λ other among. are other (inr among)))
+    range_kept client change.list.call.op (held_after (object_of client) older) (are change (inl refl)) (held_in_range client older (λ other among. are other (inr among)))
 
 -- a reply of a command after commands alone tells a value in range
 replies_small : (client : Client) (changes : List Change) (op : Op) (value : ℕ) → AreCommandsOf client changes → IsCommandOf client op
