@@ -1,15 +1,15 @@
 -- What holds of each command of a command file, and of each entry of a schedule.
-use Rattle.std.proofs.Common.{◌≡◌, ℕ, ◌<◌, ◌≤◌, Bool, true, false, not, cond, ltb, leb, ◌&&◌, List, [], ◌∷◌, Option, Some, None, Ok, Err, refl, subst, arith}
+use Rattle.std.proofs.Common.{◌≡◌, ℕ, ◌<◌, ◌≤◌, ◌==◌, Bool, true, false, not, cond, ltb, leb, ◌&&◌, List, [], ◌∷◌, Option, Some, None, Ok, Err, refl, subst, arith}
 use Rattle.std.specs.Prelude.{IsTrue, codes}
 use Rattle.std.specs.Str.{bytes_eq}
 use Rattle.std.specs.Str.Parse.{digits_value}
-use Rattle.std.proofs.lemmas.Bool.{leb-true, ltb-true}
+use Rattle.std.proofs.lemmas.Bool.{leb-true, ltb-true, or_left}
 use Rattle.std.proofs.lemmas.Bool.Decides.{nat_tests}
 use Rattle.lin_report.specs.declared.calls.Client.{Client}
 use Rattle.lin_report.specs.declared.calls.Client.TheVariants as client
 use Rattle.lin_report.specs.declared.calls.Op.{Op}
-use Rattle.lin_report.specs.declared.calls.TheConstants.{PUT, TAKE, ADD, DEL, HAS, SET, REM, GET}
-use Rattle.lin_report.specs.Commands.{is_command}
+use Rattle.lin_report.specs.declared.calls.TheConstants.{PUT, TAKE, ADD, DEL, HAS, SET, REM, GET, PEEK, MIN}
+use Rattle.lin_report.specs.Commands.{is_command, is_set_command, takes_nothing}
 use Rattle.script_reader.specs.declared.causes.Cause.TheVariants.{BadCommand, BadNumber, BadSeat}
 use Rattle.script_reader.specs.declared.scripts.Numbers.{Numbers}
 use Rattle.script_reader.specs.declared.scripts.Numbers.TheVariants.{NoNumber, OneValue, OneKey, KeyAndValue}
@@ -18,7 +18,7 @@ use Rattle.script_reader.specs.declared.schedules.Span.{Span}
 use Rattle.script_reader.specs.declared.schedules.Span.TheVariants.{Steps, ToEnd, ToExchange}
 use Rattle.script_reader.specs.declared.schedules.ScheduleEntry.{ScheduleEntry}
 use Rattle.script_reader.specs.Schedules.{STEP_LIMIT, is_span, steps_of, span_named, entry_with, entry_of, IsSpanInRange}
-use Rattle.script_reader.specs.Scripts.{GREATEST_KEY, GREATEST_VALUE, queue_command, set_command, map_command, command_named, op_of, op_from_words, command_from, command_of}
+use Rattle.script_reader.specs.Scripts.{GREATEST_KEY, GREATEST_VALUE, queue_command, set_command, list_command, map_command, command_named, op_of, op_from_words, command_from, command_of}
 
 -- the numbers of an operation are those that its command takes
 abbrev pub TakesNumbers : Numbers → Op → Type 0
@@ -77,21 +77,34 @@ Names client None = Unit {0}
 Names client (Some command) = (op : Op) → op.code ≡ command.0 → TakesNumbers command.1 op → is_command client op ≡ true
 
 queue_names : (word : List ℕ) → Names client.Queue (queue_command word)
-queue_names word = by_tests (bytes_eq word (codes "put")) (bytes_eq word (codes "take"))
+queue_names word = by_tests (bytes_eq word (codes "put")) (bytes_eq word (codes "take")) (bytes_eq word (codes "peek"))
   where
-    by_tests : (a b : Bool) → Names client.Queue (cond a (Some (PUT, OneValue)) (cond b (Some (TAKE, NoNumber)) None))
-    by_tests true b = λ op code numbers. grind (arith, nat_tests)
-    by_tests false true = λ op code numbers. grind (arith, nat_tests)
-    by_tests false false = tt
-
-set_names : (word : List ℕ) → Names client.List (set_command word)
-set_names word = by_tests (bytes_eq word (codes "add")) (bytes_eq word (codes "del")) (bytes_eq word (codes "has"))
-  where
-    by_tests : (a b c : Bool) → Names client.List (cond a (Some (ADD, OneKey)) (cond b (Some (DEL, OneKey)) (cond c (Some (HAS, OneKey)) None)))
+    by_tests : (a b c : Bool) → Names client.Queue (cond a (Some (PUT, OneValue)) (cond b (Some (TAKE, NoNumber)) (cond c (Some (PEEK, NoNumber)) None)))
     by_tests true b c = λ op code numbers. grind (arith, nat_tests)
     by_tests false true c = λ op code numbers. grind (arith, nat_tests)
     by_tests false false true = λ op code numbers. grind (arith, nat_tests)
     by_tests false false false = tt
+
+set_names : (word : List ℕ) → Names client.Buckets (set_command word)
+set_names word = by_tests (bytes_eq word (codes "add")) (bytes_eq word (codes "del")) (bytes_eq word (codes "has"))
+  where
+    by_tests : (a b c : Bool) → Names client.Buckets (cond a (Some (ADD, OneKey)) (cond b (Some (DEL, OneKey)) (cond c (Some (HAS, OneKey)) None)))
+    by_tests true b c = λ op code numbers. grind (arith, nat_tests)
+    by_tests false true c = λ op code numbers. grind (arith, nat_tests)
+    by_tests false false true = λ op code numbers. grind (arith, nat_tests)
+    by_tests false false false = tt
+
+-- a command of a set is one of a list too
+set_in_list : (found : Option (ℕ × Numbers)) → Names client.Buckets found → Names client.List found
+set_in_list None named = tt
+set_in_list (Some command) named = λ op code numbers. or_left (is_set_command op) (op.code == MIN && takes_nothing op) (named op code numbers)
+
+list_names : (word : List ℕ) → Names client.List (list_command word)
+list_names word = by_test (bytes_eq word (codes "min"))
+  where
+    by_test : (a : Bool) → Names client.List (cond a (Some (MIN, NoNumber)) (set_command word))
+    by_test true = λ op code numbers. grind (arith, nat_tests)
+    by_test false = set_in_list (set_command word) (set_names word)
 
 map_names : (word : List ℕ) → Names client.Tree (map_command word)
 map_names word = by_tests (bytes_eq word (codes "set")) (bytes_eq word (codes "rem")) (bytes_eq word (codes "get"))
@@ -104,7 +117,7 @@ map_names word = by_tests (bytes_eq word (codes "set")) (bytes_eq word (codes "r
 
 pub names : (client : Client) (word : List ℕ) → Names client (command_named client word)
 names client.Queue word = queue_names word
-names client.List word = set_names word
+names client.List word = list_names word
 names client.Buckets word = set_names word
 names client.Tree word = map_names word
 

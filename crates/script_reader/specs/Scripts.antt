@@ -4,7 +4,7 @@ use Rattle.std.specs.Str.{bytes_eq}
 use Rattle.lin_report.specs.declared.calls.Client.{Client}
 use Rattle.lin_report.specs.declared.calls.Client.TheVariants as client
 use Rattle.lin_report.specs.declared.calls.Op.{Op}
-use Rattle.lin_report.specs.declared.calls.TheConstants.{PUT, TAKE, ADD, DEL, HAS, SET, REM, GET}
+use Rattle.lin_report.specs.declared.calls.TheConstants.{PUT, TAKE, ADD, DEL, HAS, SET, REM, GET, PEEK, MIN}
 use Rattle.script_reader.specs.declared.causes.Cause.{Cause}
 use Rattle.script_reader.specs.declared.causes.Cause.TheVariants.{BadCommand, BadNumber}
 use Rattle.script_reader.specs.declared.causes.Refusal.{Refusal}
@@ -29,7 +29,8 @@ abbrev pub queue_command : List ℕ → Option (ℕ × Numbers)
 queue_command word =
     if bytes_eq word (codes "put") then Some (PUT, OneValue)
     else (if bytes_eq word (codes "take") then Some (TAKE, NoNumber)
-    else None)
+    else (if bytes_eq word (codes "peek") then Some (PEEK, NoNumber)
+    else None))
 
 abbrev pub set_command : List ℕ → Option (ℕ × Numbers)
 set_command word =
@@ -37,6 +38,10 @@ set_command word =
     else (if bytes_eq word (codes "del") then Some (DEL, OneKey)
     else (if bytes_eq word (codes "has") then Some (HAS, OneKey)
     else None))
+
+-- a list has the commands of a set and min, which the set of buckets hasn't
+abbrev pub list_command : List ℕ → Option (ℕ × Numbers)
+list_command word = if bytes_eq word (codes "min") then Some (MIN, NoNumber) else set_command word
 
 abbrev pub map_command : List ℕ → Option (ℕ × Numbers)
 map_command word =
@@ -47,7 +52,7 @@ map_command word =
 
 abbrev pub command_named : Client → List ℕ → Option (ℕ × Numbers)
 command_named client.Queue word = queue_command word
-command_named client.List word = set_command word
+command_named client.List word = list_command word
 command_named client.Buckets word = set_command word
 command_named client.Tree word = map_command word
 

@@ -3,14 +3,14 @@ ghost use Rattle.std.specs.Prelude.{◌≡◌, ◌≤◌, ◌∷◌, ℕ, List, 
 ghost use Rattle.lin_report.specs.Commands.{is_command};
 ghost use Rattle.script_reader.specs.WordList.{AreWords};
 ghost use Rattle.script_reader.specs.Outcomes.{FILE_LIMIT, ReadsAs};
-ghost use Rattle.script_reader.specs.Scripts.{queue_command, set_command, map_command, command_named, op_of, op_from_words, command_of, COMMAND_LIMIT, GREATEST_VALUE, script_outcome};
+ghost use Rattle.script_reader.specs.Scripts.{queue_command, set_command, list_command, map_command, command_named, op_of, op_from_words, command_of, COMMAND_LIMIT, GREATEST_VALUE, script_outcome};
 ghost use Rattle.script_reader.specs.Faults.{IsOutcomeOf};
 
 use crate::causes::{Cause, ScriptFault};
 use crate::grammar::{Grammar, MAX_BYTES, read_file};
 use crate::numbers::number_up_to;
 use crate::words::Words;
-use lin_report::calls::{ADD, DEL, GET, HAS, PUT, REM, SET, TAKE};
+use lin_report::calls::{ADD, DEL, GET, HAS, MIN, PEEK, PUT, REM, SET, TAKE};
 use lin_report::{Client, Op};
 use std::alloc::Global;
 
@@ -34,6 +34,7 @@ fn queue_command(word: &[u8]) -> Option<(u8, Numbers)>
     match word {
         b"put" => Some((PUT, Numbers::OneValue)),
         b"take" => Some((TAKE, Numbers::NoNumber)),
+        b"peek" => Some((PEEK, Numbers::NoNumber)),
         _ => None,
     }
 }
@@ -46,6 +47,15 @@ fn set_command(word: &[u8]) -> Option<(u8, Numbers)>
         b"del" => Some((DEL, Numbers::OneKey)),
         b"has" => Some((HAS, Numbers::OneKey)),
         _ => None,
+    }
+}
+
+fn list_command(word: &[u8]) -> Option<(u8, Numbers)>
+    ensures { result ≡ list_command word.now }
+{
+    match word {
+        b"min" => Some((MIN, Numbers::NoNumber)),
+        _ => set_command(word),
     }
 }
 
@@ -66,7 +76,8 @@ pub fn command_named(client: Client, word: &[u8]) -> Option<(u8, Numbers)>
 {
     match client {
         Client::Queue => queue_command(word),
-        Client::List | Client::Buckets => set_command(word),
+        Client::List => list_command(word),
+        Client::Buckets => set_command(word),
         Client::Tree => map_command(word),
     }
 }

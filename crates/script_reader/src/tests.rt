@@ -1,7 +1,7 @@
 //! Files as a reader of the formats would judge them by hand.
 
 use super::*;
-use lin_report::calls::{ADD, GET, PUT, SET, TAKE};
+use lin_report::calls::{ADD, GET, MIN, PEEK, PUT, SET, TAKE};
 use lin_report::{Client, Op};
 use std::alloc::{AllocError, Global};
 use std::test::Fail;
@@ -45,6 +45,12 @@ fn command_files_are_refused(rt: HostRuntime) -> Result<(), Fail> {
         (Client::Tree, b"set 1048576 1\n".as_slice(), 1, 2),
         (Client::Tree, b"set 1 2 3 4\n".as_slice(), 1, 1),
         (Client::Buckets, b"get 1\n".as_slice(), 1, 1),
+        (Client::Queue, b"peek\npeek 1\n".as_slice(), 2, 1),
+        (Client::Queue, b"peek\nmin\n".as_slice(), 2, 1),
+        (Client::List, b"min\nmin 5\n".as_slice(), 2, 1),
+        (Client::List, b"min\npeek\n".as_slice(), 2, 1),
+        (Client::Buckets, b"add 1\nmin\n".as_slice(), 2, 1),
+        (Client::Tree, b"min\n".as_slice(), 1, 1),
     ] {
         assert_eq!(rt;
             refusal(read_script(rt.alloc(), file, client)),
@@ -148,6 +154,16 @@ fn command_files_are_read(rt: HostRuntime) -> Result<(), Fail> {
         (Client::Queue, &LONG[..64], [take].as_slice()),
         (Client::Queue, b"put 7\nput 1".as_slice(), puts.as_slice()),
         (Client::Queue, PADDED_PUT, [put].as_slice()),
+        (
+            Client::Queue,
+            b" peek\ntake".as_slice(),
+            [op(PEEK, 0, 0), take].as_slice(),
+        ),
+        (
+            Client::List,
+            b"min \n".as_slice(),
+            [op(MIN, 0, 0)].as_slice(),
+        ),
         (
             Client::Queue,
             GREATEST_PUT,
