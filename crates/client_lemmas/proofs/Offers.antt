@@ -11,8 +11,8 @@ use Rattle.normal_traits.specs.Laws.{IsGoodEntry, IsGoodStore, IsGoodOffer}
 use Rattle.std.proofs.lemmas.List.Kept.{AllPairs-cons}
 
 -- an operation with a code other than those that change nothing may find no block
-pub may_exhaust_at : (op : Op) (code : ℕ) → op.code ≡ code → not (eqb code 5 || eqb code 8) ≡ true → may_exhaust op ≡ true
-may_exhaust_at op code e some = ap (λ c. not (eqb c 5 || eqb c 8)) e ∙ some
+pub may_exhaust_at : (op : Op) (code : ℕ) → op.code ≡ code → not (eqb code 5 || eqb code 8 || eqb code 9 || eqb code 10) ≡ true → may_exhaust op ≡ true
+may_exhaust_at op code e some = ap (λ c. not (eqb c 5 || eqb c 8 || eqb c 9 || eqb c 10)) e ∙ some
 
 -- an offer of one good entry
 pub one_entry : {S W : Type 0} (form : NormalForm S W) (world : World) (block : ℕ) (entry : Entry) (stores : List (ℕ × ℕ)) → IsGoodEntry form world entry → All (IsGoodStore form block) stores → AllPairs (λ (a b : ℕ × ℕ). a.0 ≢ b.0) stores → length stores ≤ 20
