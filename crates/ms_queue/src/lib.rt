@@ -1,9 +1,9 @@
 //! The queue of Michael and Scott in normalized form: `put` links a node behind the last one, `take` moves
-//! the head, and the tail follows.
+//! the head, and the tail follows; `peek` tells the value behind the head.
 #![tactic(auto)]
 
-pub use queue::MsQueue;
 pub use ms_queue_form::{QueueSearch, QueueWrap};
+pub use queue::MsQueue;
 
 mod offers;
 pub mod queue;

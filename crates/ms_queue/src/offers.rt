@@ -6,10 +6,10 @@ use crate::words::{moved, next_place};
 use arrayvec::ArrayVec;
 use lin_report::Op;
 use lin_report::calls::PUT;
+use ms_queue_form::QueueSearch;
 use node_arena::places::{HEAD, NODE_NEXT, NODE_VALUE};
 use node_arena::{node_place, reference_to};
 use normal_traits::{Entry, List, Stores};
-use ms_queue_form::QueueSearch;
 use word_fields::VersionedWord;
 
 /// The list of a put: node 1 of the block is linked behind the tail's node.

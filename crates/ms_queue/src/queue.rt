@@ -5,8 +5,8 @@ use crate::search::{asked, begun, fed};
 use crate::wrap::{wrap_asked, wrap_begun, wrap_fed};
 use lin_report::calls::PUT;
 use lin_report::{Client, Op};
-use normal_traits::{Found, List, Normalized, Stores, Wrapped};
 use ms_queue_form::{QueueSearch, QueueWrap};
+use normal_traits::{Found, List, Normalized, Stores, Wrapped};
 use step_memory::{Request, Seen};
 
 /// The queue. Its head and its tail stand at places 20 and 21, and block 0 has the first dummy node.

@@ -1,23 +1,23 @@
 //! The steps of a search.
 ghost use Rattle.std.specs.Prelude.{◌≡◌, true};
-ghost use Rattle.ms_queue_form.specs.Search.{begun, asked, fed, met_by_put, met_by_take};
+ghost use Rattle.ms_queue_form.specs.Search.{begun, asked, fed, met_by_put, met_by_take, told_by_peek};
 
 use crate::words::{is_modified, moved, next_place, node_of};
-use lin_report::calls::PUT;
+use lin_report::calls::{PEEK, PUT};
 use lin_report::{Op, Outcome, Reply};
+use ms_queue_form::QueueSearch;
 use node_arena::places::{HEAD, TAIL};
 use normal_traits::Found;
-use ms_queue_form::QueueSearch;
 use step_memory::{Request, Seen};
 
 /// A search that begins.
 pub fn begun(op: Op) -> QueueSearch
     ensures { result ≡ begun op }
 {
-    if op.code == PUT {
-        QueueSearch::PutTail
-    } else {
-        QueueSearch::TakeHead
+    match op.code {
+        PUT => QueueSearch::PutTail,
+        PEEK => QueueSearch::PeekHead,
+        _ => QueueSearch::TakeHead,
     }
 }
 
@@ -42,11 +42,13 @@ pub fn asked(search: QueueSearch) -> Request
         QueueSearch::PutTail | QueueSearch::PutReady { .. } | QueueSearch::TakeTail { .. } => {
             Request::Load { at: TAIL }
         }
-        QueueSearch::TakeHead | QueueSearch::TakeReady { .. } => Request::Load { at: HEAD },
+        QueueSearch::TakeHead | QueueSearch::TakeReady { .. } | QueueSearch::PeekHead => {
+            Request::Load { at: HEAD }
+        }
         QueueSearch::PutNext { tail } => Request::Load {
             at: next_place(tail),
         },
-        QueueSearch::TakeNext { head, .. } => Request::Load {
+        QueueSearch::TakeNext { head, .. } | QueueSearch::PeekNext { head } => Request::Load {
             at: next_place(head),
         },
         QueueSearch::PutHelp { tail, next } | QueueSearch::TakeHelp { tail, next } => {
@@ -98,6 +100,17 @@ fn met_head(head: u64) -> (QueueSearch, Found)
     }
 }
 
+/// What a peek tells by the next word of the head's node.
+#[inline(always)]
+pub fn told_by_peek(next: u64) -> Outcome
+    ensures { result ≡ told_by_peek next }
+{
+    match node_of(next) {
+        0 => Outcome::Plain(Reply::Empty),
+        first => Outcome::ValueOf(first),
+    }
+}
+
 /// What a search is after its step, and what it found.
 #[inline(always)]
 pub fn fed(search: QueueSearch, seen: Seen) -> (QueueSearch, Found)
@@ -115,6 +128,8 @@ pub fn fed(search: QueueSearch, seen: Seen) -> (QueueSearch, Found)
         }
         QueueSearch::TakeNext { head, tail } => met_by_take(head, tail, before),
         QueueSearch::TakeHelp { .. } if seen.won => (QueueSearch::TakeHead, Found::Going),
+        QueueSearch::PeekHead => (QueueSearch::PeekNext { head: before }, Found::Going),
+        QueueSearch::PeekNext { .. } => (search, Found::Answer(told_by_peek(before))),
         QueueSearch::PutHelp { .. } | QueueSearch::TakeHelp { .. } => (search, Found::Contended),
         QueueSearch::PutReady { .. } | QueueSearch::TakeReady { .. } => (search, Found::Ready),
     }

@@ -1,17 +1,20 @@
-//! Put and take, walked step by step over the words of a memory.
+//! Put, take and peek, walked step by step over the words of a memory.
 use crate::offers::{add_stores_of, list_of};
 use crate::search::{asked, begun, fed};
 use crate::wrap::{wrap_asked, wrap_begun, wrap_fed};
 use lin_report::{Client, Op, Outcome, Reply};
+use ms_queue_form::{QueueSearch, QueueWrap};
 use node_arena::opening_words;
 use normal_traits::{Found, List, Stores, Wrapped};
-use ms_queue_form::{QueueSearch, QueueWrap};
 use std::alloc::Global;
 use std::test::Fail;
 use step_memory::{Cells, Port, Request};
 
 /// The word that names node 1 of block 1, one version after the first.
 const LINKED: u64 = 33_554_437;
+
+/// The modified bit of a word.
+const BIT: u64 = 16_777_216;
 
 fn load(at: u32) -> Request {
     Request::Load { at }
@@ -174,5 +177,59 @@ fn the_tail_is_helped_on(rt: HostRuntime) -> Result<(), Fail> {
         };
         assert_eq!(rt; fed(helping, lost), (helping, Found::Contended));
     }
+    Ok(())
+}
+
+#[test]
+fn a_peek_looks_at_the_next_word_alone(rt: HostRuntime) -> Result<(), Fail> {
+    let empty = Found::Answer(Outcome::Plain(Reply::Empty));
+    let value = Found::Answer(Outcome::ValueOf(5));
+    let peek = op(9, 0);
+    for (words, head, next, answer) in [
+        ([].as_slice(), 1, 0, empty),
+        ([(46, BIT)].as_slice(), 1, BIT, empty),
+        // The tail is still at the dummy node.
+        ([(46, LINKED)].as_slice(), 1, LINKED, value),
+        (
+            [(20, BIT + 1), (46, LINKED)].as_slice(),
+            BIT + 1,
+            LINKED,
+            value,
+        ),
+        (
+            [(21, LINKED), (46, LINKED + BIT)].as_slice(),
+            1,
+            LINKED + BIT,
+            value,
+        ),
+    ] {
+        let mut cells = cells(rt.alloc(), words)?;
+        let steps = [(load(20), head, Found::Going), (load(46), next, answer)];
+        let after = walk(&mut cells, begun(peek), steps.as_slice());
+        assert_eq!(rt; after, Some(QueueSearch::PeekNext { head }));
+        assert_eq!(rt; cells.apply(load(20)).before, head);
+    }
+    Ok(())
+}
+
+#[test]
+fn a_peek_between_a_link_and_a_take(rt: HostRuntime) -> Result<(), Fail> {
+    let value = Found::Answer(Outcome::ValueOf(5));
+    let mut cells = cells(rt.alloc(), [].as_slice())?;
+    let begins = walk(
+        &mut cells,
+        begun(op(9, 0)),
+        [(load(20), 1, Found::Going)].as_slice(),
+    );
+    assert_eq!(rt; begins, Some(QueueSearch::PeekNext { head: 1 }));
+    for at in [46, 21, 20] {
+        cells.apply(Request::Store { at, value: LINKED });
+    }
+    let ends = walk(
+        &mut cells,
+        QueueSearch::PeekNext { head: 1 },
+        [(load(46), LINKED, value)].as_slice(),
+    );
+    assert_eq!(rt; ends, Some(QueueSearch::PeekNext { head: 1 }));
     Ok(())
 }

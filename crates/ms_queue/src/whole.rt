@@ -8,12 +8,13 @@ ghost use Rattle.ms_queue_form.specs.Search.{Asks, IsReady};
 ghost use Rattle.ms_queue_form.specs.Form.{queue_form};
 
 use crate::queue::MsQueue;
+use crate::search::told_by_peek;
 use crate::words::{is_modified, moved, next_place, node_of};
-use lin_report::calls::PUT;
+use lin_report::calls::{PEEK, PUT};
 use lin_report::{Op, Outcome, Reply};
+use ms_queue_form::QueueSearch;
 use node_arena::places::{HEAD, TAIL};
 use normal_traits::Found;
-use ms_queue_form::QueueSearch;
 use whole_calls::{Seeks, Steps};
 
 /// How often a search in one piece moves the tail on. Where it answers or gives up, nothing is kept of its state, so
@@ -77,13 +78,28 @@ fn take<P: Steps<MsQueue>>(port: &mut P) -> (QueueSearch, Found)
     (QueueSearch::TakeHead, Found::Going)
 }
 
+/// The search of a peek: the next word of the head's node tells the answer.
+#[inline(always)]
+fn peek<P: Steps<MsQueue>>(port: &mut P) -> (QueueSearch, Found)
+    requires begins { (P.machine port.old).phase ≡ Generate QueueSearch.PeekHead Search }
+    ensures machine { P.machine port.new ≡ searched queue_form result.1 result.0 (P.machine port.old) }
+    ensures rest { P.rest port.new ≡ P.rest port.old }
+    ensures goes { result.1 ≡ found.Going → Asks result.0 }
+    ensures readies { result.1 ≡ found.Ready → IsReady result.0 }
+{
+    let head = port.load(HEAD);
+    let behind = port.load(next_place(head));
+    let told = Found::Answer(told_by_peek(behind));
+    (QueueSearch::PeekHead, told)
+}
+
 impl Seeks for MsQueue {
     #[inline(always)]
     fn search<P: Steps<MsQueue>>(op: Op, port: &mut P) -> (QueueSearch, Found) {
-        if op.code == PUT {
-            put(port)
-        } else {
-            take(port)
+        match op.code {
+            PUT => put(port),
+            PEEK => peek(port),
+            _ => take(port),
         }
     }
 }

@@ -5,9 +5,9 @@ ghost use Rattle.ms_queue_form.specs.Wrap.{done, after_entry, wrap_begun, wrap_a
 use crate::words::{moved, next_place, node_of};
 use lin_report::calls::PUT;
 use lin_report::{Op, Outcome, Reply};
+use ms_queue_form::QueueWrap;
 use node_arena::places::TAIL;
 use normal_traits::{Entry, List, Wrapped};
-use ms_queue_form::QueueWrap;
 use step_memory::{Request, Seen};
 
 /// Nothing is left to do, and there is nothing to tell.

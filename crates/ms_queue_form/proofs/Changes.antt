@@ -1,9 +1,10 @@
 -- What one change more does to the chain that the changes give: nothing to its nodes, at most one more.
-use Rattle.std.proofs.Common.{◌≡◌, ℕ, ◌+◌, ◌*◌, ◌≤◌, Bool, true, false, cond, eqb, ◌&&◌, List, ◌∷◌, length, refl, ap, inr, arith}
+use Rattle.std.proofs.Common.{◌≡◌, ℕ, ◌+◌, ◌*◌, ◌≤◌, Bool, true, false, cond, eqb, ◌&&◌, List, ◌∷◌, length, refl, ap, inl, inr, ◌⊎◌, arith}
 use Rattle.std.proofs.lemmas.Bool.{true≢false, false≢true, ne_eqb, eq-eqb, cond-true, cond-false}
 use Rattle.node_arena.specs.MemoryMap.{node_place}
-use Rattle.normal_traits.specs.World.{Change, Among}
+use Rattle.normal_traits.specs.World.{Change, Among, first_changes}
 use Rattle.ms_queue_form.specs.Chain.{puts_one, puts, takes, node_block, put_value, node_at, next_of, value_of}
+use Rattle.client_lemmas.proofs.Growing.{first_older}
 
 -- the second has the changes of the first and maybe newer ones, so its chain goes on that of the first
 pub record Extends (old new : List Change) : Type 0 where
@@ -13,9 +14,12 @@ pub record Extends (old new : List Change) : Type 0 where
   pub blocks : (k : ℕ) → k ≤ puts old → node_block new k ≡ node_block old k
   pub values : (k : ℕ) → k ≤ puts old → put_value new k ≡ put_value old k
   pub among : (change : Change) → Among change old → Among change new
+  pub first : (count : ℕ) → count ≤ length old → first_changes count new ≡ first_changes count old
+  -- at most one is newer, so not both a put and a take
+  pub one : (takes new ≡ takes old) ⊎ (puts new ≡ puts old)
 
 pub extends_same : (changes : List Change) → Extends changes changes
-extends_same changes = record { puts_grow = omega arith; takes_grow = omega arith; longer = omega arith; blocks = λ k h. refl; values = λ k h. refl; among = λ change a. a }
+extends_same changes = record { puts_grow = omega arith; takes_grow = omega arith; longer = omega arith; blocks = λ k h. refl; values = λ k h. refl; among = λ change a. a; first = λ count low. refl; one = inl refl }
 
 one_more : (b : Bool) (n : ℕ) → n ≤ cond b (n + 1) n
 one_more true n = omega arith
@@ -24,6 +28,10 @@ one_more false n = omega arith
 or_one_more : (b : Bool) (n : ℕ) → n ≤ cond b n (n + 1)
 or_one_more true n = omega arith
 or_one_more false n = omega arith
+
+put_or_take : (b : Bool) (n m : ℕ) → (cond b m (m + 1) ≡ m) ⊎ (cond b (n + 1) n ≡ n)
+put_or_take true n m = inl refl
+put_or_take false n m = inr refl
 
 -- a place of the chain that is no new one
 not_new : (b : Bool) (k n x y : ℕ) → k ≤ n → cond (b && eqb k (n + 1)) x y ≡ y
@@ -39,6 +47,8 @@ extends_more change changes =
       blocks = λ k low. not_new (puts_one change) k (puts changes) change.list.block (node_block changes k) low;
       values = λ k low. not_new (puts_one change) k (puts changes) change.list.call.op.value (put_value changes k) low;
       among = λ other a. inr a;
+      first = λ count low. first_older change changes count low;
+      one = put_or_take (puts_one change) (puts changes) (takes changes);
     }
 
 -- ---- the nodes of the longer chain

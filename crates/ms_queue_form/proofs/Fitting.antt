@@ -10,9 +10,9 @@ use Rattle.normal_traits.specs.declared.form.Found.TheVariants.{Going, Ready, An
 use Rattle.normal_traits.specs.declared.form.Wrapped.{Wrapped}
 use Rattle.normal_traits.specs.declared.form.Wrapped.TheVariants as wrapped
 use Rattle.normal_traits.specs.declared.lists.Entry.{Entry}
-use Rattle.normal_traits.specs.Laws.{FoundFits, WrappedFits}
+use Rattle.normal_traits.specs.Laws.{FitsRecord, FoundFits, WrappedFits}
 use Rattle.ms_queue_form.specs.declared.states.QueueSearch.{QueueSearch}
-use Rattle.ms_queue_form.specs.declared.states.QueueSearch.TheVariants.{PutTail, PutNext, PutHelp, PutReady, TakeHead, TakeTail, TakeNext, TakeHelp, TakeReady}
+use Rattle.ms_queue_form.specs.declared.states.QueueSearch.TheVariants.{PutTail, PutNext, PutHelp, PutReady, TakeHead, TakeTail, TakeNext, TakeHelp, TakeReady, PeekHead, PeekNext}
 use Rattle.ms_queue_form.specs.declared.states.QueueWrap.{QueueWrap}
 use Rattle.ms_queue_form.specs.declared.states.QueueWrap.TheVariants.{Over, Tail, Swing}
 use Rattle.ms_queue_form.specs.Search.{fed, is_put, met_by_put, met_by_take, next_place}
@@ -46,6 +46,8 @@ found_fits (TakeTail head) seen = tt
 found_fits (TakeNext head tail) seen = take_fits head tail seen.before
 found_fits (TakeHelp tail next) seen = either Fits seen.won (TakeHead, Going) (TakeHelp tail next, Contended) tt tt
 found_fits (TakeReady head next) seen = tt
+found_fits PeekHead seen = tt
+found_fits (PeekNext head) seen = either FitsRecord (versioned_value seen.before == 0) (Plain Empty) (ValueOf (versioned_value seen.before)) (omega arith) tt
 
 done_fits : WrappedFits done.1
 done_fits = omega arith

@@ -1,12 +1,14 @@
 -- What is held after one change more, and that it really changed.
-use Rattle.std.proofs.Common.{◌≡◌, ℕ, suc, ◌+◌, ◌<◌, ◌≤◌, true, false, List, [], ◌∷◌, ◌++◌, length, get_or, length-append, refl, sym, ap, ◌∙◌, inl, inr, ◌⊎◌, arith}
-use Rattle.std.proofs.lemmas.Bool.{cond-true, cond-false, cases_lt}
+use Rattle.std.proofs.Common.{◌≡◌, ℕ, suc, ◌+◌, ◌<◌, ◌≤◌, true, false, eqb, List, [], ◌∷◌, ◌++◌, length, get_or, length-append, refl, sym, ap, ◌∙◌, inl, inr, ◌⊎◌, Some, arith}
+use Rattle.std.specs.Prelude.{slice_get, if◌then◌else◌}
+use Rattle.std.proofs.lemmas.Bool.{cond-true, cond-false, cases_lt, eq-eqb}
 use Rattle.std.proofs.lemmas.List.{get_or_append_left}
 use Rattle.std.proofs.Math.Seq.{get_or-append_seam}
 use Rattle.lin_report.specs.declared.calls.Op.{Op}
 use Rattle.lin_report.specs.declared.calls.Reply.{Reply}
 use Rattle.lin_report.specs.declared.calls.Reply.TheVariants.{Done, Value}
-use Rattle.lin_report.specs.Object.{queue_object, queue_apply, take_first}
+use Rattle.lin_report.specs.declared.calls.TheConstants.{PUT, TAKE, PEEK}
+use Rattle.lin_report.specs.Object.{queue_object, queue_apply, take_first, value_or_empty}
 use Rattle.normal_traits.specs.World.{Change, held_after, Observes}
 use Rattle.ms_queue_form.specs.Search.{is_put}
 use Rattle.ms_queue_form.specs.Chain.{puts_one, puts, takes, put_value}
@@ -15,11 +17,28 @@ use Rattle.ms_queue_form.proofs.Changes.{extends_more, puts-put, takes-put, puts
 
 -- ---- one operation
 
-pub apply-put : (op : Op) (values : List ℕ) → is_put op ≡ true → queue_apply op values ≡ (values ++ op.value ∷ [], Done)
-apply-put op values put = cond-true (is_put op) (values ++ op.value ∷ [], Done) (take_first values) put
+pub puts_is : (op : Op) → op.code ≡ PUT → is_put op ≡ true
+puts_is op e = eq-eqb op.code PUT e
 
-pub apply-take : (op : Op) (values : List ℕ) → is_put op ≡ false → queue_apply op values ≡ take_first values
-apply-take op values take = cond-false (is_put op) (values ++ op.value ∷ [], Done) (take_first values) take
+pub takes_is : (op : Op) → op.code ≡ TAKE → is_put op ≡ false
+takes_is op e = ap (λ code. eqb code PUT) e
+
+-- what take and peek leave and reply
+abbrev else_applied : Op → List ℕ → List ℕ × Reply
+else_applied op values = if eqb op.code TAKE then take_first values else (values, value_or_empty (slice_get values 0))
+
+pub apply-put : (op : Op) (values : List ℕ) → is_put op ≡ true → queue_apply op values ≡ (values ++ op.value ∷ [], Done)
+apply-put op values put = cond-true (is_put op) (values ++ op.value ∷ [], Done) (else_applied op values) put
+
+pub apply-take : (op : Op) (values : List ℕ) → op.code ≡ TAKE → queue_apply op values ≡ take_first values
+apply-take op values take =
+    cond-false (is_put op) (values ++ op.value ∷ [], Done) (else_applied op values) (takes_is op take)
+    ∙ cond-true (eqb op.code TAKE) (take_first values) (values, value_or_empty (slice_get values 0)) (eq-eqb op.code TAKE take)
+
+pub apply-peek : (op : Op) (values : List ℕ) → op.code ≡ PEEK → queue_apply op values ≡ (values, value_or_empty (slice_get values 0))
+apply-peek op values peek =
+    cond-false (is_put op) (values ++ op.value ∷ [], Done) (else_applied op values) (ap (λ code. eqb code PUT) peek)
+    ∙ cond-false (eqb op.code TAKE) (take_first values) (values, value_or_empty (slice_get values 0)) (ap (λ code. eqb code TAKE) peek)
 
 take_shorter : (values : List ℕ) → 0 < length values → length (take_first values).0 + 1 ≡ length values
 take_shorter [] some = absurd (omega arith)
@@ -32,6 +51,18 @@ take_rest (value ∷ values) i some = refl
 take_reply : (values : List ℕ) → 0 < length values → (take_first values).1 ≡ Value (get_or values 0 0)
 take_reply [] some = absurd (omega arith)
 take_reply (value ∷ values) some = refl
+
+-- the first value, where there is one
+first_is : (values : List ℕ) → 0 < length values → slice_get values 0 ≡ Some (get_or values 0 0)
+first_is [] some = absurd (omega arith)
+first_is (value ∷ values) some = refl
+
+-- the first value of a queue that holds some is that of the node behind the head
+pub first_held : (changes : List Change) → HoldsBehind changes → takes changes < puts changes → slice_get (held_after queue_object changes) 0 ≡ Some (put_value changes (takes changes + 1))
+first_held changes holds some =
+    let nonempty : 0 < length (held_after queue_object changes) = omega (arith, holds.count, some) in
+    let place : takes changes + 0 + 1 ≡ takes changes + 1 = omega arith in
+    first_is (held_after queue_object changes) nonempty ∙ ap Some (holds.at 0 nonempty ∙ ap (put_value changes) place)
 
 pub take_empty : (values : List ℕ) → length values ≡ 0 → values ≡ []
 take_empty [] none = refl
@@ -74,12 +105,15 @@ module _ (change : Change) (changes : List Change) (holds : HoldsBehind changes)
 
   -- ---- a take
 
-  module _ (take : puts_one change ≡ false) (some : takes changes < puts changes) where
+  module _ (code : change.list.call.op.code ≡ TAKE) (some : takes changes < puts changes) where
+    take : puts_one change ≡ false
+    take = takes_is change.list.call.op code
+
     nonempty : 0 < length (held_after queue_object changes)
     nonempty = omega (arith, holds.count, some)
 
     after_take : held_after queue_object (change ∷ changes) ≡ (take_first (held_after queue_object changes)).0
-    after_take = ap (λ (r : List ℕ × Reply). r.0) (apply-take change.list.call.op (held_after queue_object changes) take)
+    after_take = ap (λ (r : List ℕ × Reply). r.0) (apply-take change.list.call.op (held_after queue_object changes) code)
 
     shorter : length (held_after queue_object (change ∷ changes)) + 1 ≡ length (held_after queue_object changes)
     shorter = ap (λ (values : List ℕ). length values + 1) after_take ∙ take_shorter (held_after queue_object changes) nonempty
@@ -100,7 +134,7 @@ module _ (change : Change) (changes : List Change) (holds : HoldsBehind changes)
 
     pub reply_take : (queue_apply change.list.call.op (held_after queue_object changes)).1 ≡ Value (put_value changes (takes changes + 1))
     reply_take =
-        ap (λ (r : List ℕ × Reply). r.1) (apply-take change.list.call.op (held_after queue_object changes) take)
+        ap (λ (r : List ℕ × Reply). r.1) (apply-take change.list.call.op (held_after queue_object changes) code)
         ∙ take_reply (held_after queue_object changes) nonempty
         ∙ ap Value (holds.at 0 nonempty ∙ ap (put_value changes) first_place)
       where

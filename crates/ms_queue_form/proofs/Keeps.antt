@@ -2,8 +2,7 @@
 use Rattle.std.proofs.Common.{◌≡◌, ℕ, ◌^◌, ◌<◌, Bool, true, false, eqb, refl, sym, ap, ◌∙◌, subst, inl, inr, Some, arith}
 use Rattle.std.specs.Prelude.{slice_get, All}
 use Rattle.std.proofs.lemmas.Bool.{true≢false, cond-true, eq-eqb, or_left}
-use Rattle.lin_report.specs.declared.calls.Op.{Op}
-use Rattle.lin_report.specs.declared.calls.TheConstants.{PUT, TAKE}
+use Rattle.lin_report.specs.declared.calls.TheConstants.{TAKE}
 use Rattle.step_memory.specs.declared.steps.Request.{Request}
 use Rattle.step_memory.specs.declared.steps.Request.TheVariants.{Load, Exchange}
 use Rattle.step_memory.specs.declared.steps.Seen.{Seen}
@@ -17,7 +16,7 @@ use Rattle.normal_traits.specs.World.{Listed, World, is_word}
 use Rattle.normal_traits.specs.Steps.{IsStep, IsFresh, IsExchanged, IsOffered, IsFilled, with_word, put_word, using_block}
 use Rattle.normal_traits.specs.Steps.IsStep.{nothing, elsewhere, clears, searches, wraps, first, first_of_block, second}
 use Rattle.ms_queue_form.specs.declared.states.QueueSearch.{QueueSearch}
-use Rattle.ms_queue_form.specs.declared.states.QueueSearch.TheVariants.{PutTail, PutNext, PutHelp, PutReady, TakeTail, TakeNext, TakeHelp, TakeReady}
+use Rattle.ms_queue_form.specs.declared.states.QueueSearch.TheVariants.{PutTail, PutNext, PutHelp, PutReady, TakeTail, TakeNext, TakeHelp, TakeReady, PeekNext}
 use Rattle.ms_queue_form.specs.declared.states.QueueWrap.{QueueWrap}
 use Rattle.ms_queue_form.specs.declared.states.QueueWrap.TheVariants.{Over, Tail, Swing}
 use Rattle.ms_queue_form.specs.Search.{is_put, asked, IsReady, offered, put_offer, moved_word, next_place}
@@ -28,20 +27,13 @@ use Rattle.ms_queue_form.specs.Knowledge.{WasTail, WasNext, Learnt, Knows, Follo
 use Rattle.ms_queue_form.specs.Form.{queue_form}
 use Rattle.ms_queue_form.proofs.Later.{Later, later}
 use Rattle.ms_queue_form.proofs.Shapes.{still, tail_swings}
+use Rattle.ms_queue_form.proofs.History.{puts_is}
 use Rattle.ms_queue_form.proofs.Takes.{take_entry, taken, take_keeps}
 use Rattle.ms_queue_form.proofs.Puts.{put_entry, put_keeps}
 use Rattle.normal_traits.proofs.Stays.{word_beside}
 use Rattle.client_lemmas.proofs.Words.{beside_word, all_put}
 use Rattle.client_lemmas.proofs.Entries.{the_entry, no_second}
 use Rattle.client_lemmas.proofs.Requests.{Went, went}
-
--- ---- operations
-
-pub puts_is : (op : Op) → op.code ≡ PUT → is_put op ≡ true
-puts_is op e = eq-eqb op.code PUT e
-
-pub takes_is : (op : Op) → op.code ≡ TAKE → is_put op ≡ false
-takes_is op e = ap (λ code. eqb code PUT) e
 
 -- ---- the request of a search or wrap-up
 
@@ -50,22 +42,23 @@ pub data IsHelp (world : World) : Request → Type 0 where
   loads : (place : ℕ) → IsHelp world (Load place)
   moves : (tail next : ℕ) → WasTail world tail → WasNext world tail next → IsHelp world (Exchange TAIL tail (moved_word tail next))
 
-search_helps : (world : World) (searched : QueueSearch) → Learnt searched world → IsHelp world (asked searched)
-search_helps world PutTail l = loads TAIL
-search_helps world (PutNext tail) l = loads (next_place tail)
-search_helps world (PutHelp tail next) l = moves tail next l.0 l.1
-search_helps world (PutReady tail next) l = loads TAIL
-search_helps world (TakeTail head) l = loads TAIL
-search_helps world (TakeNext head tail) l = loads (next_place head)
-search_helps world (TakeHelp tail next) l = moves tail next l.0 l.1
-search_helps world _ l = loads HEAD
+pub search_helps : (world : World) (searched : QueueSearch) (since : ℕ) → Learnt searched world since → IsHelp world (asked searched)
+search_helps world PutTail since l = loads TAIL
+search_helps world (PutNext tail) since l = loads (next_place tail)
+search_helps world (PutHelp tail next) since l = moves tail next l.0 l.1
+search_helps world (PutReady tail next) since l = loads TAIL
+search_helps world (TakeTail head) since l = loads TAIL
+search_helps world (TakeNext head tail) since l = loads (next_place head)
+search_helps world (TakeHelp tail next) since l = moves tail next l.0 l.1
+search_helps world (PeekNext head) since l = loads (next_place head)
+search_helps world _ since l = loads HEAD
 
 wrap_helps : (world : World) (wrap : QueueWrap) (list : Listed) (stop : ℕ) → Follows wrap list stop world → IsHelp world (wrap_asked wrap)
 wrap_helps world Over list stop f = absurd f.learnt
 wrap_helps world (Tail target to) list stop f = loads TAIL
 wrap_helps world (Swing tail to) list stop f = moves tail to f.learnt.0 f.learnt.1
 
-help_keeps : (world after : World) (seen : Seen) (request : Request) → IsQueue world → Later world after → IsHelp world request → Went queue_form request world after seen → IsQueue after
+pub help_keeps : (world after : World) (seen : Seen) (request : Request) → IsQueue world → Later world after → IsHelp world request → Went queue_form request world after seen → IsQueue after
 help_keeps world after seen _ queue kept (loads place) w = subst IsQueue (sym w.0) queue
 help_keeps world after seen _ queue kept (moves tail next was behind) (inl w) = subst IsQueue (sym w.1) queue
 help_keeps world after seen _ queue kept (moves tail next was behind) (inr w) =
@@ -76,9 +69,9 @@ help_keeps world after seen _ queue kept (moves tail next was behind) (inr w) =
 
 -- a list whose entry is tried, with the offer and with what its search has learnt
 pub data IsTried (world : World) (list : Listed) (entry : Entry) (offer : Offered) : Type 0 where
-  puts_it : (tail next : ℕ) → is_put list.call.op ≡ true → Learnt (PutReady tail next) world → put_entry tail next list.block ≡ entry
+  puts_it : (tail next : ℕ) → is_put list.call.op ≡ true → Learnt (PutReady tail next) world 0 → put_entry tail next list.block ≡ entry
       → offer ≡ put_offer tail next list.call.op.value list.block → IsTried world list entry offer
-  takes_it : (head next : ℕ) → is_put list.call.op ≡ false → Learnt (TakeReady head next) world → take_entry head next ≡ entry → IsTried world list entry offer
+  takes_it : (head next : ℕ) → list.call.op.code ≡ TAKE → Learnt (TakeReady head next) world 0 → take_entry head next ≡ entry → IsTried world list entry offer
 
 pub tried : (world : World) (list : Listed) (searched : QueueSearch) (since : ℕ) (entry : Entry) → IsOffered queue_form world list searched since → slice_get list.entries 0 ≡ Some entry
     → IsTried world list entry (offered searched list.call.op list.block)
@@ -92,7 +85,7 @@ tried world list searched since entry offer listed = by_search searched offer.re
         ap (put_offer tail next list.call.op.value) (cond-true (is_put list.call.op) list.block 0 put) in
         puts_it tail next put knows.learnt (the_entry list.entries entry (put_entry tail next list.block) listed (entries ∙ ap (λ (o : Offered). o.entries) is)) is
     by_search (TakeReady head next) ready knows entries =
-        takes_it head next (takes_is list.call.op knows.serves) knows.learnt (the_entry list.entries entry (take_entry head next) listed entries)
+        takes_it head next knows.serves knows.learnt (the_entry list.entries entry (take_entry head next) listed entries)
     by_search _ ready knows entries = absurd ready
 
 -- the exchange of an entry keeps the shape
@@ -101,7 +94,7 @@ Keeps world list word used entry =
     slice_get list.entries 0 ≡ Some entry → world.words entry.target ≡ entry.from → IsExchanged entry word
     → Later world (taken world list entry word used) → IsQueue (taken world list entry word used)
 
-take_step : (world : World) → IsQueue world → (list : Listed) (head next word : ℕ) (used : ℕ → Bool) → is_put list.call.op ≡ false → Learnt (TakeReady head next) world → IsFresh world list
+take_step : (world : World) → IsQueue world → (list : Listed) (head next word : ℕ) (used : ℕ → Bool) → list.call.op.code ≡ TAKE → Learnt (TakeReady head next) world 0 → IsFresh world list
     → used list.block ≡ true → (0 < list.block → world.used list.block ≡ false) → (entry : Entry) → take_entry head next ≡ entry → Keeps world list word used entry
 take_step world queue list head next word used take learnt fresh own unused entry is =
     let base : Keeps world list word used (take_entry head next) =
@@ -115,7 +108,7 @@ stored_value words tail next value block stored = stored 0 (0, 0) (omega arith)
 stored_next : (words : ℕ → ℕ) (tail next value block : ℕ) → All (λ (store : ℕ × ℕ). words store.0 ≡ store.1) (put_offer tail next value block).stores → words (node_place (reference_to block 1) NODE_NEXT) ≡ 0
 stored_next words tail next value block stored = stored 1 (0, 0) (omega arith)
 
-put_step : (world : World) → IsQueue world → (list : Listed) (tail next word : ℕ) (used : ℕ → Bool) → is_put list.call.op ≡ true → Learnt (PutReady tail next) world → IsFresh world list
+put_step : (world : World) → IsQueue world → (list : Listed) (tail next word : ℕ) (used : ℕ → Bool) → is_put list.call.op ≡ true → Learnt (PutReady tail next) world 0 → IsFresh world list
     → list.block < 2 ^ 17 → used list.block ≡ true → world.used list.block ≡ false → All (λ (store : ℕ × ℕ). world.words store.0 ≡ store.1) (put_offer tail next list.call.op.value list.block).stores
     → (entry : Entry) → put_entry tail next list.block ≡ entry → Keeps world list word used entry
 put_step world queue list tail next word used put learnt fresh small own unused stored entry is =
@@ -167,7 +160,7 @@ keeps world _ queue kept nothing = queue
 keeps world _ queue kept (elsewhere place word none) = written_keeps world place word queue none kept
 keeps world _ queue kept (clears place some versioned listable) = cleared_keeps world place queue versioned kept
 keeps world after queue kept (searches {seen = seen} searched op since command asks knows requested) =
-    help_keeps world after seen (asked searched) queue kept (search_helps world searched knows.learnt) (went queue_form (asked searched) world after seen requested)
+    help_keeps world after seen (asked searched) queue kept (search_helps world searched since knows.learnt) (went queue_form (asked searched) world after seen requested)
 keeps world after queue kept (wraps {seen = seen} wrap list stop command going follows requested) =
     help_keeps world after seen (wrap_asked wrap) queue kept (wrap_helps world wrap list stop follows) (went queue_form (wrap_asked wrap) world after seen requested)
 keeps world _ queue kept (first list searched since entry word offer fresh none needs listed same change) =

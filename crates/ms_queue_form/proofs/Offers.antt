@@ -27,7 +27,7 @@ use Rattle.ms_queue_form.specs.Knowledge.{Learnt, Serves}
 use Rattle.ms_queue_form.specs.Form.{queue_form}
 use Rattle.ms_queue_form.proofs.Places.{value_not_versioned, next_listable}
 use Rattle.ms_queue_form.proofs.Kept.{next_place_is, next_place_word, next_place_versioned}
-use Rattle.ms_queue_form.proofs.Keeps.{puts_is}
+use Rattle.ms_queue_form.proofs.History.{puts_is}
 use Rattle.client_lemmas.proofs.Places.{apart_fields}
 use Rattle.client_lemmas.proofs.Offers.{may_exhaust_at, one_entry, two_apart}
 use Rattle.client_lemmas.proofs.Outcomes.{gives_up, gave_up}
@@ -74,13 +74,13 @@ lists (PutReady tail next) op ready serves = may_exhaust_at op PUT serves refl
 lists (TakeReady head next) op ready serves = may_exhaust_at op TAKE serves refl
 lists _ op ready serves = absurd ready
 
-pub take_offers : (world : World) (head next block : ℕ) → IsQueue world → Learnt (TakeReady head next) world → IsGoodOffer queue_form world block (take_offer head next)
+pub take_offers : (world : World) (head next block : ℕ) → IsQueue world → Learnt (TakeReady head next) world 0 → IsGoodOffer queue_form world block (take_offer head next)
 take_offers world head next block queue l =
     one_entry queue_form world block (record { target = HEAD; from = head; to = moved_word head next }) []
     (record { word = refl; versioned = refl; listable = refl; clear = l.0.clear; seen = l.0.seen; changed = (versioned_value next, value_below next, refl) })
     (All-nil (IsGoodStore queue_form block)) (λ i j d order low. absurd (omega arith)) (omega arith)
 
-pub put_offers : (world : World) (tail next value block : ℕ) → IsQueue world → Learnt (PutReady tail next) world → value < 2 ^ 32 → block < 2 ^ 17 → IsGoodOffer queue_form world block (put_offer tail next value block)
+pub put_offers : (world : World) (tail next value block : ℕ) → IsQueue world → Learnt (PutReady tail next) world 0 → value < 2 ^ 32 → block < 2 ^ 17 → IsGoodOffer queue_form world block (put_offer tail next value block)
 put_offers world tail next value block queue l fits small =
     let at = next_place_is world tail l.0 in
     one_entry queue_form world block (record { target = next_place tail; from = next; to = changed_word next (reference_to block 1) })
@@ -114,12 +114,12 @@ put_offers world tail next value block queue l fits small =
     (All-nil (IsGoodStore queue_form block))))
     (two_apart (node_place (reference_to block 1) NODE_VALUE, value) (node_place (reference_to block 1) NODE_NEXT, 0) (apart_fields block block NODE_VALUE NODE_NEXT (omega arith) (omega arith) (λ e. omega (arith, e)))) (omega arith)
 
-pub offers : (world : World) (searched : QueueSearch) (op : Op) (block : ℕ) → IsCommandOf Queue op → IsQueue world → Serves searched op → Learnt searched world → IsReady searched → block < 2 ^ 17 → IsGoodOffer queue_form world block (offered searched op block)
-offers world (PutReady tail next) op block command queue serves l ready small =
+pub offers : (world : World) (searched : QueueSearch) (op : Op) (since block : ℕ) → IsCommandOf Queue op → IsQueue world → Serves searched op → Learnt searched world since → IsReady searched → block < 2 ^ 17 → IsGoodOffer queue_form world block (offered searched op block)
+offers world (PutReady tail next) op since block command queue serves l ready small =
     subst (IsGoodOffer queue_form world block) (sym (ap (put_offer tail next op.value) (cond-true (is_put op) block 0 (puts_is op serves))))
     (put_offers world tail next op.value block queue l (omega (arith, command.value)) small)
-offers world (TakeReady head next) op block command queue serves l ready small = take_offers world head next block queue l
-offers world _ op block command queue serves l ready small = absurd ready
+offers world (TakeReady head next) op since block command queue serves l ready small = take_offers world head next block queue l
+offers world _ op since block command queue serves l ready small = absurd ready
 
 -- only a put's list uses the block
 pub same_entries : (searched : QueueSearch) (op : Op) (block other : ℕ) → is_put op ≡ false → (offered searched op block).entries ≡ (offered searched op other).entries

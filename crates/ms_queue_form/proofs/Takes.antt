@@ -4,6 +4,7 @@ use Rattle.std.specs.Prelude.{slice_get}
 use Rattle.std.proofs.lemmas.Bool.{true≢false, cond-false}
 use Rattle.lin_report.specs.declared.calls.Reply.{Reply}
 use Rattle.lin_report.specs.declared.calls.Reply.TheVariants.{Done, Value}
+use Rattle.lin_report.specs.declared.calls.TheConstants.{TAKE}
 use Rattle.lin_report.specs.Object.{queue_object}
 use Rattle.word_fields.specs.Versioned.{versioned_value, versioned_version, value_below}
 use Rattle.word_fields.proofs.VersionedLemmas.{value-changed, value-cleared, version-cleared}
@@ -19,7 +20,7 @@ use Rattle.ms_queue_form.specs.Shape.{kind_of, cause_of, reached, reply_at, HasE
 use Rattle.ms_queue_form.specs.Knowledge.{WasNext}
 use Rattle.ms_queue_form.proofs.Changes.{puts-take, takes-take, block-take, value-take}
 use Rattle.ms_queue_form.proofs.Chains.{SameChain, chain_stays, node_same}
-use Rattle.ms_queue_form.proofs.History.{holds_take, effective_take, reply_take}
+use Rattle.ms_queue_form.proofs.History.{takes_is, holds_take, effective_take, reply_take}
 use Rattle.ms_queue_form.proofs.Journal.{journal_grows}
 use Rattle.ms_queue_form.proofs.Later.{Later}
 use Rattle.normal_traits.proofs.Stays.{word_beside}
@@ -42,8 +43,11 @@ taken world list entry word used =
     }
 
 module _ (world : World) (queue : IsQueue world) (list : Listed) (head next word : ℕ) (used : ℕ → Bool)
-    (take : is_put list.call.op ≡ false) (same : world.words HEAD ≡ head) (change : IsExchanged (take_entry head next) word)
+    (code : list.call.op.code ≡ TAKE) (same : world.words HEAD ≡ head) (change : IsExchanged (take_entry head next) word)
     (was : WasNext world head next) (ahead : versioned_version head < versioned_version (world.words TAIL)) where
+  take : is_put list.call.op ≡ false
+  take = takes_is list.call.op code
+
   at_head : versioned_version head ≡ takes world.changes
   at_head = ap versioned_version (sym same) ∙ queue.ends.taken
 
@@ -83,7 +87,7 @@ module _ (world : World) (queue : IsQueue world) (list : Listed) (head next word
   reply_is =
       cond-false (is_put list.call.op) Done (Value (put_value (change_of queue_object list world.changes ∷ world.changes) (versioned_version head + 1))) take
       ∙ ap Value (unchanged.values (versioned_version head + 1) ∙ ap (λ k. put_value world.changes (k + 1)) at_head)
-      ∙ sym (reply_take (change_of queue_object list world.changes) world.changes queue.holds take some)
+      ∙ sym (reply_take (change_of queue_object list world.changes) world.changes queue.holds code some)
 
   kind_is : kind_of (By list 0) ≡ 1
   kind_is = cond-false (is_put list.call.op) 0 1 take
@@ -121,8 +125,8 @@ module _ (world : World) (queue : IsQueue world) (list : Listed) (head next word
       record {
         chain = chain;
         ends = ends_taken;
-        holds = holds_take (change_of queue_object list world.changes) world.changes queue.holds take some;
-        effective = (effective_take (change_of queue_object list world.changes) world.changes queue.holds take some, queue.effective);
+        holds = holds_take (change_of queue_object list world.changes) world.changes queue.holds code some;
+        effective = (effective_take (change_of queue_object list world.changes) world.changes queue.holds code some, queue.effective);
         made = made_more world after kept.used kept.journal queue.made (change_of queue_object list world.changes) refl fresh
             (record { entry = take_entry head next; cause = cause_of world (By list 0) (take_entry head next); listed = listed; won = inl refl }) own unused;
         journal = journal_grows world after kept (omega arith) queue.ends queue.journal chain _ refl known (at_head ∙ sym (ap (reached world) kind_is)) (omega (arith, was.within, unchanged.count));

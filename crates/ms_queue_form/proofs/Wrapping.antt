@@ -135,7 +135,7 @@ begun_well world list searched since stop queue offer stopped = by_stop (cases_e
     by_stop : (stop ≡ 0) ⊎ (stop ≡ 0 → ⊥) → (stop ≡ 1) ⊎ (stop ≡ 1 → ⊥) → WellWrapped queue_form world list stop (wrap_begun list.call.op list.entries stop)
     by_stop (inl none) second =
         subst (WellWrapped queue_form world list stop) (sym (cond-true (eqb stop 0) (Over, wrapped.Restart) (cond (eqb stop 1) at_first done) (eq-eqb stop 0 none)))
-        (stopped_lost queue_form world list searched since offer (offers world searched list.call.op list.block offer.command queue offer.knows.serves offer.knows.learnt offer.ready offer.small) stop none stopped)
+        (stopped_lost queue_form world list searched since offer (offers world searched list.call.op since list.block offer.command queue offer.knows.serves offer.knows.learnt offer.ready offer.small) stop none stopped)
     by_stop (inr some) (inl one) =
         let t : Took world list 0 = stopped.took 0 (omega (arith, one)) in
         subst (WellWrapped queue_form world list stop)

@@ -2,8 +2,9 @@
 use Rattle.std.specs.Prelude.{ℕ, ◌==◌, if◌then◌else◌, Bool, [], ◌∷◌}
 use Rattle.lin_report.specs.declared.calls.Op.{Op}
 use Rattle.lin_report.specs.declared.calls.Reply.TheVariants.{Empty}
-use Rattle.lin_report.specs.declared.calls.Outcome.TheVariants.{Plain}
-use Rattle.lin_report.specs.declared.calls.TheConstants.{PUT}
+use Rattle.lin_report.specs.declared.calls.Outcome.{Outcome}
+use Rattle.lin_report.specs.declared.calls.Outcome.TheVariants.{Plain, ValueOf}
+use Rattle.lin_report.specs.declared.calls.TheConstants.{PUT, PEEK}
 use Rattle.step_memory.specs.declared.steps.Request.{Request}
 use Rattle.step_memory.specs.declared.steps.Request.TheVariants.{Load, Exchange}
 use Rattle.step_memory.specs.declared.steps.Seen.{Seen}
@@ -14,11 +15,15 @@ use Rattle.normal_traits.specs.declared.form.Found.{Found}
 use Rattle.normal_traits.specs.declared.form.Found.TheVariants.{Going, Ready, Answer, Contended}
 use Rattle.normal_traits.specs.NormalForm.{Offered}
 use Rattle.ms_queue_form.specs.declared.states.QueueSearch.{QueueSearch}
-use Rattle.ms_queue_form.specs.declared.states.QueueSearch.TheVariants.{PutTail, PutNext, PutHelp, PutReady, TakeHead, TakeTail, TakeNext, TakeHelp, TakeReady}
+use Rattle.ms_queue_form.specs.declared.states.QueueSearch.TheVariants.{PutTail, PutNext, PutHelp, PutReady, TakeHead, TakeTail, TakeNext, TakeHelp, TakeReady, PeekHead, PeekNext}
 
--- whether an operation puts; each other command of the queue takes
+-- whether an operation puts; of the other commands of the queue take alone changes it
 abbrev pub is_put : Op → Bool
 is_put op = op.code == PUT
+
+-- whether an operation looks at the first value and leaves it
+abbrev pub is_peek : Op → Bool
+is_peek op = op.code == PEEK
 
 -- the place of the next word of the node that a word names
 abbrev pub next_place : ℕ → ℕ
@@ -30,7 +35,7 @@ moved_word word next = changed_word word (versioned_value next)
 
 -- a search that begins
 abbrev pub begun : Op → QueueSearch
-begun op = if is_put op then PutTail else TakeHead
+begun op = if is_put op then PutTail else (if is_peek op then PeekHead else TakeHead)
 
 -- what a search asks for; one that is ready asks for nothing more
 abbrev pub asked : QueueSearch → Request
@@ -43,6 +48,8 @@ asked (TakeTail head) = Load TAIL
 asked (TakeNext head tail) = Load (next_place head)
 asked (TakeHelp tail next) = Exchange TAIL tail (moved_word tail next)
 asked (TakeReady head next) = Load HEAD
+asked PeekHead = Load HEAD
+asked (PeekNext head) = Load (next_place head)
 
 -- a put has loaded the next word of the tail's node
 abbrev pub met_by_put : ℕ → ℕ → QueueSearch × Found
@@ -56,6 +63,10 @@ met_by_take head tail next =
     if versioned_value next == 0 then (TakeNext head tail, Answer (Plain Empty))
     else (if versioned_value tail == versioned_value head then (TakeHelp tail next, Going) else (TakeReady head next, Ready))
 
+-- what a peek tells by the next word of the head's node: the value of the node that it names
+abbrev pub told_by_peek : ℕ → Outcome
+told_by_peek next = if versioned_value next == 0 then Plain Empty else ValueOf (versioned_value next)
+
 -- what a search is after its step, and what it found
 abbrev pub fed : QueueSearch → Seen → QueueSearch × Found
 fed PutTail seen = (PutNext seen.before, Going)
@@ -67,6 +78,8 @@ fed (TakeTail head) seen = (TakeNext head seen.before, Going)
 fed (TakeNext head tail) seen = met_by_take head tail seen.before
 fed (TakeHelp tail next) seen = if seen.won then (TakeHead, Going) else (TakeHelp tail next, Contended)
 fed (TakeReady head next) seen = (TakeReady head next, Ready)
+fed PeekHead seen = (PeekNext seen.before, Going)
+fed (PeekNext head) seen = (PeekNext head, Answer (told_by_peek seen.before))
 
 -- a search has a next step
 abbrev pub Asks : QueueSearch → Type 0

@@ -21,6 +21,10 @@ pub enum QueueSearch {
     TakeHelp { tail: u64, next: u64 },
     /// `take`: the head's node has this next word, and the tail is behind it.
     TakeReady { head: u64, next: u64 },
+    /// `peek`: the head is loaded next.
+    PeekHead,
+    /// `peek`: the next word of the head's node is loaded next, and tells the answer.
+    PeekNext { head: u64 },
 }
 
 /// Where a wrap-up stands.
