@@ -5,6 +5,7 @@ mod faults;
 mod lists;
 mod loads;
 mod meeting;
+mod peeks;
 mod queues;
 mod refusals;
 mod rows;

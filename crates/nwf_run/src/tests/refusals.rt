@@ -16,7 +16,7 @@ const REFUSED: [Row; 19] = [
     (
         ONE,
         "0 end/",
-        "peek/",
+        "min/",
         3,
         "nwf: refused file 1 line 1 cause 1/",
     ),
