@@ -1,8 +1,10 @@
 //! One seat alone whose calls are all published: each phase of the slow path, step by step.
-use crate::calls::{ADD_5, DEL_5, ONE_TAKE, PUT_7, slow_line};
+use crate::calls::{ADD_5, DEL_5, ONE_PEEK, ONE_TAKE, PUT_7, slow_line};
 use crate::list_rows::{ADD_1, DEL_2, HELP_ADD, HELP_DEL};
 use crate::play::Play;
-use crate::queue_rows::{HELP_EMPTY_TAKE, HELP_PUT, HELP_TAKE, PUT_1, SEVEN_1, TAKE_2, TAKE_3};
+use crate::queue_rows::{
+    HELP_EMPTY_TAKE, HELP_PEEK, HELP_PUT, HELP_TAKE, PEEK_2, PUT_1, SEVEN_1, TAKE_2, TAKE_3,
+};
 use crate::rows::Row::{self, Add, Load, Store, Wins};
 use crate::words::{
     DONE_1, EMPTY_3, GENERATE_1, GENERATE_2, GENERATE_3, QUEUE_1, QUEUE_2, QUEUE_3, QUEUE_4,
@@ -75,6 +77,23 @@ fn put_and_take_go_through_each_phase(rt: HostRuntime) {
     assert_eq!(rt; play.walk(0, last.as_slice()), Ok(Turn::Going));
     let empty = Turn::Returned(slow_line(0, 3, ONE_TAKE, Reply::Empty, 4, 5));
     assert_eq!(rt; play.walk(0, [Add(0, 5)].as_slice()), Ok(empty));
+    assert_eq!(rt; play.step(0), None);
+}
+
+#[test]
+fn a_peek_is_answered_from_its_search(rt: HostRuntime) {
+    let Some(mut play) = Play::<MsQueue>::new(rt.alloc(), Client::Queue, ALONE) else {
+        panic!(rt; "no memory")
+    };
+    assert!(rt; play.begin(0, PUT_7) && play.finish(0).is_some());
+    assert!(rt; play.begin(0, ONE_PEEK));
+    let first = before(2, 2, PEEK_2, GENERATE_2, QUEUE_2, QUEUE_3);
+    assert_eq!(rt; play.walk(0, first.as_slice()), Ok(Turn::Going));
+    assert_eq!(rt; play.walk(0, HELP_PEEK.as_slice()), Ok(Turn::Going));
+    let last = behind(VALUE_2, QUEUE_3, QUEUE_4);
+    assert_eq!(rt; play.walk(0, last.as_slice()), Ok(Turn::Going));
+    let told = Turn::Returned(slow_line(0, 2, ONE_PEEK, Reply::Value(7), 2, 3));
+    assert_eq!(rt; play.walk(0, [Load(77, 7), Add(0, 3)].as_slice()), Ok(told));
     assert_eq!(rt; play.step(0), None);
 }
 

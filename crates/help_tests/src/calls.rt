@@ -1,5 +1,5 @@
 //! The calls that the tests make, and the lines that they expect.
-use lin_report::calls::{ADD, DEL, HAS, PUT, TAKE};
+use lin_report::calls::{ADD, DEL, HAS, PEEK, PUT, TAKE};
 use lin_report::{Op, Path, Receipt, Reply};
 
 /// `put 7`
@@ -33,6 +33,13 @@ pub const PUT_GREATEST: Op = Op {
 /// `take`
 pub const ONE_TAKE: Op = Op {
     code: TAKE,
+    key: 0,
+    value: 0,
+};
+
+/// `peek`
+pub const ONE_PEEK: Op = Op {
+    code: PEEK,
     key: 0,
     value: 0,
 };

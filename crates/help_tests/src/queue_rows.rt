@@ -15,6 +15,9 @@ pub const SEVEN_1: u64 = 1 + (7 << 16);
 /// The op word of `take` as call 2.
 pub const TAKE_2: u64 = 2 + (2 << 4);
 
+/// The op word of `peek` as call 2.
+pub const PEEK_2: u64 = 9 + (2 << 4);
+
 /// The op word of `take` as call 3.
 pub const TAKE_3: u64 = 2 + (3 << 4);
 
@@ -145,4 +148,18 @@ pub const HELP_EMPTY_TAKE: [Row; 11] = [
     Load(12, EMPTY_3),
     Load(1, QUEUE_5),
     Load(12, EMPTY_3),
+];
+
+/// The same of call 2, which is `peek`, behind the put: it is answered from the search, with the node and no block.
+pub const HELP_PEEK: [Row; 10] = [
+    Load(12, GENERATE_2),
+    Load(1, QUEUE_3),
+    Load(4, PEEK_2),
+    Load(24, 2),
+    Load(20, 1),
+    Load(46, NODE_OF_1),
+    Wins(12, GENERATE_2, VALUE_2),
+    Load(12, VALUE_2),
+    Load(1, QUEUE_3),
+    Load(12, VALUE_2),
 ];
