@@ -1,5 +1,5 @@
 -- What was learnt stays true, whatever anyone does.
-use Rattle.std.proofs.Common.{◌≡◌, ℕ, ◌+◌, ◌<◌, ◌≤◌, true, List, length, Some, refl, sym, ap, ◌∙◌, subst, inl, inr, ◌⊎◌, arith}
+use Rattle.std.proofs.Common.{◌≡◌, ℕ, ◌+◌, ◌<◌, ◌≤◌, true, List, length, Some, refl, sym, ap, ◌∙◌, inl, inr, ◌⊎◌, arith}
 use Rattle.std.specs.Prelude.{slice_get}
 use Rattle.std.proofs.lemmas.Bool.{cases_lt}
 use Rattle.lin_report.specs.declared.calls.Op.{Op}
@@ -7,7 +7,7 @@ use Rattle.lin_report.specs.Object.{queue_object}
 use Rattle.word_fields.specs.Versioned.{versioned_version}
 use Rattle.node_arena.specs.declared.places.TheConstants.{HEAD, TAIL, NODE_NEXT}
 use Rattle.node_arena.specs.MemoryMap.{node_place}
-use Rattle.normal_traits.specs.World.{Listed, Change, World, is_word, held_after, first_changes, StandsOrPassed}
+use Rattle.normal_traits.specs.World.{Listed, Change, World, is_word, held_after, StandsOrPassed}
 use Rattle.ms_queue_form.specs.declared.states.QueueSearch.{QueueSearch}
 use Rattle.ms_queue_form.specs.declared.states.QueueSearch.TheVariants.{PutTail, PutNext, PutHelp, PutReady, TakeHead, TakeTail, TakeNext, TakeHelp, TakeReady, PeekHead, PeekNext}
 use Rattle.ms_queue_form.specs.declared.states.QueueWrap.{QueueWrap}

@@ -19,9 +19,9 @@ use Rattle.normal_traits.specs.Laws.{AsksWell, IsFixed}
 use Rattle.ms_queue_form.specs.declared.states.QueueSearch.{QueueSearch}
 use Rattle.ms_queue_form.specs.declared.states.QueueSearch.TheVariants.{PutTail, PutNext, PutHelp, PutReady, TakeHead, TakeTail, TakeNext, TakeHelp, TakeReady, PeekHead, PeekNext}
 use Rattle.ms_queue_form.specs.Search.{is_put, is_peek, begun, asked, fed, met_by_put, met_by_take, told_by_peek, Asks, next_place}
-use Rattle.ms_queue_form.specs.Chain.{puts, node_block, put_value, node_at, next_of, value_of, is_versioned}
+use Rattle.ms_queue_form.specs.Chain.{puts, node_block, node_at, next_of, value_of, is_versioned}
 use Rattle.ms_queue_form.specs.Shape.{IsQueue}
-use Rattle.ms_queue_form.specs.Knowledge.{WasTail, WasHead, WasNext, WasFirst, WasPeeked, Learnt, Knows}
+use Rattle.ms_queue_form.specs.Knowledge.{WasTail, WasHead, WasNext, WasPeeked, Learnt, Knows}
 use Rattle.ms_queue_form.specs.Form.{queue_form}
 use Rattle.ms_queue_form.proofs.History.{apply-take, apply-peek, take_empty}
 use Rattle.ms_queue_form.proofs.Kept.{next_place_is, next_place_word, first_now}
