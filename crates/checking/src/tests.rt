@@ -65,109 +65,116 @@ fn checked(
     Ok(check_main(alloc, &words, files, sink))
 }
 
+/// A key that is added to a list, and told as its least.
+const LEAST: &str =
+    "0 1 add 9 yes 0 1 fast/0 2 min value 9 2 3 fast/calls 2 fast 2 slow 0 exhausted 0 pending 0/";
+
+/// The words of a command line, the report, the order, the status, and what is written.
+type Row = (&'static str, &'static str, &'static str, u8, &'static str);
+
+const ROWS: [Row; 24] = [
+    (QUEUE, WHOLE, "0 1/1 1/1 2/", 0, "legal/"),
+    (
+        QUEUE,
+        WHOLE,
+        "1 2/0 1/1 1/",
+        8,
+        "not legal place 2 reason 3/",
+    ),
+    (QUEUE, WAITING, "1 1/", 8, "not legal place 1 reason 4/"),
+    (QUEUE, WAITING, "0 1/1 1/", 0, "legal/"),
+    (QUEUE, WHOLE, "0 1/1 1/", 8, "not legal place 3 reason 5/"),
+    (QUEUE, WHOLE, "0 1/0 1/", 8, "not legal place 2 reason 2/"),
+    (QUEUE, WHOLE, "0 1/0 2/", 8, "not legal place 2 reason 1/"),
+    (QUEUE, EXHAUSTED, "0 1/", 0, "legal/"),
+    (
+        QUEUE,
+        EXHAUSTED,
+        "0 1/0 2/",
+        8,
+        "not legal place 2 reason 1/",
+    ),
+    ("check list report order", LEAST, "0 1/0 2/", 0, "legal/"),
+    (
+        "check buckets report order",
+        LEAST,
+        "",
+        3,
+        "nwf: refused file 0 line 2 cause 7/",
+    ),
+    (
+        QUEUE,
+        "0 1 put 7 done 0 0 slow/",
+        "x",
+        3,
+        "nwf: refused file 0 line 1 cause 7/",
+    ),
+    (QUEUE, "", "", 3, "nwf: refused file 0 line 1 cause 7/"),
+    (
+        QUEUE,
+        WHOLE,
+        "0 1/1/",
+        3,
+        "nwf: refused file 1 line 2 cause 1/",
+    ),
+    (
+        QUEUE,
+        WHOLE,
+        "0 1/1 0/",
+        3,
+        "nwf: refused file 1 line 2 cause 2/",
+    ),
+    (
+        QUEUE,
+        WHOLE,
+        "8 1/",
+        3,
+        "nwf: refused file 1 line 1 cause 6/",
+    ),
+    (
+        "check queue other order",
+        WHOLE,
+        "",
+        4,
+        "nwf: read fault file 0/",
+    ),
+    (
+        "check queue report other",
+        WHOLE,
+        "",
+        4,
+        "nwf: read fault file 1/",
+    ),
+    (
+        "check queue other other",
+        "",
+        "",
+        4,
+        "nwf: read fault file 0/",
+    ),
+    (
+        "check queue report other",
+        "",
+        "",
+        3,
+        "nwf: refused file 0 line 1 cause 7/",
+    ),
+    ("check stack report order", WHOLE, "", 2, "nwf: usage/"),
+    ("check queue report", WHOLE, "", 2, "nwf: usage/"),
+    (
+        "check queue report order order",
+        WHOLE,
+        "",
+        2,
+        "nwf: usage/",
+    ),
+    ("checks queue report order", WHOLE, "", 2, "nwf: usage/"),
+];
+
 #[test]
 fn verdicts_and_refusals(rt: HostRuntime) -> Result<(), Fail> {
     let alloc = rt.alloc();
-    let least =
-        "0 1 add 9 yes 0 1 fast/0 2 min value 9 2 3 fast/calls 2 fast 2 slow 0 exhausted 0 pending 0/";
-    for (words, report, order, status, text) in [
-        (QUEUE, WHOLE, "0 1/1 1/1 2/", 0, "legal/"),
-        (
-            QUEUE,
-            WHOLE,
-            "1 2/0 1/1 1/",
-            8,
-            "not legal place 2 reason 3/",
-        ),
-        (QUEUE, WAITING, "1 1/", 8, "not legal place 1 reason 4/"),
-        (QUEUE, WAITING, "0 1/1 1/", 0, "legal/"),
-        (QUEUE, WHOLE, "0 1/1 1/", 8, "not legal place 3 reason 5/"),
-        (QUEUE, WHOLE, "0 1/0 1/", 8, "not legal place 2 reason 2/"),
-        (QUEUE, WHOLE, "0 1/0 2/", 8, "not legal place 2 reason 1/"),
-        (QUEUE, EXHAUSTED, "0 1/", 0, "legal/"),
-        (
-            QUEUE,
-            EXHAUSTED,
-            "0 1/0 2/",
-            8,
-            "not legal place 2 reason 1/",
-        ),
-        ("check list report order", least, "0 1/0 2/", 0, "legal/"),
-        (
-            "check buckets report order",
-            least,
-            "",
-            3,
-            "nwf: refused file 0 line 2 cause 7/",
-        ),
-        (
-            QUEUE,
-            "0 1 put 7 done 0 0 slow/",
-            "x",
-            3,
-            "nwf: refused file 0 line 1 cause 7/",
-        ),
-        (QUEUE, "", "", 3, "nwf: refused file 0 line 1 cause 7/"),
-        (
-            QUEUE,
-            WHOLE,
-            "0 1/1/",
-            3,
-            "nwf: refused file 1 line 2 cause 1/",
-        ),
-        (
-            QUEUE,
-            WHOLE,
-            "0 1/1 0/",
-            3,
-            "nwf: refused file 1 line 2 cause 2/",
-        ),
-        (
-            QUEUE,
-            WHOLE,
-            "8 1/",
-            3,
-            "nwf: refused file 1 line 1 cause 6/",
-        ),
-        (
-            "check queue other order",
-            WHOLE,
-            "",
-            4,
-            "nwf: read fault file 0/",
-        ),
-        (
-            "check queue report other",
-            WHOLE,
-            "",
-            4,
-            "nwf: read fault file 1/",
-        ),
-        (
-            "check queue other other",
-            "",
-            "",
-            4,
-            "nwf: read fault file 0/",
-        ),
-        (
-            "check queue report other",
-            "",
-            "",
-            3,
-            "nwf: refused file 0 line 1 cause 7/",
-        ),
-        ("check stack report order", WHOLE, "", 2, "nwf: usage/"),
-        ("check queue report", WHOLE, "", 2, "nwf: usage/"),
-        (
-            "check queue report order order",
-            WHOLE,
-            "",
-            2,
-            "nwf: usage/",
-        ),
-        ("checks queue report order", WHOLE, "", 2, "nwf: usage/"),
-    ] {
+    for (words, report, order, status, text) in ROWS {
         let wanted = bytes_of(alloc, text)?;
         for piece in [AMPLE, 1] {
             let mut files = files_of(alloc, report, order, &[], piece)?;
