@@ -36,6 +36,9 @@ FILES = {
     "both": "0 40\n1 40\n0 200\n1 200\n",
     "bad": "put 7\ntake 7\n",
     "none": "",
+    "report": "0 1 put 7 done 0 3 slow\n1 1 take value 7 1 2 slow\ncalls 2 fast 0 slow 2 exhausted 0 pending 0 overtaken 0\n",
+    "order": "0 1\n1 1\n",
+    "swapped": "1 1\n0 1\n",
 }
 # words, status, and the last line, where the row gives one
 ROWS = [
@@ -49,6 +52,9 @@ ROWS = [
     ("load list 65536 3 1 100 7", 0, None),
     ("load buckets 64 0 3 20 7", 0, None),
     ("load queue", 2, None),
+    ("check queue report order", 0, "legal"),
+    ("check queue report swapped", 8, "not legal place 1 reason 4"),
+    ("check queue f order", 3, None),
 ]
 
 
@@ -99,7 +105,7 @@ def same(words, right, made):
 
 def judge(kind, number, words, right, status, text, opened):
     """What is wrong with a run in which the call of this kind and number was refused."""
-    first = 0 if words.startswith("replay") else 1
+    first = 0 if words.startswith(("replay", "check")) else 1
     if kind == "malloc":
         of_words = number <= 2 * len(words.split()) + 2 and text == b""
         told = status == 6 and (of_words or text == b"nwf: no memory\n")

@@ -1,6 +1,8 @@
-//! `nwf`: wait-free simulation of normalized lock-free structures, from command files to a report.
+//! `nwf`: wait-free simulation of normalized lock-free structures, from command files to a report, and from a report and an
+//! order of its calls to a verdict.
 #![tactic(auto)]
 
+use checking::check_main;
 use nwf_run::{HostFiles, HostOut, NoGate, nwf_main};
 use std::process::ExitCode;
 use std::{env, io};
@@ -20,8 +22,22 @@ fn command_words(rt: &HostRuntime) -> io::Result<Vec<String>> {
     Ok(words)
 }
 
+/// Whether the first word is `check`.
+fn starts_check(words: &[String]) -> bool {
+    match words {
+        [command, ..] => command.as_str() == "check",
+        [] => false,
+    }
+}
+
 fn main(rt: HostRuntime) -> ExitCode {
     let status = match command_words(&rt) {
+        Ok(words) if starts_check(&words) => check_main(
+            rt.alloc(),
+            &words,
+            &mut HostFiles::new(&rt),
+            &mut HostOut::new(&rt),
+        ),
         Ok(words) => nwf_main(
             &rt,
             rt.alloc(),

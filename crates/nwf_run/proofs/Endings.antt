@@ -4,7 +4,7 @@ use Rattle.std.specs.Io.KnownBytes.{Appends}
 use Rattle.nwf_run.specs.declared.running.Replayed.{Replayed}
 use Rattle.nwf_run.specs.declared.stops.Stop.{Stop}
 use Rattle.nwf_run.specs.declared.stops.Stop.TheVariants.{Usage, Refused, ReadFault, NoMemory}
-use Rattle.nwf_run.specs.Outside.{Opening, AppendsPrefix}
+use Rattle.whole_files.specs.Outside.{Opening, AppendsPrefix}
 use Rattle.nwf_run.specs.Replaying.{AreRunsFor, Ends, Makes, OpensAll, OpensFor, RunsMeetHeadline, text_for}
 use Rattle.nwf_run.specs.Replaying.Reports.{wrote, failed}
 use Rattle.nwf_run.specs.Runs.{FilesRun}

@@ -1,6 +1,4 @@
 pub mod FormsOfClients
-pub mod FirstNamed
-pub mod Known
 pub mod CutFiles
 pub mod JudgedFiles
 pub mod JudgedBytes

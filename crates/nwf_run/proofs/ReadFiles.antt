@@ -12,7 +12,7 @@ use Rattle.nwf_run.specs.declared.stops.NoReport.TheVariants as no
 use Rattle.nwf_run.specs.declared.stops.Stop.{Stop}
 use Rattle.nwf_run.specs.declared.stops.Stop.TheVariants.{Usage, Refused, ReadFault, NoMemory}
 use Rattle.nwf_run.specs.Judging.{AcceptedBefore, IsJudged, SayFirst, refusal_in}
-use Rattle.nwf_run.specs.Outside.{Opening}
+use Rattle.whole_files.specs.Outside.{Opening}
 use Rattle.nwf_run.specs.Reading.{FileReads, Opens, OpensUntil, StopsAt, files_by_name, first_of, name_of, openings}
 use Rattle.nwf_run.specs.Stops.{stop_for}
 use Rattle.nwf_run.specs.Words.{Replay}

@@ -5,9 +5,9 @@ use Rattle.nwf_run.specs.declared.load_words.LoadWords.{LoadWords}
 use Rattle.nwf_run.specs.declared.running.Replayed.{Replayed}
 use Rattle.nwf_run.specs.declared.stops.Stop.{Stop}
 use Rattle.nwf_run.specs.declared.stops.Stop.TheVariants.{Usage, Refused, ReadFault, NoMemory}
-use Rattle.nwf_run.specs.Outside.{Opening}
+use Rattle.whole_files.specs.Outside.{Opening, WritesMessage}
 use Rattle.nwf_run.specs.Reading.{Opens, Reaches, Refuses}
-use Rattle.nwf_run.specs.Replaying.{Ends, Makes, OpensFor, OpensSome, Reports, StopsFor, WritesMessage}
+use Rattle.nwf_run.specs.Replaying.{Ends, Makes, OpensFor, OpensSome, Reports, StopsFor}
 use Rattle.nwf_run.specs.Replaying.Reports.{wrote, failed}
 use Rattle.nwf_run.specs.Stops.{status_of, refused_message, unread_message}
 use Rattle.nwf_run.specs.Words.{Asked, Replay, Sweep, asked_of, files_asked}

@@ -1,6 +1,3 @@
-pub mod Outside
-pub mod MemoryFiles
-pub mod MemorySink
 pub mod Words
 pub mod Forms
 pub mod Stops

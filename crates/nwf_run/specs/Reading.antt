@@ -6,7 +6,7 @@ use Rattle.script_reader.specs.declared.causes.Refusal.{Refusal}
 use Rattle.nwf_run.specs.declared.stops.Stop.{Stop}
 use Rattle.nwf_run.specs.declared.stops.Stop.TheVariants.{Usage, Refused, ReadFault, NoMemory}
 use Rattle.nwf_run.specs.Judging.{AcceptedBefore, IsFirstRefused}
-use Rattle.nwf_run.specs.Outside.{Opening, Rose}
+use Rattle.whole_files.specs.Outside.{Opening, Rose}
 use Rattle.nwf_run.specs.Words.{Replay}
 
 -- the number of the first file: that of the schedule, where there is one

@@ -13,7 +13,7 @@ use Rattle.nwf_run.specs.declared.stops.Stop.TheVariants.{Usage, NoMemory}
 use Rattle.nwf_run.specs.Forms.{form_of}
 use Rattle.nwf_run.specs.Judging.{Accepts}
 use Rattle.nwf_run.specs.Loads.{IsLoadOf}
-use Rattle.nwf_run.specs.Outside.{Opening, Rose, AppendsPrefix}
+use Rattle.whole_files.specs.Outside.{Opening, Rose, AppendsPrefix, WritesMessage}
 use Rattle.nwf_run.specs.Reading.{files_by_name, Opens, OpensUntil, StopsAt}
 use Rattle.nwf_run.specs.Running.{IsRunOfFiles}
 use Rattle.nwf_run.specs.Runs.{FilesRun, IsRun, RunMeetsHeadline}
@@ -92,11 +92,6 @@ OpensSome (a_replay r) faults before now = (count : ℕ) × (count ≤ length r.
 OpensSome (a_sweep s) faults before now = (count : ℕ) × (count ≤ length s.of_files.files + 1) × Opens s.of_files count faults before now
 OpensSome (a_load l) faults before now = now ≡ before
 OpensSome (a_run r) faults before now = (count : ℕ) × (count ≤ length r.files + 1) × Opens r count faults before now
-
--- a message was written whole, or the first bytes of it where the sink had a fault
-pub record WritesMessage (written written' : Option (List ℕ)) (faults faults' : ℕ) (message : List ℕ) : Type 0 where
-  pub prefix : AppendsPrefix written written' message
-  pub whole : ¬ Rose faults faults' → Appends written written' message
 
 -- a report was written whole, or the first bytes of it until the sink had a fault
 pub data Reports (written written' : Option (List ℕ)) (faults faults' status : ℕ) (text : List ℕ) (exhausted : Bool) : Type 0 where

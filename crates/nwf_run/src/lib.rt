@@ -1,8 +1,6 @@
-//! The top calls of the program and the outside that they are given: files to read and a sink to write
-//! to.
+//! The top calls of the program, over the files and the sink that they are given.
 #![tactic(auto)]
 
-pub use outside::{Failed, Files, FilesInMemory, HostFiles, HostOut, Sink, SinkInMemory};
 pub use program::nwf_main;
 pub use replay::replay_main;
 pub use replay_bytes::replay_of_bytes;
@@ -10,14 +8,13 @@ pub use run::run_main;
 pub use running::Replayed;
 pub use stops::NoReport;
 pub use thread_runs::{Gate, NoGate};
+pub use whole_files::{Failed, Files, FilesInMemory, HostFiles, HostOut, Sink, SinkInMemory};
 
 mod clients;
 mod judging;
 mod load_words;
 mod loading;
-pub mod outside;
 pub mod program;
-mod reading;
 pub mod replay;
 pub mod replay_bytes;
 pub mod run;
@@ -30,4 +27,3 @@ mod sweeping;
 mod tests;
 mod threads;
 mod words;
-mod writing;

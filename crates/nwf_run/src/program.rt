@@ -2,22 +2,22 @@
 ghost use Rattle.std.specs.Prelude.{◌≡◌, ◌≢◌, ◌↔◌, ◌⊎◌, ◌+◌, ℕ, List, None, map, length, IsSomeAnd, string_bytes};
 ghost use Rattle.std.specs.Io.KnownBytes.{Appends};
 ghost use Rattle.script_reader.specs.declared.causes.Refusal.{Refusal};
-ghost use Rattle.nwf_run.specs.Outside.{Rose, AppendsPrefix};
+ghost use Rattle.whole_files.specs.Outside.{Rose, AppendsPrefix, WritesMessage};
 ghost use Rattle.nwf_run.specs.Reading.{Opens, Reaches, Refuses};
-ghost use Rattle.nwf_run.specs.Replaying.{AreRunsFor, OpensAll, OpensSome, RunsMeetHeadline, WritesMessage, text_for};
+ghost use Rattle.nwf_run.specs.Replaying.{AreRunsFor, OpensAll, OpensSome, RunsMeetHeadline, text_for};
 ghost use Rattle.nwf_run.specs.Runs.{FilesRun};
 ghost use Rattle.nwf_run.specs.Stops.{status_of, USAGE_MESSAGE, NO_MEMORY_MESSAGE, refused_message, unread_message};
 ghost use Rattle.nwf_run.specs.Sweeps.{SomeExhausts};
 ghost use Rattle.nwf_run.specs.Words.{files_asked, nwf_asked, starts_run, client_asked};
 ghost use Rattle.nwf_run.specs.declared.stops.Stop.{Stop};
 
-use crate::outside::{Files, Sink};
 use crate::replay::replay_main;
 use crate::run::run_main;
 use std::alloc::Global;
 use std::sync::Wait;
 use std::thread::Threads;
 use thread_runs::Gate;
+use whole_files::{Files, Sink};
 
 /// Whether the first word is `run`.
 fn starts_run(words: &[String]) -> bool

@@ -3,9 +3,9 @@
 ghost use Rattle.std.specs.Prelude.{◌≡◌, ◌≢◌, ◌↔◌, ◌⊎◌, ◌≤◌, ◌+◌, ℕ, List, None, Some, map, length, IfOk, IfErr, IsSomeAnd, IsErrOf, string_bytes};
 ghost use Rattle.std.specs.Io.KnownBytes.{Appends};
 ghost use Rattle.script_reader.specs.declared.causes.Refusal.{Refusal};
-ghost use Rattle.nwf_run.specs.Outside.{Rose, AppendsPrefix};
+ghost use Rattle.whole_files.specs.Outside.{Rose, AppendsPrefix, WritesMessage};
 ghost use Rattle.nwf_run.specs.Reading.{FaultsAsTold, Opens, OpensUntil, Reaches, Refuses, StopsAt};
-ghost use Rattle.nwf_run.specs.Replaying.{Ends, AreRunsFor, Makes, OpensAll, OpensFor, OpensSome, Reports, RunsMeetHeadline, StopsFor, WritesMessage, text_for};
+ghost use Rattle.nwf_run.specs.Replaying.{Ends, AreRunsFor, Makes, OpensAll, OpensFor, OpensSome, Reports, RunsMeetHeadline, StopsFor, text_for};
 ghost use Rattle.nwf_run.specs.Runs.{FilesRun};
 ghost use Rattle.nwf_run.specs.Said.{said, said_sweep};
 ghost use Rattle.nwf_run.specs.Stops.{status_of, message_of, USAGE_MESSAGE, NO_MEMORY_MESSAGE, refused_message, unread_message};
@@ -16,15 +16,14 @@ ghost use Rattle.nwf_run.specs.declared.stops.Stop.{Stop};
 
 use crate::load_words::load_words;
 use crate::loading::make_summary;
-use crate::outside::{Files, Sink};
 use crate::running::{Replayed, make_report};
 use crate::scripts::{read_command_files, read_scripts};
 use crate::stops::Stop;
 use crate::sweep_words::{SweepWords, sweep_words};
 use crate::sweeping::make_lines;
 use crate::words::{ReplayWords, replay_words};
-use crate::writing::write_all;
 use std::alloc::Global;
+use whole_files::{Files, Sink, write_all};
 
 /// Reads the files and makes the report of their run.
 fn replay_files<F: Files>(

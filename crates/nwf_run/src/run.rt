@@ -2,9 +2,9 @@
 ghost use Rattle.std.specs.Prelude.{◌≡◌, ◌≢◌, ◌↔◌, ◌⊎◌, ◌≤◌, ◌+◌, ℕ, List, None, map, length, IfOk, IfErr, IsSomeAnd, string_bytes};
 ghost use Rattle.std.specs.Io.KnownBytes.{Appends};
 ghost use Rattle.script_reader.specs.declared.causes.Refusal.{Refusal};
-ghost use Rattle.nwf_run.specs.Outside.{Rose, AppendsPrefix};
+ghost use Rattle.whole_files.specs.Outside.{Rose, AppendsPrefix, WritesMessage};
 ghost use Rattle.nwf_run.specs.Reading.{FaultsAsTold, Opens, OpensUntil, Reaches, Refuses, StopsAt};
-ghost use Rattle.nwf_run.specs.Replaying.{AreRunsFor, Makes, OpensAll, OpensFor, OpensSome, RunsMeetHeadline, StopsFor, WritesMessage, text_for};
+ghost use Rattle.nwf_run.specs.Replaying.{AreRunsFor, Makes, OpensAll, OpensFor, OpensSome, RunsMeetHeadline, StopsFor, text_for};
 ghost use Rattle.nwf_run.specs.Runs.{FilesRun};
 ghost use Rattle.nwf_run.specs.Said.{said_run};
 ghost use Rattle.nwf_run.specs.Stops.{status_of, USAGE_MESSAGE, NO_MEMORY_MESSAGE, refused_message, unread_message};
@@ -13,7 +13,6 @@ ghost use Rattle.nwf_run.specs.Words.{files_asked, run_asked, client_asked};
 ghost use Rattle.nwf_run.specs.Words.Asked.{a_run};
 ghost use Rattle.nwf_run.specs.declared.stops.Stop.{Stop};
 
-use crate::outside::{Files, Sink};
 use crate::replay::finish;
 use crate::running::Replayed;
 use crate::scripts::read_command_files;
@@ -24,6 +23,7 @@ use std::alloc::Global;
 use std::sync::Wait;
 use std::thread::Threads;
 use thread_runs::Gate;
+use whole_files::{Files, Sink};
 
 /// Reads the files and makes the report of their run.
 fn run_files<R: Threads + Wait + Sync, F: Files, G: Gate + Sync>(

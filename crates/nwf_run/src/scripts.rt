@@ -9,13 +9,15 @@ ghost use Rattle.nwf_run.specs.Reading.{FaultsAsTold, FileReads, OpensUntil, Sto
 ghost use Rattle.nwf_run.specs.declared.stops.Stop.TheVariants as stop;
 
 use crate::judging::{Scripts, judge_commands, judge_schedule};
-use crate::outside::Files;
-use crate::reading::{FILE_LIMIT, ReadError, read_file};
 use crate::stops::Stop;
 use crate::words::{ReplayWords, RunWords};
 use lin_report::{Client, Op};
 use script_reader::ScheduleEntry;
 use std::alloc::Global;
+use whole_files::{Files, ReadError, read_file};
+
+/// The greatest length of a schedule or a command file, in bytes.
+const FILE_LIMIT: u32 = 1_048_576;
 
 /// The bytes of the file with this number.
 fn read_bytes<F: Files>(
@@ -31,7 +33,7 @@ fn read_bytes<F: Files>(
     ensures held { (n : List ℕ) → F.held files.new n ≡ F.held files.old n }
     ensures opened { F.opened files.new ≡ (name.now, F.faults files.old) ∷ F.opened files.old }
 {
-    match read_file(alloc, files, name) {
+    match read_file(alloc, files, name, FILE_LIMIT) {
         Ok(bytes) => Ok(bytes),
         Err(ReadError::Fault) => Err(Stop::ReadFault { file }),
         Err(ReadError::NoMemory) => Err(Stop::NoMemory),

@@ -11,7 +11,7 @@ use Rattle.lin_report.specs.declared.calls.Reply.{Reply}
 use Rattle.lin_report.specs.declared.calls.Reply.TheVariants.{Yes, No, Done, Value, Empty, Absent, Exhausted}
 use Rattle.lin_report.specs.declared.calls.Path.{Path}
 use Rattle.lin_report.specs.declared.calls.Path.TheVariants.{Fast, Slow}
-use Rattle.lin_report.specs.declared.calls.TheConstants.{PUT, TAKE, ADD, DEL, HAS, SET, REM}
+use Rattle.lin_report.specs.declared.calls.TheConstants.{PUT, TAKE, ADD, DEL, HAS, SET, REM, GET, PEEK}
 use Rattle.lin_report.specs.Commands.{VALUE_LIMIT, KEY_LIMIT, is_command, told_value}
 use Rattle.lin_report.specs.Calls.{Call}
 use Rattle.lin_report.specs.Text.{SPACE, NEWLINE, command_words, reply_words, end_word, path_word, call_line}
@@ -49,7 +49,9 @@ command_clean op k v =
     (either_clean (eqb op.code DEL) _ _ (no_newline_in (codes "del") refl, (key, tt))
     (either_clean (eqb op.code HAS) _ _ (no_newline_in (codes "has") refl, (key, tt))
     (either_clean (eqb op.code SET) _ _ (no_newline_in (codes "set") refl, (key, (value, tt)))
-    (either_clean (eqb op.code REM) _ _ (no_newline_in (codes "rem") refl, (key, tt)) (no_newline_in (codes "get") refl, (key, tt))))))))
+    (either_clean (eqb op.code REM) _ _ (no_newline_in (codes "rem") refl, (key, tt))
+    (either_clean (eqb op.code GET) _ _ (no_newline_in (codes "get") refl, (key, tt))
+    (either_clean (eqb op.code PEEK) _ _ (no_newline_in (codes "peek") refl, tt) (no_newline_in (codes "min") refl, tt)))))))))
 
 reply_clean : (told : Option Reply) → IfSome told (λ reply. told_value reply < VALUE_LIMIT) → Clean (told_words told)
 unfolding reply_words

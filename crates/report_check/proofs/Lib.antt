@@ -25,3 +25,4 @@ pub mod Turns
 pub mod RunReports
 pub mod Law
 pub mod LawBack
+pub mod SetsOfBuckets

@@ -9,12 +9,12 @@ use Rattle.std.proofs.lemmas.Slice.Eq.{bytes_eq-Decides}
 use Rattle.lin_report.specs.declared.calls.Client.{Client}
 use Rattle.lin_report.specs.declared.calls.Client.TheVariants as client
 use Rattle.lin_report.specs.declared.calls.Op.{Op}
-use Rattle.lin_report.specs.declared.calls.TheConstants.{PUT, TAKE, ADD, DEL, HAS, SET, REM, GET}
-use Rattle.lin_report.specs.Commands.{VALUE_LIMIT, is_command, takes_nothing, takes_key}
+use Rattle.lin_report.specs.declared.calls.TheConstants.{PUT, TAKE, ADD, DEL, HAS, SET, REM, GET, PEEK, MIN}
+use Rattle.lin_report.specs.Commands.{VALUE_LIMIT, is_command, is_set_command, takes_nothing, takes_key}
 use Rattle.lin_report.specs.Text.{SPACE, command_words}
 use Rattle.script_reader.specs.declared.scripts.Numbers.{Numbers}
 use Rattle.script_reader.specs.declared.scripts.Numbers.TheVariants.{NoNumber, OneValue, OneKey, KeyAndValue}
-use Rattle.script_reader.specs.Scripts.{GREATEST_KEY, GREATEST_VALUE, queue_command, set_command, map_command, command_named}
+use Rattle.script_reader.specs.Scripts.{GREATEST_KEY, GREATEST_VALUE, queue_command, set_command, list_command, map_command, command_named}
 use Rattle.script_reader.proofs.Entries.{TakesNumbers, Names, names}
 use Rattle.report_check.specs.CallLines.{◌>>=◌, word_at, number_at, op_at, command_at}
 use Rattle.report_check.proofs.LineFields.{bind_at, some_pair, NoSpace, word_takes, word_again, number_takes, number_again, no_space_in}
@@ -42,12 +42,14 @@ IsSpelled word found = IfSome found (λ (command : ℕ × Numbers). Spelled comm
 
 queue_spelled : (word : List ℕ) → IsSpelled word (queue_command word)
 unfolding command_words
-queue_spelled word = by_tests (bytes_eq word (codes "put")) (bytes_eq word (codes "take")) refl refl
+queue_spelled word = by_tests (bytes_eq word (codes "put")) (bytes_eq word (codes "take")) (bytes_eq word (codes "peek")) refl refl refl
   where
-    by_tests : (a b : Bool) → bytes_eq word (codes "put") ≡ a → bytes_eq word (codes "take") ≡ b → IsSpelled word (cond a (Some (PUT, OneValue)) (cond b (Some (TAKE, NoNumber)) None))
-    by_tests true b p q = λ v. ap (λ (w : List ℕ). w ∷ decimal v ∷ []) (sym (same_text word (codes "put") p))
-    by_tests false true p q = ap (λ (w : List ℕ). w ∷ []) (sym (same_text word (codes "take") q))
-    by_tests false false p q = tt
+    by_tests : (a b c : Bool) → bytes_eq word (codes "put") ≡ a → bytes_eq word (codes "take") ≡ b → bytes_eq word (codes "peek") ≡ c
+        → IsSpelled word (cond a (Some (PUT, OneValue)) (cond b (Some (TAKE, NoNumber)) (cond c (Some (PEEK, NoNumber)) None)))
+    by_tests true b c p q r = λ v. ap (λ (w : List ℕ). w ∷ decimal v ∷ []) (sym (same_text word (codes "put") p))
+    by_tests false true c p q r = ap (λ (w : List ℕ). w ∷ []) (sym (same_text word (codes "take") q))
+    by_tests false false true p q r = ap (λ (w : List ℕ). w ∷ []) (sym (same_text word (codes "peek") r))
+    by_tests false false false p q r = tt
 
 set_spelled : (word : List ℕ) → IsSpelled word (set_command word)
 unfolding command_words
@@ -59,6 +61,14 @@ set_spelled word = by_tests (bytes_eq word (codes "add")) (bytes_eq word (codes 
     by_tests false true c p q r = λ k. ap (λ (w : List ℕ). w ∷ decimal k ∷ []) (sym (same_text word (codes "del") q))
     by_tests false false true p q r = λ k. ap (λ (w : List ℕ). w ∷ decimal k ∷ []) (sym (same_text word (codes "has") r))
     by_tests false false false p q r = tt
+
+list_spelled : (word : List ℕ) → IsSpelled word (list_command word)
+unfolding command_words
+list_spelled word = by_test (bytes_eq word (codes "min")) refl
+  where
+    by_test : (a : Bool) → bytes_eq word (codes "min") ≡ a → IsSpelled word (cond a (Some (MIN, NoNumber)) (set_command word))
+    by_test true p = ap (λ (w : List ℕ). w ∷ []) (sym (same_text word (codes "min") p))
+    by_test false p = set_spelled word
 
 map_spelled : (word : List ℕ) → IsSpelled word (map_command word)
 unfolding command_words
@@ -73,7 +83,7 @@ map_spelled word = by_tests (bytes_eq word (codes "set")) (bytes_eq word (codes 
 
 spelled : (c : Client) (word : List ℕ) → IsSpelled word (command_named c word)
 spelled client.Queue word = queue_spelled word
-spelled client.List word = set_spelled word
+spelled client.List word = list_spelled word
 spelled client.Buckets word = set_spelled word
 spelled client.Tree word = map_spelled word
 
@@ -199,17 +209,20 @@ key_taken op e = let parts = and_parts (ltb op.key 1048576) (eqb op.value 0) e i
 
 queue_again : (op : Op) (rest : List ℕ) → op.value < VALUE_LIMIT → is_command client.Queue op ≡ true → Again client.Queue op rest
 queue_again op rest value e =
-    elim (or_cases (eqb op.code PUT && eqb op.key 0) (eqb op.code TAKE && takes_nothing op) e) [
+    elim (or_cases (eqb op.code PUT && eqb op.key 0) ((eqb op.code TAKE || eqb op.code PEEK) && takes_nothing op) e) [
       | inl h ↦
           let parts = and_parts (eqb op.code PUT) (eqb op.key 0) h in
           again client.Queue op rest value OneValue PUT (codes "put") (no_space_in (codes "put") refl) refl (eqb-true op.code PUT parts.0) (eqb-true op.key 0 parts.1)
       | inr h ↦
-          let parts = and_parts (eqb op.code TAKE) (takes_nothing op) h in
-          again client.Queue op rest value NoNumber TAKE (codes "take") (no_space_in (codes "take") refl) refl (eqb-true op.code TAKE parts.0) (nothing_taken op parts.1)
+          let parts = and_parts (eqb op.code TAKE || eqb op.code PEEK) (takes_nothing op) h in
+          elim (or_cases (eqb op.code TAKE) (eqb op.code PEEK) parts.0) [
+            | inl i ↦ again client.Queue op rest value NoNumber TAKE (codes "take") (no_space_in (codes "take") refl) refl (eqb-true op.code TAKE i) (nothing_taken op parts.1)
+            | inr i ↦ again client.Queue op rest value NoNumber PEEK (codes "peek") (no_space_in (codes "peek") refl) refl (eqb-true op.code PEEK i) (nothing_taken op parts.1)
+          ]
     ]
 
 set_again : (c : Client) (op : Op) (rest : List ℕ) → op.value < VALUE_LIMIT → command_named c (codes "add") ≡ Some (ADD, OneKey) → command_named c (codes "del") ≡ Some (DEL, OneKey) → command_named c (codes "has") ≡ Some (HAS, OneKey)
-    → is_command client.List op ≡ true → Again c op rest
+    → is_set_command op ≡ true → Again c op rest
 set_again c op rest value add del has e =
     let parts = and_parts (eqb op.code ADD || eqb op.code DEL || eqb op.code HAS) (takes_key op) e in
     let key = key_taken op parts.1 in
@@ -219,6 +232,15 @@ set_again c op rest value add del has e =
         | inr i ↦ again c op rest value OneKey DEL (codes "del") (no_space_in (codes "del") refl) del (eqb-true op.code DEL i) key
       ]
       | inr h ↦ again c op rest value OneKey HAS (codes "has") (no_space_in (codes "has") refl) has (eqb-true op.code HAS h) key
+    ]
+
+list_again : (op : Op) (rest : List ℕ) → op.value < VALUE_LIMIT → is_command client.List op ≡ true → Again client.List op rest
+list_again op rest value e =
+    elim (or_cases (is_set_command op) (eqb op.code MIN && takes_nothing op) e) [
+      | inl h ↦ set_again client.List op rest value refl refl refl h
+      | inr h ↦
+          let parts = and_parts (eqb op.code MIN) (takes_nothing op) h in
+          again client.List op rest value NoNumber MIN (codes "min") (no_space_in (codes "min") refl) refl (eqb-true op.code MIN parts.0) (nothing_taken op parts.1)
     ]
 
 map_again : (op : Op) (rest : List ℕ) → op.value < VALUE_LIMIT → is_command client.Tree op ≡ true → Again client.Tree op rest
@@ -239,6 +261,6 @@ map_again op rest value e =
 -- a command of the client that is written is read again
 pub command_again : (c : Client) (op : Op) (rest : List ℕ) → op.value < VALUE_LIMIT → IsTrue (is_command c op) → command_at c (front (command_words op) rest) ≡ Some (op, rest)
 command_again client.Queue op rest value e = queue_again op rest value e
-command_again client.List op rest value e = set_again client.List op rest value refl refl refl e
+command_again client.List op rest value e = list_again op rest value e
 command_again client.Buckets op rest value e = set_again client.Buckets op rest value refl refl refl e
 command_again client.Tree op rest value e = map_again op rest value e

@@ -6,7 +6,7 @@ ghost use Rattle.lin_report.specs.Commands.{may_answer};
 ghost use Rattle.report_check.specs.CallLines.{AsOption, op_at, command_at, reply_of, reply_named, reply_at, answer_at, path_of, fits, call_at, call_of, TellsCall};
 
 use crate::fields::{number_at, word_at};
-use lin_report::calls::{ADD, DEL, GET, HAS, PUT, REM, SET, TAKE};
+use lin_report::calls::{ADD, DEL, GET, HAS, MIN, PEEK, PUT, REM, SET, TAKE};
 use lin_report::{Client, Op, Path, Reply};
 use script_reader::scripts::{Numbers, command_named};
 
@@ -170,10 +170,14 @@ fn may_answer(op: Op, reply: Reply) -> bool
             op.code == ADD || op.code == DEL || op.code == HAS || op.code == SET || op.code == REM
         }
         Reply::Done => op.code == PUT,
-        Reply::Value(_) => op.code == TAKE || op.code == GET,
-        Reply::Empty => op.code == TAKE,
+        Reply::Value(_) => {
+            op.code == TAKE || op.code == GET || op.code == PEEK || op.code == MIN
+        }
+        Reply::Empty => op.code == TAKE || op.code == PEEK || op.code == MIN,
         Reply::Absent => op.code == GET,
-        Reply::Exhausted => !(op.code == HAS || op.code == GET),
+        Reply::Exhausted => {
+            !(op.code == HAS || op.code == GET || op.code == PEEK || op.code == MIN)
+        }
     }
 }
 

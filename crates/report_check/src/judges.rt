@@ -99,13 +99,9 @@ pub fn judge(
 {
     match client {
         Client::Queue => judge_by(alloc, &mut FifoObject::new(alloc), receipts, pending, order),
-        Client::List | Client::Buckets => judge_by(
-            alloc,
-            &mut SetObject::new(alloc),
-            receipts,
-            pending,
-            order,
-        ),
+        Client::List => judge_by(alloc, &mut SetObject::new(alloc), receipts, pending, order),
+        // The object of a list serves all that a set of buckets is asked.
+        Client::Buckets => judge_by(alloc, &mut SetObject::new(alloc), receipts, pending, order),
         Client::Tree => judge_by(alloc, &mut MapObject::new(alloc), receipts, pending, order),
     }
 }

@@ -193,6 +193,31 @@ fn lines_of_calls_are_read(rt: HostRuntime) -> Result<(), Fail> {
 }
 
 #[test]
+fn lines_of_commands_that_only_look(rt: HostRuntime) -> Result<(), Fail> {
+    for (client, line, told) in [
+        (
+            Client::Queue,
+            b"0 1 peek value 4294967295 0 1 fast".as_slice(),
+            true,
+        ),
+        (Client::Queue, b"0 1 peek empty 0 1 slow", true),
+        (Client::List, b"0 1 min value 5 0 1 fast", true),
+        (Client::List, b"0 1 min empty 0 1 fast", true),
+        (Client::List, b"0 1 min pending 0 - fast", true),
+        (Client::Queue, b"0 1 peek 7 value 7 0 1 fast", false),
+        (Client::Queue, b"0 1 peek exhausted 0 1 slow", false),
+        (Client::Queue, b"0 1 min empty 0 1 fast", false),
+        (Client::List, b"0 1 min exhausted 0 1 slow", false),
+        (Client::List, b"0 1 min yes 0 1 slow", false),
+        (Client::Buckets, b"0 1 min empty 0 1 fast", false),
+        (Client::Tree, b"0 1 min empty 0 1 fast", false),
+    ] {
+        assert_eq!(rt; read_call_line(client, line).is_some(), told, "{line:?}");
+    }
+    Ok(())
+}
+
+#[test]
 fn other_lines_are_of_no_call(rt: HostRuntime) -> Result<(), Fail> {
     for (client, line) in [
         (Client::Queue, b"8 1 take empty 4 5 slow".as_slice()),

@@ -1,7 +1,7 @@
 //! Files that can't be read, and sinks that fail.
 use super::rows::{AMPLE, ONE, TWO, files_of, replayed};
-use crate::outside::SinkInMemory;
 use std::test::Fail;
+use whole_files::SinkInMemory;
 
 #[test]
 fn files_that_are_not_read(rt: HostRuntime) -> Result<(), Fail> {

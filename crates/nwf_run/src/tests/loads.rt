@@ -1,8 +1,8 @@
 //! Summaries of loads.
 use super::rows::{AMPLE, Row, compare, files_of, replayed};
-use crate::outside::SinkInMemory;
 use std::alloc::Global;
 use std::test::Fail;
+use whole_files::SinkInMemory;
 
 /// Loads of one seat, whose calls come one after the other: the first one that finds no block left is answered so, and
 /// so is each later one that wants a block.

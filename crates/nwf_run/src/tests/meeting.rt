@@ -1,7 +1,6 @@
 //! Eight threads that wait for each other at a gate, and what is printed of their calls.
 use super::rows::{AMPLE, files_of};
 use super::runs::ran;
-use crate::outside::SinkInMemory;
 use lin_report::Receipt;
 use normal_traits::Normalized;
 use shared_memory::SeatPort;
@@ -9,6 +8,7 @@ use std::alloc::{AllocError, Global};
 use std::sync::atomic::{AtomicU64, Ordering};
 use std::test::Fail;
 use thread_runs::Gate;
+use whole_files::SinkInMemory;
 
 /// The calls of eight seats with two calls each, as bits, and the ticks of each call, with 1 added.
 #[derive(Drop)]

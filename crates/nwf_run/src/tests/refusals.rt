@@ -1,8 +1,8 @@
 //! Words that are not served, and files that are refused.
 use super::rows::{AMPLE, ONE, ONE_LIST, Row, TWO, compare, files_of, replayed};
-use crate::outside::{FilesInMemory, SinkInMemory};
 use std::alloc::{AllocError, Global};
 use std::test::Fail;
+use whole_files::{FilesInMemory, SinkInMemory};
 
 /// Files that are refused: the first one at fault, its line and the cause.
 const REFUSED: [Row; 19] = [

@@ -1,9 +1,9 @@
 //! Rows of calls on files and sinks in memory. They write `/` for a newline and `|` between command files.
-use crate::outside::{FilesInMemory, SinkInMemory};
 use crate::replay::replay_main;
 use std::alloc::{AllocError, Global};
 use std::process::Abort;
 use std::test::Fail;
+use whole_files::{FilesInMemory, SinkInMemory};
 
 /// The words of a command line, the schedule, the command files, the status, and what is written.
 pub type Row = (&'static str, &'static str, &'static str, u8, &'static str);

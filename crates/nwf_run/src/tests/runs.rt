@@ -1,7 +1,6 @@
 //! Runs of files in memory with threads, and words and files that have none. Where there is more than one file
 //! with commands, nothing is compared that depends on the order of their calls.
 use super::rows::{AMPLE, bytes_of, files_of, words_of};
-use crate::outside::{FilesInMemory, SinkInMemory};
 use crate::program::nwf_main;
 use crate::run::run_main;
 use std::alloc::{AllocError, Global};
@@ -9,6 +8,7 @@ use std::sync::Wait;
 use std::test::Fail;
 use std::thread::Threads;
 use thread_runs::{Gate, NoGate};
+use whole_files::{FilesInMemory, SinkInMemory};
 
 /// The words of a command line, the command files, the status, and what is written.
 type Row = (&'static str, &'static str, u8, &'static str);

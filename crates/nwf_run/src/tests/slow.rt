@@ -1,9 +1,9 @@
 //! Reports of calls that are published and helped.
 use super::rows::{AMPLE, Row, bytes_of, compare, files_of};
 use super::runs::ran;
-use crate::outside::SinkInMemory;
 use std::test::Fail;
 use thread_runs::NoGate;
+use whole_files::SinkInMemory;
 
 /// Replays and a load whose limit sends calls to the slow path.
 const SLOW: [Row; 14] = [

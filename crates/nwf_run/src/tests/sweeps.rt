@@ -1,8 +1,8 @@
 //! Lines of sweeps.
 use super::rows::{Row, compare, files_of, replayed};
-use crate::outside::SinkInMemory;
 use std::alloc::Global;
 use std::test::Fail;
+use whole_files::SinkInMemory;
 
 const SWEEPS: [Row; 5] = [
     // A put stops, before its first step, in the midst, and behind its exchange. The take finds it once it is published.

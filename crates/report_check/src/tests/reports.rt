@@ -77,21 +77,20 @@ fn the_first_line_at_fault_is_told(rt: HostRuntime) -> Result<(), Fail> {
     Ok(())
 }
 
-/// What an order of a queue's report is worth, where both are read.
-fn verdict_on(alloc: Global, report: &[u8], order: &[u8]) -> Result<Option<Verdict>, NoMemory> {
-    let Ok(report) = read_report(alloc, report, Client::Queue) else {
+/// What an order of a client's report is worth, where both are read.
+fn verdict_on(
+    alloc: Global,
+    client: Client,
+    report: &[u8],
+    order: &[u8],
+) -> Result<Option<Verdict>, NoMemory> {
+    let Ok(report) = read_report(alloc, report, client) else {
         return Ok(None);
     };
     let Ok(names) = read_order(alloc, order) else {
         return Ok(None);
     };
-    let verdict = judge(
-        alloc,
-        Client::Queue,
-        &report.receipts,
-        &report.pending,
-        &names,
-    )?;
+    let verdict = judge(alloc, client, &report.receipts, &report.pending, &names)?;
     Ok(Some(verdict))
 }
 
@@ -118,10 +117,46 @@ fn orders_are_judged_by_the_texts(rt: HostRuntime) -> Result<(), Fail> {
             Some(reason) => Verdict::NotLegal(Objection { place, reason }),
         };
         assert_eq!(rt;
-            verdict_on(rt.alloc(), report, order)?,
+            verdict_on(rt.alloc(), Client::Queue, report, order)?,
             Some(verdict),
             "{order:?}"
         );
     }
+    Ok(())
+}
+
+#[test]
+fn calls_that_only_look_are_judged(rt: HostRuntime) -> Result<(), Fail> {
+    let first =
+        b"0 1 put 7 done 0 1 fast\n0 2 peek value 7 2 3 fast\n0 3 take value 7 4 5 fast\ncalls 3 fast 3 slow 0 exhausted 0 pending 0\n".as_slice();
+    let none =
+        b"0 1 put 7 done 0 1 fast\n0 2 peek empty 2 3 fast\n0 3 take value 7 4 5 fast\ncalls 3 fast 3 slow 0 exhausted 0 pending 0\n".as_slice();
+    let least =
+        b"0 1 add 9 yes 0 1 fast\n0 2 add 4 yes 2 3 fast\n0 3 min value 4 4 5 fast\ncalls 3 fast 3 slow 0 exhausted 0 pending 0\n".as_slice();
+    let greatest =
+        b"0 1 add 9 yes 0 1 fast\n0 2 add 4 yes 2 3 fast\n0 3 min value 9 4 5 fast\ncalls 3 fast 3 slow 0 exhausted 0 pending 0\n".as_slice();
+    for (client, report, place) in [
+        (Client::Queue, first, 0),
+        (Client::Queue, none, 2),
+        (Client::List, least, 0),
+        (Client::List, greatest, 3),
+    ] {
+        let wanted = match place {
+            0 => Verdict::Legal,
+            place => Verdict::NotLegal(Objection {
+                place,
+                reason: Reason::AnotherReply,
+            }),
+        };
+        assert_eq!(rt;
+            verdict_on(rt.alloc(), client, report, b"0 1\n0 2\n0 3\n".as_slice())?,
+            Some(wanted),
+            "{report:?}"
+        );
+    }
+    assert_eq!(rt;
+        verdict_on(rt.alloc(), Client::Buckets, least, b"0 1\n".as_slice())?,
+        None
+    );
     Ok(())
 }

@@ -3,7 +3,7 @@ use Rattle.std.specs.Global.{Global}
 use Rattle.lin_report.specs.declared.calls.Op.{Op}
 use Rattle.nwf_run.specs.declared.judging.Scripts.{Scripts}
 use Rattle.nwf_run.specs.Said.{said}
-use Rattle.nwf_run.specs.Outside.{Opening}
+use Rattle.whole_files.specs.Outside.{Opening}
 use Rattle.nwf_run.specs.Reading.{Opens, OpensUntil}
 use Rattle.nwf_run.proofs.ReadFiles.{alone, opens_behind, until_behind}
 use Rattle.nwf_run.proofs.scripts.read_scripts.Goals as goal

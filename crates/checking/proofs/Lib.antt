@@ -1,0 +1,3 @@
+pub mod CutFiles
+pub mod ReadFiles
+pub mod Endings
