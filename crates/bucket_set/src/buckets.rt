@@ -4,8 +4,8 @@ ghost use Rattle.bucket_set.specs.Buckets.{bucket_count, start_of};
 
 use harris_list::list_steps::ListSteps;
 use harris_list::{HarrisList, Seeking};
-use lin_report::{Client, Op};
 use harris_list_form::ListWrap;
+use lin_report::{Client, Op};
 use node_arena::places::FIRST_WORDS;
 use normal_traits::{Found, List, Normalized, Stores, Wrapped};
 use step_memory::{Request, Seen};

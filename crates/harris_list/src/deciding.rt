@@ -5,8 +5,8 @@ ghost use Rattle.harris_list.specs.Ways.{search_at};
 
 use crate::way::{Stage, Way};
 use crate::words::is_modified;
-use lin_report::{Outcome, Reply};
 use harris_list_form::{Aim, Left};
+use lin_report::{Outcome, Reply};
 use normal_traits::Found;
 
 /// The end of a way: the left word, and the node that was come to, with its next word and whether its key is

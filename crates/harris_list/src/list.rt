@@ -1,10 +1,10 @@
 //! The list as a structure in normalized form.
 
 use crate::seeking::Seeking;
-use lin_report::calls::ADD;
-use lin_report::{Client, Op, Outcome, Reply};
 use harris_list_form::ListWrap;
 use harris_list_form::states::LIST_START;
+use lin_report::calls::ADD;
+use lin_report::{Client, Op, Outcome, Reply};
 use normal_traits::{Found, List, Normalized, Stores, Wrapped};
 use step_memory::{Request, Seen};
 use whole_calls::{Seeks, Steps};

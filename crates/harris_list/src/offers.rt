@@ -7,9 +7,9 @@ ghost use Rattle.harris_list.specs.Ways.{search_at};
 use crate::way::{Stage, Way};
 use crate::words::{key_place, leading, led, marking, next_place};
 use arrayvec::ArrayVec;
+use harris_list_form::Left;
 use lin_report::Op;
 use lin_report::calls::ADD;
-use harris_list_form::Left;
 use node_arena::reference_to;
 use normal_traits::{Entry, List, Stores};
 

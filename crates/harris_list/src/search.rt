@@ -1,15 +1,17 @@
 //! The steps of a search.
 ghost use Rattle.std.specs.Prelude.{◌≡◌, ◌<◌, ◌^◌};
-ghost use Rattle.harris_list_form.specs.Search.{Asks, IsReady, aim_of, begun_at, asked, fed};
+ghost use Rattle.harris_list_form.specs.Search.{Asks, IsReady, aim_of, begun_at, asked, fed, sought_of};
+ghost use Rattle.harris_list_form.specs.declared.states.ListSearch.TheVariants.{Start, LeastStart};
 ghost use Rattle.harris_list.specs.declared.way.Stage.TheVariants as stage;
 ghost use Rattle.harris_list.specs.Ways.{search_at};
 
 use crate::deciding::{End, decide, finish, move_on};
+use crate::least;
 use crate::way::{Stage, Way};
 use crate::words::{is_marked, key_place, leading, led, next_place};
-use lin_report::Op;
-use lin_report::calls::{ADD, DEL};
 use harris_list_form::{Aim, Left, Sought};
+use lin_report::Op;
+use lin_report::calls::{ADD, DEL, MIN};
 use normal_traits::Found;
 use step_memory::{Request, Seen};
 
@@ -25,10 +27,11 @@ fn aim_of(op: Op) -> Aim
     }
 }
 
-/// The way of a search that begins at the place where a list begins.
+/// The way of a search of a key that begins at the place where a list begins.
 #[inline(always)]
-pub fn begun_at(start: u32, op: Op) -> Way
-    ensures { search_at result ≡ begun_at start op }
+pub fn key_begun_at(start: u32, op: Op) -> Way
+    ensures search { search_at result ≡ Start (sought_of op) start }
+    ensures sought { result.sought ≡ sought_of op }
 {
     Way {
         sought: Sought {
@@ -47,6 +50,29 @@ pub fn begun_at(start: u32, op: Op) -> Way
     }
 }
 
+/// The way of a search of the least key that begins there.
+#[inline(always)]
+pub fn least_begun_at(start: u32, op: Op) -> Way
+    ensures { search_at result ≡ LeastStart start }
+{
+    Way {
+        stage: Stage::LeastStart,
+        ..key_begun_at(start, op)
+    }
+}
+
+/// The way of the search of an operation that begins there.
+#[inline(always)]
+pub fn begun_at(start: u32, op: Op) -> Way
+    ensures { search_at result ≡ begun_at start op }
+{
+    if op.code == MIN {
+        least_begun_at(start, op)
+    } else {
+        key_begun_at(start, op)
+    }
+}
+
 /// What a search asks for.
 #[inline(always)]
 pub fn asked(way: &Way) -> Request
@@ -54,14 +80,14 @@ pub fn asked(way: &Way) -> Request
     ensures { result ≡ asked (search_at way.now) }
 {
     match way.stage {
-        Stage::Start => Request::Load { at: way.left.place },
-        Stage::Next => Request::Load {
+        Stage::Start | Stage::LeastStart => Request::Load { at: way.left.place },
+        Stage::Next | Stage::LeastNext => Request::Load {
             at: next_place(way.cur),
         },
-        Stage::Key => Request::Load {
+        Stage::Key | Stage::LeastKey => Request::Load {
             at: key_place(way.cur),
         },
-        Stage::Unlink => Request::Exchange {
+        Stage::Unlink | Stage::LeastUnlink => Request::Exchange {
             at: way.left.place,
             from: way.left.word,
             to: leading(way.left.word, way.cur),
@@ -171,6 +197,10 @@ pub fn fed(way: &mut Way, seen: Seen) -> Found
         Stage::Next => met_next(way, seen),
         Stage::Key => met_key(way, seen),
         Stage::Unlink => unlinked(way, seen),
+        Stage::LeastStart => least::started(way, seen),
+        Stage::LeastNext => least::nexted(way, seen),
+        Stage::LeastUnlink => least::unlinked(way, seen),
+        Stage::LeastKey => least::keyed(way, seen),
         Stage::AddReady | Stage::DelReady => unreachable!(),
     }
 }

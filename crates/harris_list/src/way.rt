@@ -17,6 +17,14 @@ pub enum Stage {
     AddReady,
     /// The key is that of `cur`: a `del` can name its list.
     DelReady,
+    /// On the way to the least key the beginning of the list is loaded.
+    LeastStart,
+    /// The next word of `cur` is loaded.
+    LeastNext,
+    /// The marked nodes before `cur` are unlinked.
+    LeastUnlink,
+    /// The key of `cur`, which was the least, is loaded.
+    LeastKey,
 }
 
 /// Where a search stands. Which fields say something depends on the stage (`specs/Ways.antt`); at the start

@@ -1,10 +1,11 @@
-//! The search in one piece.
+//! The search of a key in one piece.
 ghost use Rattle.std.specs.Prelude.{◌≡◌, ◌<◌, ◌^◌};
 ghost use Rattle.normal_traits.specs.declared.form.Found.TheVariants as found;
 ghost use Rattle.fast_slow_engine.specs.declared.phases.Phase.TheVariants.{Generate};
 ghost use Rattle.fast_slow_engine.specs.declared.phases.Generating.TheVariants.{Search};
 ghost use Rattle.fast_slow_engine.specs.PhaseTable.{searched};
 ghost use Rattle.harris_list_form.specs.Search.{Asks, IsReady, begun_at, sought_of};
+ghost use Rattle.harris_list_form.specs.declared.states.ListSearch.TheVariants.{Start};
 ghost use Rattle.harris_list_form.specs.Form.{list_form};
 ghost use Rattle.harris_list.specs.declared.way.Stage.TheVariants as stage;
 ghost use Rattle.harris_list.specs.Ways.{search_at};
@@ -12,15 +13,17 @@ ghost use Rattle.harris_list.specs.Walks.{arrived};
 
 use crate::deciding::{End, finish, move_on};
 use crate::list_steps::ListSteps;
-use crate::search::{begun_at, unlinked};
+use crate::search::{key_begun_at, unlinked};
 use crate::way::{Stage, Way};
+use crate::whole_least::seek_least;
 use crate::words::{is_marked, key_place, leading, led, next_place};
-use lin_report::Op;
 use harris_list_form::Left;
+use lin_report::Op;
+use lin_report::calls::MIN;
 use normal_traits::Found;
 
 /// How many nodes a search in one piece passes.
-const MOST_NODES: u32 = 1 << 20;
+pub(crate) const MOST_NODES: u32 = 1 << 20;
 
 /// Where a walk is: behind the left word, with marked nodes alone between it and `cur` in a run. `cur` is null
 /// at the end of the list.
@@ -42,8 +45,8 @@ pub struct Met {
 /// nor where the bound came first.
 #[inline(always)]
 fn walk<C: ListSteps<P>, P>(start: u32, op: Op, port: &mut P) -> (Spot, Option<Met>)
-    requires begins { (C.machine port.old).phase ≡ Generate (begun_at start op) Search }
-    ensures machine { C.machine port.new ≡ searched (list_form C.lists) (arrived (begun_at start op) (sought_of op) result).1 (arrived (begun_at start op) (sought_of op) result).0 (C.machine port.old) }
+    requires begins { (C.machine port.old).phase ≡ Generate (Start (sought_of op) start) Search }
+    ensures machine { C.machine port.new ≡ searched (list_form C.lists) (arrived (Start (sought_of op) start) (sought_of op) result).1 (arrived (Start (sought_of op) start) (sought_of op) result).0 (C.machine port.old) }
     ensures rest { C.rest port.new ≡ C.rest port.old }
     ensures small { result.0.cur < 2 ^ 23 }
 {
@@ -114,7 +117,28 @@ fn unlink<C: ListSteps<P>, P>(way: &mut Way, port: &mut P) -> Found
     unlinked(way, seen)
 }
 
-/// Makes steps of a search that begins at the place where a list begins.
+/// Makes steps of a search of a key that begins at the place where a list begins.
+#[inline(always)]
+fn seek_key<C: ListSteps<P>, P>(start: u32, op: Op, port: &mut P) -> (Way, Found)
+    requires begins { (C.machine port.old).phase ≡ Generate (Start (sought_of op) start) Search }
+    ensures machine { C.machine port.new ≡ searched (list_form C.lists) result.1 (search_at result.0) (C.machine port.old) }
+    ensures rest { C.rest port.new ≡ C.rest port.old }
+    ensures goes { result.1 ≡ found.Going → Asks (search_at result.0) }
+    ensures readies { result.1 ≡ found.Ready → IsReady (search_at result.0) }
+{
+    let (spot, met) = walk::<C, P>(start, op, port);
+    let mut way = key_begun_at(start, op);
+    let found = arrive(&mut way, spot, met);
+    match (found, way.stage) {
+        (Found::Going, Stage::Unlink) => {
+            let found = unlink::<C, P>(&mut way, port);
+            (way, found)
+        }
+        _ => (way, found),
+    }
+}
+
+/// Makes steps of the search of an operation that begins there.
 #[inline(always)]
 pub fn seek<C: ListSteps<P>, P>(start: u32, op: Op, port: &mut P) -> (Way, Found)
     requires begins { (C.machine port.old).phase ≡ Generate (begun_at start op) Search }
@@ -123,14 +147,9 @@ pub fn seek<C: ListSteps<P>, P>(start: u32, op: Op, port: &mut P) -> (Way, Found
     ensures goes { result.1 ≡ found.Going → Asks (search_at result.0) }
     ensures readies { result.1 ≡ found.Ready → IsReady (search_at result.0) }
 {
-    let (spot, met) = walk::<C, P>(start, op, port);
-    let mut way = begun_at(start, op);
-    let found = arrive(&mut way, spot, met);
-    match (found, way.stage) {
-        (Found::Going, Stage::Unlink) => {
-            let found = unlink::<C, P>(&mut way, port);
-            (way, found)
-        }
-        _ => (way, found),
+    if op.code == MIN {
+        seek_least::<C, P>(start, op, port)
+    } else {
+        seek_key::<C, P>(start, op, port)
     }
 }

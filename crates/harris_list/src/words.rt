@@ -2,6 +2,7 @@
 ghost use Rattle.std.specs.Prelude.{◌≡◌, ◌<◌, ◌^◌};
 ghost use Rattle.word_fields.specs.Versioned.{is_modified, versioned_value};
 ghost use Rattle.harris_list_form.specs.Search.{led, is_marked, next_place, key_place, leading, marking};
+ghost use Rattle.harris_list_form.specs.Least.{key_in};
 
 use node_arena::node_place;
 use node_arena::places::{NODE_KEY, NODE_NEXT};
@@ -58,6 +59,14 @@ pub fn key_place(reference: u32) -> u32
     ensures { result ≡ key_place reference }
 {
     node_place(reference, NODE_KEY)
+}
+
+/// The key in the word of a node's key.
+#[inline(always)]
+pub fn key_in(word: u64) -> u32
+    ensures { result ≡ key_in word }
+{
+    (word % 1_048_576) as u32
 }
 
 /// The next word that leads to a node, in the place of another.

@@ -16,7 +16,7 @@ use Rattle.normal_traits.specs.Steps.{IsStep, IsFresh, IsExchanged, IsFilled, wi
 use Rattle.normal_traits.specs.Steps.IsStep.{nothing, elsewhere, clears, searches, wraps, first, first_of_block, second}
 use Rattle.harris_list_form.specs.declared.states.Left.{Left}
 use Rattle.harris_list_form.specs.declared.states.ListSearch.{ListSearch}
-use Rattle.harris_list_form.specs.declared.states.ListSearch.TheVariants.{Start, Next, Key, Unlink, AddReady, DelReady}
+use Rattle.harris_list_form.specs.declared.states.ListSearch.TheVariants.{Start, Next, Key, Unlink, AddReady, DelReady, LeastStart, LeastNext, LeastUnlink, LeastKey}
 use Rattle.harris_list_form.specs.Lists.{Lists, AreLists, is_versioned}
 use Rattle.harris_list_form.specs.Search.{is_add, led, leading, asked, Asks, next_place, offered, add_offer}
 use Rattle.harris_list_form.specs.Nodes.{next_at, key_at}
@@ -51,6 +51,15 @@ module _ (lists : Lists) (are : AreLists lists) where
       let entry : Entry = record { target = left.place; from = left.word; to = leading left.word cur } in
       subst (AreSorted lists) (sym w.2)
       (cut_keeps lists are world sorted Beside entry (lists.start_of key) cur (leading left.word cur) (subst (Later lists are world) w.2 kept) l.0.link w.0 l.0.even l.3
+      (value-changed left.word (2 * cur) (omega (arith, asks))) (λ path u. u))
+  search_keeps world after seen key since (LeastStart start) sorted kept asks l w = subst (AreSorted lists) (sym w.0) sorted
+  search_keeps world after seen key since (LeastNext left run cur) sorted kept asks l w = subst (AreSorted lists) (sym w.0) sorted
+  search_keeps world after seen key since (LeastKey cur) sorted kept asks l w = subst (AreSorted lists) (sym w.0) sorted
+  search_keeps world after seen key since (LeastUnlink left cur) sorted kept asks l (inl w) = subst (AreSorted lists) (sym w.1) sorted
+  search_keeps world after seen key since (LeastUnlink left cur) sorted kept asks l (inr w) =
+      let entry : Entry = record { target = left.place; from = left.word; to = leading left.word cur } in
+      subst (AreSorted lists) (sym w.2)
+      (cut_keeps lists are world sorted Beside entry (lists.start_of key) cur (leading left.word cur) (subst (Later lists are world) w.2 kept) l.0.at.link w.0 l.0.at.even l.2
       (value-changed left.word (2 * cur) (omega (arith, asks))) (λ path u. u))
   search_keeps world after seen key since (AddReady left cur) sorted kept asks l w = absurd asks
   search_keeps world after seen key since (DelReady left cur next) sorted kept asks l w = absurd asks

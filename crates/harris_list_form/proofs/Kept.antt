@@ -1,23 +1,24 @@
 -- What was learnt stays true, whatever anyone does.
-use Rattle.std.proofs.Common.{◌≡◌, ℕ, ◌+◌, ◌/◌, ◌%◌, ◌<◌, Bool, true, false, sym, ap, ◌∙◌, subst, arith}
+use Rattle.std.proofs.Common.{◌≡◌, ◌≢◌, ℕ, ◌+◌, ◌/◌, ◌%◌, ◌<◌, Bool, true, false, sym, ap, ◌∙◌, subst, inl, inr, ◌⊎◌, arith}
+use Rattle.std.proofs.lemmas.Bool.{cases_eq}
 use Rattle.lin_report.specs.declared.calls.Op.{Op}
-use Rattle.word_fields.specs.Versioned.{versioned_value}
-use Rattle.normal_traits.specs.World.{World, StandsOrPassed}
+use Rattle.word_fields.specs.Versioned.{versioned_value, versioned_bit, versioned_version}
+use Rattle.normal_traits.specs.World.{World, StandsOrPassed, first_changes}
 use Rattle.harris_list_form.specs.declared.states.Left.{Left}
 use Rattle.harris_list_form.specs.declared.states.ListSearch.{ListSearch}
-use Rattle.harris_list_form.specs.declared.states.ListSearch.TheVariants.{Start, Next, Key, Unlink, AddReady, DelReady}
+use Rattle.harris_list_form.specs.declared.states.ListSearch.TheVariants.{Start, Next, Key, Unlink, AddReady, DelReady, LeastStart, LeastNext, LeastUnlink, LeastKey}
 use Rattle.harris_list_form.specs.Lists.{Lists, AreLists}
 use Rattle.harris_list_form.specs.Search.{led, next_place}
 use Rattle.harris_list_form.specs.Nodes.{holds, is_node, node_key, next_at, place_rank, rank_of, IsNamed, IsLink}
 use Rattle.harris_list_form.specs.Path.{parity}
 use Rattle.harris_list_form.specs.Shape.{AreSorted}
-use Rattle.harris_list_form.specs.Knowledge.{WasHeld, WasGap, AtLeft, AtCur, AtNext, IsRun, Between, Compared, Learnt, Knows}
+use Rattle.harris_list_form.specs.Knowledge.{WasHeld, WasGap, WasLeast, AtLeft, AtCur, AtNext, AtFirst, FromFirst, IsRun, Between, Compared, Learnt, Knows}
 use Rattle.harris_list_form.specs.Knowledge.IsRun.{ends, goes}
 use Rattle.harris_list_form.proofs.Places.{next_versioned}
 use Rattle.harris_list_form.proofs.Changes.{link_grows, named_grows, rank_kept, place_kept}
 use Rattle.harris_list_form.proofs.Links.{positive, node_word, link_word, link_versioned, node_of, named_link, block_named}
 use Rattle.harris_list_form.proofs.Later.{Later}
-use Rattle.client_lemmas.proofs.Words.{rises_seen}
+use Rattle.client_lemmas.proofs.Words.{rises_seen, rises_version}
 
 module _ (lists : Lists) (are : AreLists lists) where
   -- ---- what was learnt
@@ -111,6 +112,64 @@ module _ (lists : Lists) (are : AreLists lists) where
     compared_kept key since cur next true named was = (rank_stays (lists.start_of key) cur named ∙ was.0, next_kept key since cur next named was.1)
     compared_kept key since cur next false named was = omega (arith, was, rank_stays (lists.start_of key) cur named)
 
+    -- ---- on the way to the least key
+
+    -- the key of a node stays
+    key_stays : (start reference : ℕ) → IsNamed lists world.changes start reference → reference ≢ 0 → node_key after.changes (reference / 4) ≡ node_key world.changes (reference / 4)
+    key_stays start reference named some =
+        let node = node_of lists are world sorted start reference named some in
+        kept.extends.keys (reference / 4) (ap (is_node world.changes) (block_named reference node.0 node.2) ∙ node.1.node)
+
+    least_kept : (since start reference : ℕ) → IsNamed lists world.changes start reference → WasLeast lists world.changes since start reference → WasLeast lists after.changes since start reference
+    least_kept since start reference named was =
+        record {
+          count = was.count;
+          not_before = was.not_before;
+          made = omega (arith, was.made, kept.extends.longer);
+          held = λ some.
+              ap (λ key. holds (first_changes was.count after.changes) key) (key_stays start reference named some)
+              ∙ ap (λ changes. holds changes (node_key world.changes (reference / 4))) (kept.extends.first was.count was.made) ∙ was.held some;
+          none = λ key list lower. ap (λ changes. holds changes key) (kept.extends.first was.count was.made) ∙ was.none key list (was_lower key lower (cases_eq reference 0));
+        }
+      where
+        was_lower : (key : ℕ) → (reference ≡ 0) ⊎ (key < node_key after.changes (reference / 4)) → (reference ≡ 0) ⊎ (reference ≡ 0 → ⊥) → (reference ≡ 0) ⊎ (key < node_key world.changes (reference / 4))
+        was_lower key (inl null) which = inl null
+        was_lower key (inr low) (inl null) = inl null
+        was_lower key (inr low) (inr some) = inr (omega (arith, low, key_stays start reference named some))
+
+    -- a node that is unmarked now was so before
+    was_unmarked : (start reference : ℕ) → IsNamed lists world.changes start reference → reference ≢ 0 → parity after.words (next_place reference) ≡ 0 → parity world.words (next_place reference) ≡ 0
+    was_unmarked start reference named some even = by_mark (cases_eq (parity world.words (next_place reference)) 1)
+      where
+        by_mark : (parity world.words (next_place reference) ≡ 1) ⊎ (parity world.words (next_place reference) ≡ 1 → ⊥) → parity world.words (next_place reference) ≡ 0
+        by_mark (inl odd) =
+            let node = node_of lists are world sorted start reference named some in
+            let at : next_place reference ≡ next_at node.0 = ap next_place node.2 in
+            let frozen = value_frozen node.0 node.1.node (sym (ap (parity world.words) at) ∙ odd) in
+            absurd (omega (arith, odd, even, ap (parity world.words) at, ap (parity after.words) at, frozen))
+        by_mark (inr other) = omega (arith, other)
+
+    first_kept : (key : ℕ) (left : Left) (cur : ℕ) → AtFirst lists world key left cur → AtFirst lists after key left cur
+    first_kept key left cur first = record { place = first.place; at = left_kept key left first.at; was = cur_kept key left cur first.at first.was }
+
+    from_first_kept : (key since : ℕ) (left : Left) (cur : ℕ) (run : Bool) → AtFirst lists world key left cur → cur ≢ 0 → FromFirst lists world key since left cur run → FromFirst lists after key since left cur run
+    from_first_kept key since left cur true first some run = run_kept cur (led left.word) run
+    from_first_kept key since left cur false first some direct =
+        (direct.0, λ even. least_kept since (lists.start_of key) cur first.was.named (direct.1 (was_unmarked (lists.start_of key) cur first.was.named some even)))
+
+    -- a word that stands there again stood there all the time
+    stood : (key : ℕ) (left : Left) → AtLeft lists world key left → versioned_bit left.word ≡ 0 → after.words left.place ≡ left.word → world.words left.place ≡ left.word
+    stood key left at clear stands = by_seen (at.seen clear)
+      where
+        by_seen : (world.words left.place ≡ left.word) ⊎ (versioned_version left.word < versioned_version (world.words left.place)) → world.words left.place ≡ left.word
+        by_seen (inl same) = same
+        by_seen (inr past) =
+            let risen = rises_version (world.words left.place) (after.words left.place)
+            (kept.rises left.place (link_word lists are world sorted (lists.start_of key) left.place at.link) (link_versioned lists are world sorted (lists.start_of key) left.place at.link)) in
+            absurd (omega (arith, past, risen, ap versioned_version stands))
+
+    -- ---- each search
+
     learnt_kept : (key since : ℕ) (searched : ListSearch) → Learnt lists world key since searched → Learnt lists after key since searched
     learnt_kept key since (Start sought start) l = l
     learnt_kept key since (Next sought left run cur) l = (left_kept key left l.0, cur_kept key left cur l.0 l.1, l.2, between_kept key since left cur run l.0 l.1 l.3)
@@ -121,6 +180,16 @@ module _ (lists : Lists) (are : AreLists lists) where
         (left_kept key left l.0, cur_kept key left cur l.0 l.1, l.2, l.3, omega (arith, l.4, rank_stays (lists.start_of key) cur l.1.named))
     learnt_kept key since (DelReady left cur next) l =
         (left_kept key left l.0, cur_kept key left cur l.0 l.1, l.2, l.3, rank_stays (lists.start_of key) cur l.1.named ∙ l.4, next_kept key since cur next l.1.named l.5, l.6)
+    learnt_kept key since (LeastStart start) l = l
+    learnt_kept key since (LeastNext left run cur) l = (first_kept key left cur l.0, l.1, from_first_kept key since left cur run l.0 l.1 l.2)
+    learnt_kept key since (LeastUnlink left cur) l = (
+      first_kept key left cur l.0,
+      l.1,
+      run_kept cur (led left.word) l.2,
+      λ stands. least_kept since (lists.start_of key) cur l.0.was.named (l.3 (stood key left l.0.at l.1 stands)),
+    )
+    learnt_kept key since (LeastKey cur) l =
+        (named_grows lists world.changes after.changes kept.extends (lists.start_of key) cur l.0, l.1, least_kept since (lists.start_of key) cur l.0 l.2)
 
     pub knows_later : (searched : ListSearch) (op : Op) (since : ℕ) → Knows lists searched op world since → Knows lists searched op after since
     knows_later searched op since knows =

@@ -13,7 +13,7 @@ use Rattle.normal_traits.specs.World.{Listed, Change, World}
 use Rattle.normal_traits.specs.Steps.{Requested, IsOffered, IsStep, change_of}
 use Rattle.client_lemmas.proofs.Later as any_step
 use Rattle.harris_list_form.specs.declared.states.ListSearch.{ListSearch}
-use Rattle.harris_list_form.specs.declared.states.ListSearch.TheVariants.{Unlink}
+use Rattle.harris_list_form.specs.declared.states.ListSearch.TheVariants.{Unlink, LeastUnlink}
 use Rattle.harris_list_form.specs.Lists.{Lists, AreLists}
 use Rattle.harris_list_form.specs.Search.{is_add, asked, Asks}
 use Rattle.harris_list_form.specs.Nodes.{is_node, brings}
@@ -35,6 +35,7 @@ module _ (lists : Lists) (are : AreLists lists) where
   -- an exchange beside the lists is from an unmarked word to one with its bit clear
   pub asked_moves : (world : World) (key since : ℕ) (searched : ListSearch) → Asks searched → Learnt lists world key since searched → any_step.IsMove (list_form lists) Extends Freezes (asked searched)
   asked_moves world key since (Unlink sought left cur next found) asks l = (cleared-changed left.word (2 * cur) (omega (arith, asks)), λ odd. absurd (omega (arith, odd, l.0.even)))
+  asked_moves world key since (LeastUnlink left cur) asks l = (cleared-changed left.word (2 * cur) (omega (arith, asks)), λ odd. absurd (omega (arith, odd, l.0.at.even)))
   asked_moves world key since _ asks l = tt
 
   -- a first entry's word is that of an unmarked node

@@ -13,7 +13,7 @@ use Rattle.harris_list_form.proofs.Later.{Freezes, later, requested_later, asked
 use Rattle.harris_list_form.proofs.Kept.{knows_later}
 use Rattle.harris_list_form.proofs.Keeps.{shape_keeps, search_keeps}
 use Rattle.harris_list_form.proofs.Opening.{opens, effective_at, causes_within}
-use Rattle.harris_list_form.proofs.Searching.{begins_knowing, asks_well, fed_well}
+use Rattle.harris_list_form.proofs.Searching.{begins_asking, begins_knowing, asks_well, fed_well}
 use Rattle.harris_list_form.proofs.Offers.{contends, lists_well, offers, same_entries}
 use Rattle.harris_list_form.proofs.Wrapping.{begun_well}
 use Rattle.harris_list_form.proofs.Changes.{Extends}
@@ -32,7 +32,7 @@ module _ (lists : Lists) (are : AreLists lists) where
         one_change_a_block = λ world sorted. sorted.made.blocks_differ;
         causes_differ = λ world sorted. sorted.has_path.journal.causes_differ;
         causes_bounded = causes_within lists are;
-        begins_asking = λ op command. tt;
+        begins_asking = λ op command. begins_asking lists are op;
         begins_knowing = λ world op command sorted. begins_knowing lists are world op command;
         notes_plain = λ block field some low. note_plain lists are block field some low;
         knows_kept = λ world after searched op since command sorted knows step. knows_later lists are world after sorted (later lists are world after sorted step) searched op since knows;
@@ -42,7 +42,7 @@ module _ (lists : Lists) (are : AreLists lists) where
         search_fed = λ world after seen searched op since command sorted asks knows requested.
             let w = went (list_form lists) (asked searched) world after seen requested in
             let kept = requested_later lists are (asked searched) world after seen sorted (asked_moves lists are world op.key since searched asks knows.learnt) requested in
-            fed_well lists are world after seen searched op since (key_limit lists.client are.sets op command) sorted (search_keeps lists are world after seen op.key since searched sorted kept asks knows.learnt w) asks knows
+            fed_well lists are world after seen searched op since command sorted (search_keeps lists are world after seen op.key since searched sorted kept asks knows.learnt w) asks knows
             (knows_later lists are world after sorted kept searched op since knows) w;
         contends = λ searched seen asks found. contends lists searched seen found;
         lists = λ world searched op since command knows ready. lists_well searched op ready knows.serves;
@@ -74,6 +74,7 @@ one_list_is =
       behind = λ place is. omega (arith, eqb-true place 46 is);
       within = λ place is. omega (arith, eqb-true place 46 is, second_block);
       opening = λ place is. null_at place;
+      least = λ op command code key. refl;
     }
 
 pub the_list_laws : Laws (list_form the_list)

@@ -8,6 +8,7 @@ pub mod Kept
 pub mod Sets
 pub mod Runs
 pub mod Marks
+pub mod Least
 pub mod Journal
 pub mod Shapes
 pub mod Adds
@@ -15,6 +16,7 @@ pub mod Dels
 pub mod Commands
 pub mod Keeps
 pub mod Opening
+pub mod LeastSearching
 pub mod Searching
 pub mod Offers
 pub mod Wrapping

@@ -5,6 +5,8 @@ use Rattle.std.proofs.lemmas.Bool.{false≢true, eqb-true, cond-true, cond-false
 use Rattle.std.proofs.lemmas.List.Elements.{All-nil, All-cons}
 use Rattle.std.proofs.lemmas.List.Kept.{AllPairs-cons}
 use Rattle.lin_report.specs.declared.calls.Op.{Op}
+use Rattle.lin_report.specs.declared.calls.Reply.TheVariants.{Empty}
+use Rattle.lin_report.specs.declared.calls.Outcome.TheVariants.{Plain}
 use Rattle.lin_report.specs.declared.calls.TheConstants.{ADD, DEL}
 use Rattle.lin_report.specs.Commands.{KEY_LIMIT, may_exhaust}
 use Rattle.step_memory.specs.declared.steps.Seen.{Seen}
@@ -13,7 +15,7 @@ use Rattle.node_arena.specs.declared.places.TheConstants.{NODE_KEY, NODE_NEXT}
 use Rattle.node_arena.specs.MemoryMap.{reference_to}
 use Rattle.node_arena.proofs.PlaceLemmas.{node_place-reference_to}
 use Rattle.normal_traits.specs.declared.form.Found.{Found}
-use Rattle.normal_traits.specs.declared.form.Found.TheVariants.{Going, Ready, Contended}
+use Rattle.normal_traits.specs.declared.form.Found.TheVariants.{Going, Ready, Answer, Contended}
 use Rattle.normal_traits.specs.declared.lists.Entry.{Entry}
 use Rattle.normal_traits.specs.World.{World}
 use Rattle.normal_traits.specs.Laws.{MayContend, IsGoodEntry, IsGoodStore, IsGoodOffer}
@@ -22,8 +24,9 @@ use Rattle.harris_list_form.specs.declared.states.Aim.TheVariants.{Add, Del, Has
 use Rattle.harris_list_form.specs.declared.states.Sought.{Sought}
 use Rattle.harris_list_form.specs.declared.states.Left.{Left}
 use Rattle.harris_list_form.specs.declared.states.ListSearch.{ListSearch}
-use Rattle.harris_list_form.specs.declared.states.ListSearch.TheVariants.{Start, Next, Key, Unlink, AddReady, DelReady}
+use Rattle.harris_list_form.specs.declared.states.ListSearch.TheVariants.{Start, Next, Key, Unlink, AddReady, DelReady, LeastStart, LeastNext, LeastUnlink, LeastKey}
 use Rattle.harris_list_form.specs.Lists.{Lists, AreLists}
+use Rattle.harris_list_form.specs.Least.{least_reached, least_met, least_moved}
 use Rattle.harris_list_form.specs.Search.{is_add, may_list, led, is_marked, leading, marking, next_place, decided_absent, decided_found, decided, finished, moved_on, fed, IsReady, offered, add_offer, del_offer}
 use Rattle.harris_list_form.specs.Nodes.{next_at, key_at, place_rank, rank_of}
 use Rattle.harris_list_form.specs.Shape.{AreSorted}
@@ -33,7 +36,7 @@ use Rattle.harris_list_form.proofs.Places.{key_is, next_is, rank_next, rank_name
 use Rattle.harris_list_form.proofs.Links.{positive, link_word, link_versioned, node_of, named_link}
 use Rattle.harris_list_form.proofs.Entries.{adds_is}
 use Rattle.client_lemmas.proofs.Offers.{may_exhaust_at, one_entry, two_apart}
-use Rattle.client_lemmas.proofs.Outcomes.{gives_up}
+use Rattle.client_lemmas.proofs.Outcomes.{gives_up, either}
 
 -- ---- giving up
 
@@ -90,6 +93,25 @@ moved_gives stay sought left run cur up = by_null (eqb cur 0) up
     by_null true is = by_which (finished_gives stay left cur 0 sought run false is)
     by_null false is = absurd (false≢true is)
 
+-- on the way to the least key
+reached_goes : (stay : ListSearch) (cur : ℕ) → gives (least_reached stay cur) ≡ false
+reached_goes stay cur = either (λ result. gives result ≡ false) (eqb cur 0) (stay, Answer (Plain Empty)) (LeastKey cur, Going) refl refl
+
+least_gives : (stay : ListSearch) (left : Left) (run : Bool) (cur : ℕ) → gives (least_met stay left run cur) ≡ true → (run ≡ true) × (versioned_bit left.word ≡ 1)
+least_gives stay left true cur up = (refl, by_bit (is_modified left.word) refl up)
+  where
+    by_bit : (set : Bool) → is_modified left.word ≡ set → gives (cond set (stay, Contended) (LeastUnlink left cur, Going)) ≡ true → versioned_bit left.word ≡ 1
+    by_bit true e is = eqb-true (versioned_bit left.word) 1 e
+    by_bit false e is = absurd (false≢true is)
+least_gives stay left false cur up = absurd (false≢true (sym (reached_goes stay cur) ∙ up))
+
+least_moved_gives : (stay : ListSearch) (left : Left) (run : Bool) (cur : ℕ) → gives (least_moved stay left run cur) ≡ true → (run ≡ true) × (versioned_bit left.word ≡ 1)
+least_moved_gives stay left run cur up = by_null (eqb cur 0) up
+  where
+    by_null : (null : Bool) → gives (cond null (least_met stay left run cur) (LeastNext left run cur, Going)) ≡ true → (run ≡ true) × (versioned_bit left.word ≡ 1)
+    by_null true is = least_gives stay left run cur is
+    by_null false is = absurd (false≢true is)
+
 module _ (lists : Lists) where
   pub contends : (searched : ListSearch) (seen : Seen) → (fed searched seen).1 ≡ Contended → MayContend (list_form lists) searched seen
   contends (Start sought start) seen e =
@@ -122,6 +144,19 @@ module _ (lists : Lists) where
           → MayContend (list_form lists) (Unlink sought left cur next found) seen
       by_won true is up = by_which (decided_gives (Unlink sought left cur next found) (record { place = left.place; word = leading left.word cur }) cur next sought found up)
       by_won false is up = inr (inl (left.place, left.word, leading left.word cur, refl, is))
+  contends (LeastStart start) seen e =
+      absurd (false≢true (least_moved_gives (LeastStart start) (record { place = start; word = seen.before }) false (led seen.before) (ap gives_up e)).0)
+  contends (LeastNext left run cur) seen e = inl (left.word, refl, by_mark (is_marked seen.before) (ap gives_up e))
+    where
+      by_mark : (marked : Bool) → gives (cond marked (least_moved (LeastNext left run cur) left true (led seen.before)) (least_met (LeastNext left run cur) left run cur)) ≡ true → versioned_bit left.word ≡ 1
+      by_mark true up = (least_moved_gives (LeastNext left run cur) left true (led seen.before) up).1
+      by_mark false up = (least_gives (LeastNext left run cur) left run cur up).1
+  contends (LeastUnlink left cur) seen e = by_won seen.won refl (ap gives_up e)
+    where
+      by_won : (won : Bool) → seen.won ≡ won → gives (cond won (least_reached (LeastUnlink left cur) cur) (LeastUnlink left cur, Contended)) ≡ true → MayContend (list_form lists) (LeastUnlink left cur) seen
+      by_won true is up = absurd (false≢true (sym (reached_goes (LeastUnlink left cur) cur) ∙ up))
+      by_won false is up = inr (inl (left.place, left.word, leading left.word cur, refl, is))
+  contends (LeastKey cur) seen e = absurd (false≢true (ap gives_up e))
   contends (AddReady left cur) seen e = absurd (false≢true (ap gives_up e))
   contends (DelReady left cur next) seen e = absurd (false≢true (ap gives_up e))
 

@@ -2,6 +2,7 @@
 use Rattle.std.proofs.Common.{◌≡◌, ◌≢◌, ℕ, ◌+◌, ◌*◌, ◌/◌, ◌^◌, ◌<◌, ◌≤◌, Bool, true, false, cond, eqb, leb, ◌||◌, length, refl, sym, ap, ◌∙◌, subst, inl, inr, arith}
 use Rattle.std.proofs.lemmas.Bool.{true≢false, eqb-true, eqb-false, leb-true, leb-false, cond-false, ne_eqb, or_parts}
 use Rattle.lin_report.specs.declared.calls.Op.{Op}
+use Rattle.lin_report.specs.declared.calls.TheConstants.{MIN}
 use Rattle.lin_report.specs.Commands.{KEY_LIMIT, IsCommandOf}
 use Rattle.lin_report.specs.Object.{object_of}
 use Rattle.step_memory.specs.declared.steps.Seen.{Seen}
@@ -16,25 +17,26 @@ use Rattle.harris_list_form.specs.declared.states.Aim.TheVariants.{Add, Del, Has
 use Rattle.harris_list_form.specs.declared.states.Sought.{Sought}
 use Rattle.harris_list_form.specs.declared.states.Left.{Left}
 use Rattle.harris_list_form.specs.declared.states.ListSearch.{ListSearch}
-use Rattle.harris_list_form.specs.declared.states.ListSearch.TheVariants.{Start, Next, Key, Unlink, AddReady, DelReady}
+use Rattle.harris_list_form.specs.declared.states.ListSearch.TheVariants.{Start, Next, Key, Unlink, AddReady, DelReady, LeastStart, LeastNext, LeastUnlink, LeastKey}
 use Rattle.harris_list_form.specs.Lists.{Lists, AreLists}
-use Rattle.harris_list_form.specs.Search.{led, is_marked, leading, next_place, key_place, begun, asked, decided_absent, decided_found, decided, finished, moved_on, met_next, met_key, fed, Asks}
+use Rattle.harris_list_form.specs.Search.{led, is_marked, leading, next_place, key_place, sought_of, begun, asked, decided_absent, decided_found, decided, finished, moved_on, met_next, met_key, fed, Asks}
 use Rattle.harris_list_form.specs.Nodes.{holds, is_node, node_key, next_at, node_rank, place_rank, rank_of, LAST_RANK, IsLink, IsNamed}
 use Rattle.harris_list_form.specs.Path.{IsPath, parity}
 use Rattle.harris_list_form.specs.Shape.{AreSorted}
-use Rattle.harris_list_form.specs.Knowledge.{WasHeld, WasGap, AtLeft, AtCur, AtNext, IsRun, Between, Compared, Learnt, code_of, IsFor, Knows}
+use Rattle.harris_list_form.specs.Knowledge.{WasHeld, WasGap, WasLeast, AtLeft, AtCur, AtNext, IsRun, Between, Compared, Learnt, code_of, IsFor, Knows}
 use Rattle.harris_list_form.specs.Knowledge.IsRun.{ends}
 use Rattle.harris_list_form.specs.Form.{list_form}
 use Rattle.harris_list_form.proofs.Places.{start_word, key_word, rank_start, rank_next, rank_named}
 use Rattle.harris_list_form.proofs.Links.{positive, link_word, link_versioned, node_of, named_link, block_named}
-use Rattle.harris_list_form.proofs.Commands.{aim_is}
+use Rattle.harris_list_form.proofs.Commands.{aim_is, key_limit}
 use Rattle.harris_list_form.proofs.Sets.{object_is, has_right, del_right, add_right}
 use Rattle.harris_list_form.proofs.Marks.{stands_now, none_held}
 use Rattle.harris_list_form.proofs.Runs.{run_more}
+use Rattle.harris_list_form.proofs.LeastSearching.{reached_well, least_started, least_nexted, least_keyed}
 use Rattle.client_lemmas.proofs.Words.{clear_from, same_place}
 use Rattle.client_lemmas.proofs.Growing.{first_all}
 use Rattle.client_lemmas.proofs.Requests.{Went, from_load}
-use Rattle.client_lemmas.proofs.Outcomes.{FedWell}
+use Rattle.client_lemmas.proofs.Outcomes.{FedWell, either}
 
 pub led_below : (word : ℕ) → led word < 2 ^ 23
 led_below word = omega (arith, value_below word)
@@ -42,8 +44,15 @@ led_below word = omega (arith, value_below word)
 module _ (lists : Lists) (are : AreLists lists) where
   -- ---- the beginning
 
+  pub begins_asking : (op : Op) → Asks (begun lists op)
+  begins_asking op = either Asks (eqb op.code MIN) (LeastStart (lists.start_of op.key)) (Start (sought_of op) (lists.start_of op.key)) tt tt
+
   pub begins_knowing : (world : World) (op : Op) → IsCommandOf lists.client op → Knows lists (begun lists op) op world (length world.changes)
-  begins_knowing world op command = record { serves = (aim_is lists.client are.sets op command, refl); began = omega arith; learnt = refl }
+  begins_knowing world op command = by_code (eqb op.code MIN) refl
+    where
+      by_code : (min : Bool) → eqb op.code MIN ≡ min → Knows lists (cond min (LeastStart (lists.start_of op.key)) (Start (sought_of op) (lists.start_of op.key))) op world (length world.changes)
+      by_code true e = record { serves = eqb-true op.code MIN e; began = omega arith; learnt = refl }
+      by_code false e = record { serves = (aim_is lists.client are.sets op command e, refl); began = omega arith; learnt = refl }
 
   -- ---- what it asks for
 
@@ -60,6 +69,18 @@ module _ (lists : Lists) (are : AreLists lists) where
     λ listable. l.2,
     (2 * cur, omega (arith, asks), refl),
   )
+  asks_well world (LeastStart start) key since sorted asks l = ap (is_word world) l ∙ start_word lists are world (lists.start_of key) sorted.first (are.starts key)
+  asks_well world (LeastNext left run cur) key since sorted asks l =
+      link_word lists are world sorted (lists.start_of key) (next_place cur) (named_link lists are world sorted (lists.start_of key) cur l.0.was.named l.1)
+  asks_well world (LeastUnlink left cur) key since sorted asks l = (
+    link_word lists are world sorted (lists.start_of key) left.place l.0.at.link,
+    link_versioned lists are world sorted (lists.start_of key) left.place l.0.at.link,
+    λ listable. l.1,
+    (2 * cur, omega (arith, asks), refl),
+  )
+  asks_well world (LeastKey cur) key since sorted asks l =
+      let node = node_of lists are world sorted (lists.start_of key) cur l.0 l.1 in
+      ap (λ r. is_word world (key_place r)) node.2 ∙ key_word world node.0 (sorted.stored node.0 node.1.node).used
   asks_well world (AddReady left cur) key since sorted asks l = absurd asks
   asks_well world (DelReady left cur next) key since sorted asks l = absurd asks
 
@@ -297,18 +318,31 @@ module _ (lists : Lists) (are : AreLists lists) where
 
   -- ---- a step
 
-  pub fed_well : (world after : World) (seen : Seen) (searched : ListSearch) (op : Op) (since : ℕ) → op.key < KEY_LIMIT → AreSorted lists world → AreSorted lists after → Asks searched
+  pub fed_well : (world after : World) (seen : Seen) (searched : ListSearch) (op : Op) (since : ℕ) → IsCommandOf lists.client op → AreSorted lists world → AreSorted lists after → Asks searched
       → Knows lists searched op world since → Knows lists searched op after since → Went (list_form lists) (asked searched) world after seen → FedWell (list_form lists) after op since (fed searched seen)
-  fed_well world after seen (Start sought start) op since limit sorted later asks knows still w =
-      from_load world after seen start (λ a s. FedWell (list_form lists) a op since (fed (Start sought start) s)) w (start_met world sorted op since start sought limit knows)
-  fed_well world after seen (Next sought left run cur) op since limit sorted later asks knows still w =
-      from_load world after seen (next_place cur) (λ a s. FedWell (list_form lists) a op since (fed (Next sought left run cur) s)) w (next_met world sorted op since cur sought left run limit asks knows)
-  fed_well world after seen (Key sought left run cur next) op since limit sorted later asks knows still w =
-      from_load world after seen (key_place cur) (λ a s. FedWell (list_form lists) a op since (fed (Key sought left run cur next) s)) w (key_met world sorted op since cur next sought left run limit asks knows)
-  fed_well world after seen (Unlink sought left cur next found) op since limit sorted later asks knows still (inl w) =
+  fed_well world after seen (Start sought start) op since command sorted later asks knows still w =
+      from_load world after seen start (λ a s. FedWell (list_form lists) a op since (fed (Start sought start) s)) w (start_met world sorted op since start sought (key_limit lists.client are.sets op command) knows)
+  fed_well world after seen (Next sought left run cur) op since command sorted later asks knows still w =
+      from_load world after seen (next_place cur) (λ a s. FedWell (list_form lists) a op since (fed (Next sought left run cur) s)) w (next_met world sorted op since cur sought left run (key_limit lists.client are.sets op command) asks knows)
+  fed_well world after seen (Key sought left run cur next) op since command sorted later asks knows still w =
+      from_load world after seen (key_place cur) (λ a s. FedWell (list_form lists) a op since (fed (Key sought left run cur next) s)) w (key_met world sorted op since cur next sought left run (key_limit lists.client are.sets op command) asks knows)
+  fed_well world after seen (Unlink sought left cur next found) op since command sorted later asks knows still (inl w) =
       subst (λ (s : Seen). FedWell (list_form lists) after op since (fed (Unlink sought left cur next found) s)) (sym w.2) (still, tt)
-  fed_well world after seen (Unlink sought left cur next found) op since limit sorted later asks knows still (inr w) =
+  fed_well world after seen (Unlink sought left cur next found) op since command sorted later asks knows still (inr w) =
       subst (λ (s : Seen). FedWell (list_form lists) after op since (fed (Unlink sought left cur next found) s)) (sym w.3)
-      (unlink_met after later op since cur next sought left found limit asks still
+      (unlink_met after later op since cur next sought left found (key_limit lists.client are.sets op command) asks still
       (ap (λ (a : World). a.words left.place) w.2 ∙ same_place left.place (leading left.word cur) world.words))
-  fed_well world after seen _ op since limit sorted later asks knows still w = absurd asks
+  fed_well world after seen (LeastStart start) op since command sorted later asks knows still w =
+      from_load world after seen start (λ a s. FedWell (list_form lists) a op since (fed (LeastStart start) s)) w (least_started lists are world sorted op since knows.serves (are.least op command knows.serves) start knows)
+  fed_well world after seen (LeastNext left run cur) op since command sorted later asks knows still w =
+      from_load world after seen (next_place cur) (λ a s. FedWell (list_form lists) a op since (fed (LeastNext left run cur) s)) w
+      (least_nexted lists are world sorted op since knows.serves (are.least op command knows.serves) left run cur asks knows)
+  fed_well world after seen (LeastUnlink left cur) op since command sorted later asks knows still (inl w) =
+      subst (λ (s : Seen). FedWell (list_form lists) after op since (fed (LeastUnlink left cur) s)) (sym w.2) (still, tt)
+  fed_well world after seen (LeastUnlink left cur) op since command sorted later asks knows still (inr w) =
+      subst (λ (s : Seen). FedWell (list_form lists) after op since (fed (LeastUnlink left cur) s)) (sym w.3)
+      (reached_well lists are after later op since knows.serves (are.least op command knows.serves) (LeastUnlink left cur) still cur asks still.learnt.0.was.named
+      (subst (λ changes. WasLeast lists changes since (lists.start_of op.key) cur) (sym (ap (λ (a : World). a.changes) w.2)) (knows.learnt.3 w.0)))
+  fed_well world after seen (LeastKey cur) op since command sorted later asks knows still w =
+      from_load world after seen (key_place cur) (λ a s. FedWell (list_form lists) a op since (fed (LeastKey cur) s)) w (least_keyed lists are world sorted op since knows.serves (are.least op command knows.serves) cur knows)
+  fed_well world after seen _ op since command sorted later asks knows still w = absurd asks

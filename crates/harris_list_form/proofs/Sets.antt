@@ -1,22 +1,23 @@
 -- What the set holds after the changes, and what an operation on it tells.
-use Rattle.std.proofs.Common.{◌≡◌, ◌≢◌, ℕ, zero, suc, ◌-◌, Bool, true, false, not, eqb, ◌==◌, ◌||◌, ◌&&◌, List, [], ◌∷◌, ◌++◌, length, drop, refl, sym, ap, ◌∙◌, inl, inr, ◌⊎◌, arith}
-use Rattle.std.proofs.lemmas.Bool.{true≢false, false≢true, cond-true, cond-false, eq-eqb, ne_eqb, cases_eq}
+use Rattle.std.proofs.Common.{◌≡◌, ◌≢◌, ℕ, zero, suc, ◌-◌, ◌/◌, ◌<◌, ◌≤◌, Bool, true, false, not, ◌==◌, ◌||◌, ◌&&◌, List, [], ◌∷◌, ◌++◌, length, drop, refl, sym, ap, ◌∙◌, inl, inr, ◌⊎◌, arith}
+use Rattle.std.proofs.lemmas.Bool.{true≢false, false≢true, eq-eqb, ne_eqb, cases_eq, cases_lt}
 use Rattle.std.specs.Ordering.{nat_cmp}
-use Rattle.std.specs.Cmp.{nat_cmp_total, unsigned_tied}
 use Rattle.std.specs.FinSet as set
 use Rattle.lin_report.specs.declared.calls.Client.{Client}
 use Rattle.lin_report.specs.declared.calls.Client.TheVariants as client
 use Rattle.lin_report.specs.declared.calls.Op.{Op}
 use Rattle.lin_report.specs.declared.calls.Reply.{Reply}
-use Rattle.lin_report.specs.declared.calls.Reply.TheVariants.{Yes, No}
+use Rattle.lin_report.specs.declared.calls.Reply.TheVariants.{Yes, No, Value, Empty}
 use Rattle.lin_report.specs.declared.calls.Outcome.TheVariants.{Plain}
-use Rattle.lin_report.specs.declared.calls.TheConstants.{ADD, DEL, HAS}
-use Rattle.lin_report.specs.Object.{Object, object_of, set_object, set_apply, yes_if}
+use Rattle.lin_report.specs.declared.calls.TheConstants.{ADD, DEL, HAS, MIN}
+use Rattle.lin_report.specs.Object.{Object, object_of, set_object, list_object, set_apply, yes_if, value_or_empty}
+use Rattle.lin_report.proofs.Least.{Keys, least_is, least_none}
+use Rattle.lin_report.proofs.AppliedSets.{applied_add, applied_del, applied_has, applied_min, contains_insert, contains_remove, insert_same, remove_same}
 use Rattle.normal_traits.specs.World.{Change, World, held_after, first_changes, Observes, RightSince}
-use Rattle.harris_list_form.specs.Lists.{IsOfSets}
-use Rattle.harris_list_form.specs.Nodes.{holds}
+use Rattle.harris_list_form.specs.Lists.{Lists, IsOfSets}
+use Rattle.harris_list_form.specs.Nodes.{holds, node_key}
 use Rattle.harris_list_form.specs.Shape.{AreEffective}
-use Rattle.harris_list_form.specs.Knowledge.{WasHeld}
+use Rattle.harris_list_form.specs.Knowledge.{WasHeld, WasLeast}
 use Rattle.harris_list_form.proofs.Changes.{holds_own, holds_other}
 use Rattle.harris_list_form.proofs.Entries.{adds_is, dels_is}
 
@@ -32,58 +33,61 @@ pub record IsSet (object : Object) : Type 0 where
   pub add_stays : (op : Op) (held : object.Held) → op.code ≡ ADD → has held op.key ≡ true → (object.apply op held).0 ≡ held
   pub del_stays : (op : Op) (held : object.Held) → op.code ≡ DEL → has held op.key ≡ false → (object.apply op held).0 ≡ held
   pub has_stays : (op : Op) (held : object.Held) → op.code ≡ HAS → (object.apply op held).0 ≡ held
+  pub min_told : (op : Op) (held : object.Held) (key : ℕ) → op.code ≡ MIN → has held key ≡ true → ((lower : ℕ) → lower < key → has held lower ≡ false) → (object.apply op held).1 ≡ Value key
+  pub none_told : (op : Op) (held : object.Held) → op.code ≡ MIN → ((key : ℕ) → has held key ≡ false) → (object.apply op held).1 ≡ Empty
+  pub min_stays : (op : Op) (held : object.Held) → op.code ≡ MIN → (object.apply op held).0 ≡ held
 
 -- ---- the set object is one
 
-applied_add : (op : Op) (keys : set.FinSet nat_cmp) → op.code ≡ ADD → set_apply op keys ≡ (set.insert keys op.key, yes_if (not (set.contains keys op.key)))
-applied_add op keys e = cond-true (eqb op.code ADD) _ _ (eq-eqb op.code ADD e)
-
-applied_del : (op : Op) (keys : set.FinSet nat_cmp) → op.code ≡ DEL → set_apply op keys ≡ (set.remove keys op.key, yes_if (set.contains keys op.key))
-applied_del op keys e = cond-false (eqb op.code ADD) _ _ (ne_eqb op.code ADD (λ add. omega (arith, e, add))) ∙ cond-true (eqb op.code DEL) _ _ (eq-eqb op.code DEL e)
-
-applied_has : (op : Op) (keys : set.FinSet nat_cmp) → op.code ≡ HAS → set_apply op keys ≡ (keys, yes_if (set.contains keys op.key))
-applied_has op keys e =
-    cond-false (eqb op.code ADD) _ _ (ne_eqb op.code ADD (λ add. omega (arith, e, add))) ∙ cond-false (eqb op.code DEL) _ _ (ne_eqb op.code DEL (λ del. omega (arith, e, del)))
-
-contains_insert : (keys : set.FinSet nat_cmp) (k key : ℕ) → set.contains (set.insert keys k) key ≡ (key == k || set.contains keys key)
-contains_insert keys k key = set.contains-insert nat_cmp_total keys k key ∙ ap (λ b. b || set.contains keys key) (unsigned_tied key k)
-
-contains_remove : (keys : set.FinSet nat_cmp) (k key : ℕ) → set.contains (set.remove keys k) key ≡ (not (key == k) && set.contains keys key)
-contains_remove keys k key = set.contains-remove nat_cmp_total keys k key ∙ ap (λ b. not b && set.contains keys key) (unsigned_tied key k)
-
--- a key that is there already, and one that isn't
-insert_same : (keys : set.FinSet nat_cmp) (k : ℕ) → set.contains keys k ≡ true → set.insert keys k ≡ keys
-insert_same keys k there = set.same_set nat_cmp_total set.nat_cmp-IsAntisymmetric (set.insert keys k) keys (λ key. contains_insert keys k key ∙ by_key key (cases_eq key k))
+-- the least key is told, where a member is below no other
+min_told : (op : Op) (keys : Keys) (key : ℕ) → op.code ≡ MIN → set.contains keys key ≡ true → ((lower : ℕ) → lower < key → set.contains keys lower ≡ false) → (set_apply op keys).1 ≡ Value key
+min_told op keys key e there none =
+    ap (λ (r : Keys × Reply). r.1) (applied_min op keys e) ∙ ap value_or_empty (least_is keys key there (λ other is. by_order other is (cases_lt other key)))
   where
-    by_key : (key : ℕ) → (key ≡ k) ⊎ (key ≡ k → ⊥) → (key == k || set.contains keys key) ≡ set.contains keys key
-    by_key key (inl same) = ap (λ b. b || set.contains keys key) (eq-eqb key k same) ∙ sym (ap (set.contains keys) same ∙ there)
-    by_key key (inr other) = ap (λ b. b || set.contains keys key) (ne_eqb key k other)
-
-remove_same : (keys : set.FinSet nat_cmp) (k : ℕ) → set.contains keys k ≡ false → set.remove keys k ≡ keys
-remove_same keys k absent = set.same_set nat_cmp_total set.nat_cmp-IsAntisymmetric (set.remove keys k) keys (λ key. contains_remove keys k key ∙ by_key key (cases_eq key k))
-  where
-    by_key : (key : ℕ) → (key ≡ k) ⊎ (key ≡ k → ⊥) → (not (key == k) && set.contains keys key) ≡ set.contains keys key
-    by_key key (inl same) = ap (λ b. not b && set.contains keys key) (eq-eqb key k same) ∙ sym (ap (set.contains keys) same ∙ absent)
-    by_key key (inr other) = ap (λ b. not b && set.contains keys key) (ne_eqb key k other)
+    by_order : (other : ℕ) → set.contains keys other ≡ true → (other < key) ⊎ (key ≤ other) → key ≤ other
+    by_order other is (inl lower) = absurd (true≢false (sym is ∙ none other lower))
+    by_order other is (inr higher) = higher
 
 set_is : IsSet set_object
 set_is =
     record {
       has = set.contains;
       none = λ key. set.contains-empty nat_cmp key;
-      adds = λ op keys e key. ap (λ (r : set.FinSet nat_cmp × Reply). set.contains r.0 key) (applied_add op keys e) ∙ contains_insert keys op.key key;
-      deletes = λ op keys e key. ap (λ (r : set.FinSet nat_cmp × Reply). set.contains r.0 key) (applied_del op keys e) ∙ contains_remove keys op.key key;
-      add_told = λ op keys e. ap (λ (r : set.FinSet nat_cmp × Reply). r.1) (applied_add op keys e);
-      del_told = λ op keys e. ap (λ (r : set.FinSet nat_cmp × Reply). r.1) (applied_del op keys e);
-      has_told = λ op keys e. ap (λ (r : set.FinSet nat_cmp × Reply). r.1) (applied_has op keys e);
-      add_stays = λ op keys e there. ap (λ (r : set.FinSet nat_cmp × Reply). r.0) (applied_add op keys e) ∙ insert_same keys op.key there;
-      del_stays = λ op keys e absent. ap (λ (r : set.FinSet nat_cmp × Reply). r.0) (applied_del op keys e) ∙ remove_same keys op.key absent;
-      has_stays = λ op keys e. ap (λ (r : set.FinSet nat_cmp × Reply). r.0) (applied_has op keys e);
+      adds = λ op keys e key. ap (λ (r : Keys × Reply). set.contains r.0 key) (applied_add op keys e) ∙ contains_insert keys op.key key;
+      deletes = λ op keys e key. ap (λ (r : Keys × Reply). set.contains r.0 key) (applied_del op keys e) ∙ contains_remove keys op.key key;
+      add_told = λ op keys e. ap (λ (r : Keys × Reply). r.1) (applied_add op keys e);
+      del_told = λ op keys e. ap (λ (r : Keys × Reply). r.1) (applied_del op keys e);
+      has_told = λ op keys e. ap (λ (r : Keys × Reply). r.1) (applied_has op keys e);
+      add_stays = λ op keys e there. ap (λ (r : Keys × Reply). r.0) (applied_add op keys e) ∙ insert_same keys op.key there;
+      del_stays = λ op keys e absent. ap (λ (r : Keys × Reply). r.0) (applied_del op keys e) ∙ remove_same keys op.key absent;
+      has_stays = λ op keys e. ap (λ (r : Keys × Reply). r.0) (applied_has op keys e);
+      min_told = min_told;
+      none_told = λ op keys e none. ap (λ (r : Keys × Reply). r.1) (applied_min op keys e) ∙ ap value_or_empty (least_none keys none);
+      min_stays = λ op keys e. ap (λ (r : Keys × Reply). r.0) (applied_min op keys e);
+    }
+
+-- that of the list differs in what it serves alone
+list_is : IsSet list_object
+list_is =
+    record {
+      has = set_is.has;
+      none = set_is.none;
+      adds = set_is.adds;
+      deletes = set_is.deletes;
+      add_told = set_is.add_told;
+      del_told = set_is.del_told;
+      has_told = set_is.has_told;
+      add_stays = set_is.add_stays;
+      del_stays = set_is.del_stays;
+      has_stays = set_is.has_stays;
+      min_told = set_is.min_told;
+      none_told = set_is.none_told;
+      min_stays = set_is.min_stays;
     }
 
 pub object_is : (c : Client) → IsOfSets c → IsSet (object_of c)
 object_is client.Queue sets = absurd sets
-object_is client.List sets = set_is
+object_is client.List sets = list_is
 object_is client.Tree sets = absurd sets
 object_is client.Buckets sets = set_is
 
@@ -167,6 +171,28 @@ module _ (object : Object) (is : IsSet object) where
 
     pub add_right : op.code ≡ ADD → WasHeld world.changes since op.key true → RightSince object world op since (Plain No)
     add_right code was = told_right No true was (λ held. (is.add_stays op _ code held, sym (is.add_told op _ code ∙ ap (λ b. yes_if (not b)) held)))
+
+    -- ---- the least key of the one list
+
+    module _ (lists : Lists) (start reference : ℕ) (code : op.code ≡ MIN) (one : (key : ℕ) → lists.start_of key ≡ start) (was : WasLeast lists world.changes since start reference) where
+      abbrev then : object.Held
+      then = held_after object (first_changes was.count world.changes)
+
+      then_held : (key : ℕ) → is.has then key ≡ holds (first_changes was.count world.changes) key
+      then_held = held_is (first_changes was.count world.changes) (dropped (length world.changes - was.count) world.changes effective)
+
+      right : (reply : Reply) → reply ≡ (object.apply op then).1 → RightSince object world op since (Plain reply)
+      right reply told =
+          record { count = was.count; not_before = was.not_before; made = was.made; observes = is.min_stays op then code; told = told }
+
+      pub min_right : reference ≢ 0 → RightSince object world op since (Plain (Value (node_key world.changes (reference / 4))))
+      min_right some =
+          right (Value (node_key world.changes (reference / 4)))
+          (sym (is.min_told op then (node_key world.changes (reference / 4)) code (then_held (node_key world.changes (reference / 4)) ∙ was.held some)
+          (λ lower low. then_held lower ∙ was.none lower (one lower) (inr low))))
+
+      pub none_right : reference ≡ 0 → RightSince object world op since (Plain Empty)
+      none_right null = right Empty (sym (is.none_told op then code (λ key. then_held key ∙ was.none key (one key) (inl null))))
 
 -- the set holds the keys that the newest changes tell
 pub set_held : (changes : List Change) → AreEffective changes → (key : ℕ) → set.contains (held_after set_object changes) key ≡ holds changes key

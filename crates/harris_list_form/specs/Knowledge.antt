@@ -2,7 +2,7 @@
 -- word that stands there now, but where a word was seen with its bit clear.
 use Rattle.std.specs.Prelude.{◌≡◌, ◌≢◌, ℕ, ◌+◌, ◌/◌, ◌%◌, ◌<◌, ◌≤◌, Bool, true, false, ◌⊎◌, List, length}
 use Rattle.lin_report.specs.declared.calls.Op.{Op}
-use Rattle.lin_report.specs.declared.calls.TheConstants.{ADD, DEL, HAS}
+use Rattle.lin_report.specs.declared.calls.TheConstants.{ADD, DEL, HAS, MIN}
 use Rattle.step_memory.specs.declared.steps.Seen.{Seen}
 use Rattle.word_fields.specs.Versioned.{versioned_value, versioned_bit}
 use Rattle.node_arena.specs.MemoryMap.{reference_to}
@@ -12,7 +12,7 @@ use Rattle.harris_list_form.specs.declared.states.Aim.TheVariants.{Add, Del, Has
 use Rattle.harris_list_form.specs.declared.states.Sought.{Sought}
 use Rattle.harris_list_form.specs.declared.states.Left.{Left}
 use Rattle.harris_list_form.specs.declared.states.ListSearch.{ListSearch}
-use Rattle.harris_list_form.specs.declared.states.ListSearch.TheVariants.{Start, Next, Key, Unlink, AddReady, DelReady}
+use Rattle.harris_list_form.specs.declared.states.ListSearch.TheVariants.{Start, Next, Key, Unlink, AddReady, DelReady, LeastStart, LeastNext, LeastUnlink, LeastKey}
 use Rattle.harris_list_form.specs.declared.states.ListWrap.{ListWrap}
 use Rattle.harris_list_form.specs.Lists.{Lists}
 use Rattle.harris_list_form.specs.Search.{led, leading, next_place}
@@ -34,6 +34,14 @@ pub record WasGap (lists : Lists) (changes : List Change) (since start low high 
   pub not_before : since ≤ count
   pub made : count ≤ length changes
   pub none : (key : ℕ) → lists.start_of key ≡ start → low < key + 1 → key + 1 < high → holds (first_changes count changes) key ≡ false
+
+-- likewise, it held the key of this node and no lower key of the list, or where the reference is null no key of it
+pub record WasLeast (lists : Lists) (changes : List Change) (since start reference : ℕ) : Type 0 where
+  pub count : ℕ
+  pub not_before : since ≤ count
+  pub made : count ≤ length changes
+  pub held : reference ≢ 0 → holds (first_changes count changes) (node_key changes (reference / 4)) ≡ true
+  pub none : (key : ℕ) → lists.start_of key ≡ start → (reference ≡ 0) ⊎ (key < node_key changes (reference / 4)) → holds (first_changes count changes) key ≡ false
 
 -- ---- on the way
 
@@ -75,7 +83,20 @@ abbrev pub Compared : Lists → World → ℕ → ℕ → ℕ → ℕ → Bool �
 Compared lists world key since cur next true = (rank_of world.changes cur ≡ key + 1) × AtNext lists world key since cur next
 Compared lists world key since cur next false = key + 1 < rank_of world.changes cur
 
--- what a search of a key has learnt from its words
+-- the beginning of the list was seen, and a node that was come to from there, or the end
+pub record AtFirst (lists : Lists) (world : World) (key : ℕ) (left : Left) (cur : ℕ) : Type 0 where
+  pub place : left.place ≡ lists.start_of key
+  pub at : AtLeft lists world key left
+  pub was : AtCur lists world key left cur
+
+-- the first node: if it is unmarked now, its key was the least. Marks stay, so what is known only gets less.
+-- Behind a run nothing is known of it yet: a lower key may have been added at the beginning since
+abbrev pub FromFirst : Lists → World → ℕ → ℕ → Left → ℕ → Bool → Type 0
+FromFirst lists world key since left cur true = IsRun world cur (led left.word)
+FromFirst lists world key since left cur false =
+    (led left.word ≡ cur) × (parity world.words (next_place cur) ≡ 0 → WasLeast lists world.changes since (lists.start_of key) cur)
+
+-- what a search has learnt from its words. That of a least key has the key 0 for the one that is looked for
 abbrev pub Learnt : Lists → World → ℕ → ℕ → ListSearch → Type 0
 Learnt lists world key since (Start sought start) = start ≡ lists.start_of key
 Learnt lists world key since (Next sought left run cur) =
@@ -90,6 +111,13 @@ Learnt lists world key since (AddReady left cur) =
 Learnt lists world key since (DelReady left cur next) =
     AtLeft lists world key left × AtCur lists world key left cur × (versioned_bit left.word ≡ 0) × (led left.word ≡ cur) × (rank_of world.changes cur ≡ key + 1)
     × AtNext lists world key since cur next × (versioned_bit next ≡ 0)
+Learnt lists world key since (LeastStart start) = start ≡ lists.start_of key
+Learnt lists world key since (LeastNext left run cur) = AtFirst lists world key left cur × (cur ≢ 0) × FromFirst lists world key since left cur run
+Learnt lists world key since (LeastUnlink left cur) =
+    AtFirst lists world key left cur × (versioned_bit left.word ≡ 0) × IsRun world cur (led left.word)
+    × (world.words left.place ≡ left.word → WasLeast lists world.changes since (lists.start_of key) cur)
+Learnt lists world key since (LeastKey cur) =
+    IsNamed lists world.changes (lists.start_of key) cur × (cur ≢ 0) × WasLeast lists world.changes since (lists.start_of key) cur
 
 -- the operation is the one that the search is for
 abbrev pub code_of : Aim → ℕ
@@ -107,6 +135,10 @@ Serves (Key sought left run cur next) op = IsFor sought op
 Serves (Unlink sought left cur next found) op = IsFor sought op
 Serves (AddReady left cur) op = op.code ≡ ADD
 Serves (DelReady left cur next) op = op.code ≡ DEL
+Serves (LeastStart start) op = op.code ≡ MIN
+Serves (LeastNext left run cur) op = op.code ≡ MIN
+Serves (LeastUnlink left cur) op = op.code ≡ MIN
+Serves (LeastKey cur) op = op.code ≡ MIN
 
 -- what a search for an operation has learnt since there were so many changes
 pub record Knows (lists : Lists) (search : ListSearch) (op : Op) (world : World) (since : ℕ) : Type 0 where
@@ -122,6 +154,10 @@ Keeps (Key sought left run cur next) seen word = (left.word ≡ word) ⊎ (next 
 Keeps (Unlink sought left cur next found) seen word = (leading left.word cur ≡ word) ⊎ (next ≡ word)
 Keeps (AddReady left cur) seen word = ⊥
 Keeps (DelReady left cur next) seen word = ⊥
+Keeps (LeastStart start) seen word = ⊥
+Keeps (LeastNext left run cur) seen word = left.word ≡ word
+Keeps (LeastUnlink left cur) seen word = ⊥
+Keeps (LeastKey cur) seen word = ⊥
 
 -- ---- wrap-ups
 

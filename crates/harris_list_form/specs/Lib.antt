@@ -1,4 +1,5 @@
 pub mod Lists
+pub mod Least
 pub mod Search
 pub mod Wrap
 pub mod Nodes

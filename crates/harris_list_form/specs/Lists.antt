@@ -2,6 +2,9 @@
 use Rattle.std.specs.Prelude.{◌≡◌, ℕ, ◌+◌, ◌<◌, ◌≤◌, ◌==◌, nat_le, ◌||◌, ◌&&◌, Bool, true}
 use Rattle.lin_report.specs.declared.calls.Client.{Client}
 use Rattle.lin_report.specs.declared.calls.Client.TheVariants as client
+use Rattle.lin_report.specs.declared.calls.Op.{Op}
+use Rattle.lin_report.specs.declared.calls.TheConstants.{MIN}
+use Rattle.lin_report.specs.Commands.{IsCommandOf}
 use Rattle.node_arena.specs.declared.places.TheConstants.{FIRST_WORDS, NODE_FIELD, NODE_NEXT}
 use Rattle.node_arena.specs.MemoryMap.{field_at, block_place}
 use Rattle.node_arena.specs.Opening.{opening_word}
@@ -27,6 +30,8 @@ pub record AreLists (lists : Lists) : Type 0 where
   pub behind : (place : ℕ) → lists.is_start place ≡ true → FIRST_WORDS ≤ place
   pub within : (place : ℕ) → lists.is_start place ≡ true → place < block_place 1 0
   pub opening : (place : ℕ) → lists.is_start place ≡ true → opening_word lists.client place ≡ 0
+  -- where the least key is asked for there is one list
+  pub least : (op : Op) → IsCommandOf lists.client op → op.code ≡ MIN → (key : ℕ) → lists.start_of key ≡ lists.start_of op.key
 
 -- a place of the next word of a block's node 1
 abbrev pub is_next : ℕ → Bool

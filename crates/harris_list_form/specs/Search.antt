@@ -3,7 +3,7 @@ use Rattle.std.specs.Prelude.{ℕ, ◌+◌, ◌*◌, ◌/◌, ◌%◌, ◌^◌, 
 use Rattle.lin_report.specs.declared.calls.Op.{Op}
 use Rattle.lin_report.specs.declared.calls.Reply.TheVariants.{Yes, No}
 use Rattle.lin_report.specs.declared.calls.Outcome.TheVariants.{Plain}
-use Rattle.lin_report.specs.declared.calls.TheConstants.{ADD, DEL}
+use Rattle.lin_report.specs.declared.calls.TheConstants.{ADD, DEL, MIN}
 use Rattle.step_memory.specs.declared.steps.Request.{Request}
 use Rattle.step_memory.specs.declared.steps.Request.TheVariants.{Load, Exchange}
 use Rattle.step_memory.specs.declared.steps.Seen.{Seen}
@@ -18,8 +18,9 @@ use Rattle.harris_list_form.specs.declared.states.Aim.TheVariants.{Add, Del, Has
 use Rattle.harris_list_form.specs.declared.states.Sought.{Sought}
 use Rattle.harris_list_form.specs.declared.states.Left.{Left}
 use Rattle.harris_list_form.specs.declared.states.ListSearch.{ListSearch}
-use Rattle.harris_list_form.specs.declared.states.ListSearch.TheVariants.{Start, Next, Key, Unlink, AddReady, DelReady}
+use Rattle.harris_list_form.specs.declared.states.ListSearch.TheVariants.{Start, Next, Key, Unlink, AddReady, DelReady, LeastStart, LeastNext, LeastUnlink, LeastKey}
 use Rattle.harris_list_form.specs.Lists.{Lists}
+use Rattle.harris_list_form.specs.Least.{least_reached, least_met, least_moved, least_told}
 
 -- ---- words
 
@@ -63,9 +64,9 @@ aim_of op = if op.code == ADD then Add else (if op.code == DEL then Del else Has
 abbrev pub sought_of : Op → Sought
 sought_of op = record { aim = aim_of op; key = op.key }
 
--- a search that begins at the place where a list begins
+-- a search that begins at the place where a list begins: of a key, or of the least one
 abbrev pub begun_at : ℕ → Op → ListSearch
-begun_at start op = Start (sought_of op) start
+begun_at start op = if op.code == MIN then LeastStart start else Start (sought_of op) start
 
 abbrev pub begun : Lists → Op → ListSearch
 begun lists op = begun_at (lists.start_of op.key) op
@@ -78,6 +79,10 @@ asked (Key sought left run cur next) = Load (key_place cur)
 asked (Unlink sought left cur next found) = Exchange left.place left.word (leading left.word cur)
 asked (AddReady left cur) = Load left.place
 asked (DelReady left cur next) = Load left.place
+asked (LeastStart start) = Load start
+asked (LeastNext left run cur) = Load (next_place cur)
+asked (LeastUnlink left cur) = Exchange left.place left.word (leading left.word cur)
+asked (LeastKey cur) = Load (key_place cur)
 
 -- the key is absent: the left word leads to a node of a higher key or to the end
 abbrev pub decided_absent : ListSearch → Aim → Left → ℕ → ListSearch × Found
@@ -113,6 +118,10 @@ met_key stay sought left run cur next key =
     if nat_le sought.key key then finished stay sought left run cur next (key == sought.key)
     else moved_on stay sought (record { place = next_place cur; word = next }) false (led next)
 
+-- the next word of a node was loaded, on the way to the least one
+abbrev pub met_least : ListSearch → Left → Bool → ℕ → ℕ → ListSearch × Found
+met_least stay left run cur next = if is_marked next then least_moved stay left true (led next) else least_met stay left run cur
+
 -- what a search is after its step, and what it found
 abbrev pub fed : ListSearch → Seen → ListSearch × Found
 fed (Start sought start) seen = moved_on (Start sought start) sought (record { place = start; word = seen.before }) false (led seen.before)
@@ -123,6 +132,10 @@ fed (Unlink sought left cur next found) seen =
     else (Unlink sought left cur next found, Contended)
 fed (AddReady left cur) seen = (AddReady left cur, Ready)
 fed (DelReady left cur next) seen = (DelReady left cur next, Ready)
+fed (LeastStart start) seen = least_moved (LeastStart start) (record { place = start; word = seen.before }) false (led seen.before)
+fed (LeastNext left run cur) seen = met_least (LeastNext left run cur) left run cur seen.before
+fed (LeastUnlink left cur) seen = if seen.won then least_reached (LeastUnlink left cur) cur else (LeastUnlink left cur, Contended)
+fed (LeastKey cur) seen = least_told (LeastKey cur) seen.before
 
 -- a search has a next step; its reference is one that a next word can lead to
 abbrev pub Asks : ListSearch → Type 0
@@ -132,6 +145,10 @@ Asks (Key sought left run cur next) = cur < 2 ^ 23
 Asks (Unlink sought left cur next found) = cur < 2 ^ 23
 Asks (AddReady left cur) = ⊥
 Asks (DelReady left cur next) = ⊥
+Asks (LeastStart start) = Unit {0}
+Asks (LeastNext left run cur) = cur < 2 ^ 23
+Asks (LeastUnlink left cur) = cur < 2 ^ 23
+Asks (LeastKey cur) = cur < 2 ^ 23
 
 -- a search can name a list
 abbrev pub IsReady : ListSearch → Type 0

@@ -69,6 +69,25 @@ pub enum ListSearch {
         cur: u32,
         next: u64,
     },
+    /// A search of the least key: the beginning of the list is loaded next.
+    LeastStart {
+        start: u32,
+    },
+    /// The next word of `cur` is loaded next. It is the first node, or in a run the one behind marked nodes.
+    LeastNext {
+        left: Left,
+        run: bool,
+        cur: u32,
+    },
+    /// The marked nodes before `cur`, or before the end where it is null, are unlinked next.
+    LeastUnlink {
+        left: Left,
+        cur: u32,
+    },
+    /// The key of `cur`, which was the least, is loaded next.
+    LeastKey {
+        cur: u32,
+    },
 }
 
 /// Where a wrap-up stands. It takes no step.

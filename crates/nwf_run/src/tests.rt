@@ -2,6 +2,7 @@
 mod buckets;
 mod bytes;
 mod faults;
+mod least_keys;
 mod lists;
 mod loads;
 mod meeting;
