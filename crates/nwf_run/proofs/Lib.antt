@@ -14,3 +14,6 @@ pub mod ThreadRuns
 pub mod Stopped
 pub mod LoadRuns
 pub mod SweepRuns
+pub mod SameRuns
+pub mod AskedOfCore
+pub mod Due

@@ -10,3 +10,4 @@ pub mod Loads
 pub mod Sweeps
 pub mod Replaying
 pub mod Running
+pub mod Answers

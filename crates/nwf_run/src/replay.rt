@@ -1,9 +1,10 @@
 //! `replay`, `sweep` and `load`: runs command files by a schedule and writes the report, or with a seat that stops and
 //! writes a line for each stop, or generated files in rounds and writes the summary.
-ghost use Rattle.std.specs.Prelude.{◌≡◌, ◌≢◌, ◌↔◌, ◌⊎◌, ◌≤◌, ◌+◌, ℕ, List, None, Some, map, length, IfOk, IfErr, IsSomeAnd, IsErrOf, string_bytes};
+ghost use Rattle.std.specs.Prelude.{◌≡◌, ◌≢◌, ◌↔◌, ◌⊎◌, ◌≤◌, ◌+◌, ℕ, List, None, Some, map, length, IfOk, IfErr, IsSomeAnd, IsErrOf, IsTrue, string_bytes};
 ghost use Rattle.std.specs.Io.KnownBytes.{Appends};
 ghost use Rattle.script_reader.specs.declared.causes.Refusal.{Refusal};
 ghost use Rattle.whole_files.specs.Outside.{Rose, AppendsPrefix, WritesMessage};
+ghost use Rattle.nwf_run.specs.Answers.{GivesDue, IsDue};
 ghost use Rattle.nwf_run.specs.Reading.{FaultsAsTold, Opens, OpensUntil, Reaches, Refuses, StopsAt};
 ghost use Rattle.nwf_run.specs.Replaying.{Ends, AreRunsFor, Makes, OpensAll, OpensFor, OpensSome, Reports, RunsMeetHeadline, StopsFor, text_for};
 ghost use Rattle.nwf_run.specs.Runs.{FilesRun};
@@ -149,6 +150,10 @@ pub fn replay_main<F: Files, K: Sink>(
     ensures done { result ≡ 0 → IsSomeAnd (asked_words (map string_bytes words.now)) (λ a. (runs : List FilesRun) × AreRunsFor (F.tells files.old) (F.held files.old) a runs × RunsMeetHeadline (client_asked a) runs × (¬ SomeExhausts runs) × Appends (K.written out.old) (K.written out.new) (text_for a runs)) }
     ensures exhausted { result ≡ 7 → IsSomeAnd (asked_words (map string_bytes words.now)) (λ a. (runs : List FilesRun) × AreRunsFor (F.tells files.old) (F.held files.old) a runs × RunsMeetHeadline (client_asked a) runs × SomeExhausts runs × Appends (K.written out.old) (K.written out.new) (text_for a runs)) }
     ensures cut { result ≡ 5 → IsSomeAnd (asked_words (map string_bytes words.now)) (λ a. (runs : List FilesRun) × AreRunsFor (F.tells files.old) (F.held files.old) a runs × RunsMeetHeadline (client_asked a) runs × AppendsPrefix (K.written out.old) (K.written out.new) (text_for a runs)) }
+
+    // Where bytes are told, the words and the held bytes alone decide the status and the text, in whatever pieces
+    // files and sink pass them on, but for a fault or want of memory.
+    ensures due { IsTrue (F.tells files.old) → (due : ℕ) (text : List ℕ) → IsDue (F.held files.old) (asked_words (map string_bytes words.now)) due text → GivesDue due text result (K.written out.old) (K.written out.new) (K.faults out.old) (K.faults out.new) }
 
     // A file is refused only where it is there and not accepted and each file before it is, and the message
     // names it. No later one was opened.

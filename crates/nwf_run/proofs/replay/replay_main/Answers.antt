@@ -1,5 +1,8 @@
-use Rattle.std.proofs.Common.{map, string_bytes}
+use Rattle.std.proofs.Common.{map, string_bytes, ℕ, Bool, true, List, Option, Result, IfOk, IfErr, IsSomeAnd, subst}
 use Rattle.nwf_run.specs.Words.{asked_words}
+use Rattle.nwf_run.specs.Replaying.{Makes, StopsFor}
+use Rattle.nwf_run.proofs.AskedOfCore.{words_of_core}
+use Rattle.nwf_run.proofs.Due.{gives_due}
 use Rattle.nwf_run.proofs.Endings.{done, exhausted, cut, all_opened}
 use Rattle.nwf_run.proofs.Stopped.{none_opened, refused, some_opened, unread, usage}
 use Rattle.nwf_run.proofs.replay.replay_main.Goals as goal
@@ -49,3 +52,13 @@ pub returns-clause-unread : goal.returns-clause-unread
 returns-clause-unread g c =
     unread (g.K.Sink.written c.args.out.now) (g.K.Sink.written c.finish.new.out) (g.K.Sink.faults c.args.out.now) (g.K.Sink.faults c.finish.new.out) c.finish.result (g.F.Files.tells c.args.files.now) (g.F.Files.held c.args.files.now) (g.F.Files.faults c.args.files.now) (g.F.Files.opened c.args.files.now) (g.F.Files.opened c.answer-answer.new.files)
     (asked_words (map string_bytes c.args.words.now)) c.answer-answer.result c.answer-answer.ensures.stops c.answer-answer.ensures.opened c.finish.ensures
+
+pub returns-clause-due : goal.returns-clause-due
+returns-clause-due g c tells due text is =
+    let held = g.F.Files.held c.args.files.now in
+    let asked = asked_words (map string_bytes c.args.words.now) in
+    gives_due held (g.K.Sink.written c.args.out.now) (g.K.Sink.written c.finish.new.out) (g.K.Sink.faults c.args.out.now) (g.K.Sink.faults c.finish.new.out) c.finish.result due text
+    asked c.answer-answer.result (words_of_core (map string_bytes c.args.words.now))
+    (subst (λ (b : Bool). IfOk c.answer-answer.result (λ made. IsSomeAnd asked (λ a. Makes b held a made.text.items made.exhausted))) tells c.answer-answer.ensures.text)
+    (subst (λ (b : Bool). IfErr c.answer-answer.result (StopsFor b held asked)) tells c.answer-answer.ensures.stops)
+    c.finish.ensures is
