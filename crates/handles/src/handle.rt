@@ -2,8 +2,10 @@
 ghost use Rattle.std.specs.Prelude.{◌≡◌, ◌+◌, ◌<◌, IsTrue, IfOk, OnErr, false, length, true};
 ghost use Rattle.lin_report.specs.Commands.{is_command};
 ghost use Rattle.node_arena.specs.Opening.{IsLaidOut};
-ghost use Rattle.shared_memory.specs.Closing.{Closes, IsWhole};
+ghost use Rattle.shared_memory.specs.Closing.{IsWhole};
 ghost use Rattle.shared_memory.specs.Views.{cut_left, first_view, glued, new_view};
+ghost use Rattle.thread_runs.specs.Whole.{IsRun};
+ghost use Rattle.handles.specs.Closing.{all_lines, files_in};
 ghost use Rattle.handles.specs.Held.{HasCalled};
 
 use fast_slow_engine::{Machine, Setup};
@@ -104,12 +106,13 @@ impl<C: Normalized> Handle<C> {
         shared.gather(&mut self.port, port);
     }
 
-    /// Ends the run, once every handle was taken into this one, and tells its two counters. Some run left these
-    /// counters and gave each seat, at rest, the lines that the handle's view has of it.
+    /// Ends the run, once every handle was taken into this one, and tells its two counters. The lines that the view has
+    /// are all lines of a run with these counters, in which each seat made the calls of its lines and none is left.
     pub fn close(self, shared: Shared<C>) -> Totals
         requires table { self.table ≡ shared.table }
         requires whole { IsWhole self.view }
-        ensures { Closes C.form self.view result.ticks result.claimed }
+        ensures seats { length (files_in self.view) ≡ self.view.machine.setup.seats }
+        ensures run { IsRun C.form self.view.machine.setup (files_in self.view) (all_lines self.view) result.ticks result.claimed }
     {
         let Handle { port, machine: _ } = self;
         shared.close(port)
