@@ -11,7 +11,7 @@ use Rattle.lin_report.specs.declared.calls.Outcome.TheVariants.{Plain, ValueOf}
 use Rattle.lin_report.specs.declared.calls.Reply.{Reply}
 use Rattle.lin_report.specs.declared.calls.Reply.TheVariants.{No, Yes, Absent, Value}
 use Rattle.lin_report.specs.declared.calls.Client.TheVariants.{Tree}
-use Rattle.lin_report.specs.declared.calls.TheConstants.{SET, REM, GET, HAS}
+use Rattle.lin_report.specs.declared.calls.TheConstants.{SET, REM, GET, HAS, PEEK, MIN}
 use Rattle.lin_report.specs.Object.{map_apply, set_absent, value_or_absent, yes_if}
 use Rattle.lin_report.specs.Commands.{IsCommandOf, takes_key, may_exhaust, KEY_LIMIT}
 use Rattle.node_arena.specs.declared.places.TheConstants.{NODE_VALUE}
@@ -139,7 +139,7 @@ observed world op register pairs command key same names tells = rw key (by_code 
     by_code (inr (inr e)) = subst (λ c. IsObserved world register op.value c pairs) (sym e) (observed_get world register op.value pairs names tells)
 
 abbrev may : ℕ → Type 0
-may code = IsTrue (code == SET || code == REM) × IsTrue (not (code == HAS || code == GET))
+may code = IsTrue (code == SET || code == REM) × IsTrue (not (code == HAS || code == GET || code == PEEK || code == MIN))
 
 -- an operation that would change the register may be listed, and may find no block
 pub listed : (op : Op) (register : ℕ) → toggles op register ≡ true → IsTrue (op.code == SET || op.code == REM) × IsTrue (may_exhaust op)

@@ -1,9 +1,9 @@
 //! Reports of queues whose first value is looked at.
 use super::rows::{AMPLE, ONE, Row, TWO, bytes_of, compare, files_of};
 use super::runs::ran;
-use crate::outside::SinkInMemory;
 use std::test::Fail;
 use thread_runs::NoGate;
+use whole_files::SinkInMemory;
 
 /// Looks before, between and after.
 const LOOKS: &str = "peek/put 4294967295/peek/take/peek/";
