@@ -93,7 +93,7 @@ const REFUSED: [Row; 19] = [
     (
         ONE_LIST,
         "0 end/",
-        "min/",
+        "peek/",
         3,
         "nwf: refused file 1 line 1 cause 1/",
     ),
