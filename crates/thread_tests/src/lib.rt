@@ -3,7 +3,7 @@
 #![tactic(auto)]
 
 #[cfg(test)]
-mod handles;
+mod handle_calls;
 #[cfg(test)]
 mod ports;
 #[cfg(test)]
