@@ -39,7 +39,9 @@ def command(random, client, value):
     if client == "queue":
         if random.random() < 0.5:
             return f"put {random.choice([value, value, value, 4294967295 - value, 0])}"
-        return "take"
+        return random.choice(["take", "take", "peek"])
+    if client == "list" and random.random() < 0.2:
+        return "min"
     key = random.choice([0, 1, 1, 2, 33, 1048575])
     if client == "tree":
         return random.choice([f"set {key} {value}", f"set {key} {4294967295 - value}", f"rem {key}", f"rem {key}", f"get {key}"])

@@ -2,15 +2,17 @@
 from dataclasses import dataclass
 
 # how many numbers each command has
-NUMBERS = {"put": 1, "take": 0, "add": 1, "del": 1, "has": 1, "set": 2, "rem": 1, "get": 1}
+NUMBERS = {"put": 1, "take": 0, "peek": 0, "add": 1, "del": 1, "has": 1, "min": 0, "set": 2, "rem": 1, "get": 1}
 
 # replies that a call of each command may have
 REPLIES = {
     "put": ("done", "exhausted"),
     "take": ("value", "empty", "exhausted"),
+    "peek": ("value", "empty"),
     "add": ("yes", "no", "exhausted"),
     "del": ("yes", "no", "exhausted"),
     "has": ("yes", "no"),
+    "min": ("value", "empty"),
     "set": ("yes", "no", "exhausted"),
     "rem": ("yes", "no", "exhausted"),
     "get": ("value", "absent"),

@@ -8,12 +8,17 @@ def after_queue(state, command, reply):
         return state + (int(numbers[0]),) if reply in ("done", "pending") else None
     if not state:
         return state if reply in ("empty", "pending") else None
-    return state[1:] if reply in (f"value {state[0]}", "pending") else None
+    after = state if name == "peek" else state[1:]
+    return after if reply in (f"value {state[0]}", "pending") else None
 
 
 def after_list(state, command, reply):
     """The set after the command, where it may reply so; None otherwise."""
-    name, key = command.split(" ")
+    name, *numbers = command.split(" ")
+    if name == "min":
+        right = f"value {min(state, key=int)}" if state else "empty"
+        return state if reply in (right, "pending") else None
+    (key,) = numbers
     was = key in state
     if name == "add":
         after, right = state | {key}, "no" if was else "yes"
