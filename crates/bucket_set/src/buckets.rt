@@ -5,9 +5,12 @@ ghost use Rattle.bucket_set.specs.Buckets.{bucket_count, start_of};
 use harris_list::list_steps::ListSteps;
 use harris_list::{HarrisList, Seeking};
 use harris_list_form::ListWrap;
-use lin_report::{Client, Op};
+use lin_report::commands::is_command;
+use lin_report::{Client, NoMemory, Op};
+use node_arena::opening_words;
 use node_arena::places::FIRST_WORDS;
 use normal_traits::{Found, List, Normalized, Stores, Wrapped};
+use std::alloc::Global;
 use step_memory::{Request, Seen};
 use whole_calls::{Seeks, Steps};
 
@@ -38,8 +41,6 @@ fn start_of(asked: u32, key: u32) -> u32
 }
 
 impl<const N: u32> Normalized for BucketSet<N> {
-    ghost use Rattle.std.specs.Prelude.{refl};
-    ghost use Rattle.lin_report.specs.declared.calls.Client.{Client};
     ghost use Rattle.harris_list_form.specs.Form.{list_form};
     ghost use Rattle.bucket_set.specs.Buckets.{buckets};
     ghost use Rattle.bucket_set.specs.ProvedLaws.{bucket_laws};
@@ -48,11 +49,15 @@ impl<const N: u32> Normalized for BucketSet<N> {
 
     type Wrap = ListWrap;
 
-    const CLIENT: Client = Client::Buckets;
-
-    ghost CLIENT = { Client.Buckets };
-
     ghost form = { list_form (buckets N) };
+
+    fn opening(alloc: Global, cap: u32) -> Result<Vec<u64>, NoMemory> {
+        opening_words(alloc, cap, Client::Buckets)
+    }
+
+    fn serves(op: Op) -> bool {
+        is_command(Client::Buckets, op)
+    }
 
     fn needs_block(op: Op) -> bool {
         HarrisList::needs_block(op)
@@ -91,8 +96,6 @@ impl<const N: u32> Normalized for BucketSet<N> {
     }
 
     ghost laws = { bucket_laws N };
-
-    ghost named = { refl };
 }
 
 impl<const N: u32, P: Steps<BucketSet<N>>> ListSteps<P> for BucketSet<N> {

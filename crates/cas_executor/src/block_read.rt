@@ -1,6 +1,6 @@
 //! Reading a block that was offered.
 ghost use Rattle.std.specs.Prelude.{◌≡◌, ℕ, ◌<◌, ◌^◌, ◌↔◌};
-ghost use Rattle.cas_executor.specs.BlockReads.{ReadWalk, IsReading, given_at, IsLast, read_at, read_fed, read_new, read_request, read_result};
+ghost use Rattle.cas_executor.specs.BlockReads.{ReadWalk, IsReading, given_at, IsLast, read_at, read_fed, read_field, read_new, read_request, read_result};
 
 use node_arena::place_of;
 use node_arena::places::{ENTRY_FIELD, ENTRY_FIELDS, LENGTH_FIELD, OP_FIELD, VALUE_FIELD};
@@ -67,27 +67,36 @@ impl BlockRead {
     }
 
     /// The load of the next word.
+    #[inline(always)]
     pub fn request(&self) -> Request
         requires { IsReading self.now }
         ensures { result ≡ read_request self.now }
     {
-        let entry = ENTRY_FIELD + ENTRY_FIELDS * self.list.len() as u32;
-        let field = match self.step {
+        let read = ENTRY_FIELDS * self.list.len() as u32;
+        Request::Load {
+            at: place_of(self.block, self.first_field() + read),
+        }
+    }
+
+    /// The field that is loaded next, were no entry read.
+    #[inline(always)]
+    fn first_field(&self) -> u32
+        ensures { result ≡ read_field self.now.step 0 }
+    {
+        match self.step {
             ReadStep::Op => OP_FIELD,
             ReadStep::Value => VALUE_FIELD,
             ReadStep::Length => LENGTH_FIELD,
-            ReadStep::Target => entry,
-            ReadStep::From => entry + 1,
-            ReadStep::To => entry + 2,
-        };
-        Request::Load {
-            at: place_of(self.block, field),
+            ReadStep::Target => ENTRY_FIELD,
+            ReadStep::From => ENTRY_FIELD + 1,
+            ReadStep::To => ENTRY_FIELD + 2,
         }
     }
 
     /// Takes a loaded word, also one that no run would show: a length other than 1 and 2 is read as 1, and a
     /// target modulo 2^32. Gives op word, value word and list at the last word, and `None` exactly where words
     /// are still to be loaded.
+    #[inline(always)]
     pub fn feed(&mut self, seen: Seen) -> Option<(u64, u64, List)>
         requires { IsReading self.old }
         ensures given { result ≡ read_result self.old seen }
@@ -130,7 +139,8 @@ impl BlockRead {
         None
     }
 
-    /// An entry's last word was loaded.
+    /// An entry's last word was loaded. It stands for itself, so that no other step makes room for a list.
+    #[inline(never)]
     fn end_entry(&mut self, to: u64) -> Option<(u64, u64, List)>
         requires reading { IsReading self.old }
         requires at_end { self.old.step ≡ ReadStep.To }

@@ -121,6 +121,7 @@ impl SlowRun {
     }
 
     /// The next step.
+    #[inline(always)]
     pub fn request(&self) -> Request
         requires { IsWalking self.now }
         ensures { result ≡ slow_request self.now }
@@ -156,6 +157,7 @@ impl SlowRun {
     /// Takes what the step saw, also where no run would show it. The run stops exactly at an entry that is
     /// seen to have failed, or to be undecided still after this helper tried to decide it, which no run shows,
     /// and at the length behind the last one.
+    #[inline(always)]
     pub fn feed(&mut self, seen: Seen) -> Execution
         requires { IsWalking self.old }
         ensures execution { result ≡ slow_execution self.old seen }

@@ -8,10 +8,10 @@ use Rattle.step_memory.specs.declared.steps.Request.TheVariants.{Load, Store, Ex
 use Rattle.step_memory.specs.declared.steps.Seen.{Seen}
 use Rattle.word_fields.specs.Versioned.{cleared_word}
 use Rattle.normal_traits.specs.declared.lists.Entry.{Entry}
-use Rattle.normal_traits.specs.World.{Listed, Maker, Cause, Won, Change, World, Among, is_word, Took}
+use Rattle.normal_traits.specs.World.{Listed, Maker, Cause, Won, Change, World, Among, Took, is_word}
 use Rattle.normal_traits.specs.World.Maker.{By, Beside}
 use Rattle.normal_traits.specs.NormalForm.{NormalForm}
-use Rattle.normal_traits.specs.Steps.{object, with_word, with_change, listed_if, IsExchanged, IsOffered, Requested, IsStep}
+use Rattle.normal_traits.specs.Steps.{with_word, with_change, listed_if, IsExchanged, IsOffered, Requested, IsStep}
 use Rattle.normal_traits.specs.Steps.Requested.{loaded, lost, won}
 use Rattle.normal_traits.specs.Steps.IsStep.{nothing, elsewhere, clears, searches, wraps, first, first_of_block, second}
 use Rattle.client_lemmas.proofs.Words.{Rises, rises_at, exchanged_rises, all_put, beside_word}
@@ -40,8 +40,8 @@ module _ {S W : Type 0} (form : NormalForm S W) (Extends : List Change → List 
   pub record Later (world after : World) : Type 0 where
     pub extends : Extends world.changes after.changes
     pub used : (block : ℕ) → world.used block ≡ true → after.used block ≡ true
-    pub rises : (place : ℕ) → is_word world place ≡ true → form.is_versioned place ≡ true → Rises (world.words place) (after.words place)
-    pub moves : (place : ℕ) → is_word world place ≡ true → form.is_versioned place ≡ true → Moves (world.words place) (after.words place)
+    pub rises : (place : ℕ) → is_word form.is_root world place ≡ true → form.is_versioned place ≡ true → Rises (world.words place) (after.words place)
+    pub moves : (place : ℕ) → is_word form.is_root world place ≡ true → form.is_versioned place ≡ true → Moves (world.words place) (after.words place)
     pub journal : (won : Won) → Among won world.journal → Among won after.journal
     pub took : (list : Listed) (j : ℕ) → Took after list j → Took world list j ⊎ FindsWord world list j
 
@@ -56,9 +56,9 @@ module _ {S W : Type 0} (form : NormalForm S W) (Extends : List Change → List 
   pub record StepFacts : Type 0 where
     -- the same changes, one more beside the lists, one that a list's first entry made, and one of its second
     pub same : (changes : List Change) → Extends changes changes
-    pub beside : (world : World) (entry : Entry) → form.shape world → Extends world.changes (with_change (object form) (form.adds_beside world entry) world.changes)
-    pub first : (world : World) (list : Listed) → form.shape world → (form.needs_block list.call.op ≡ false) ⊎ (world.used list.block ≡ false) → Extends world.changes (with_change (object form) (listed_if (form.adds list 0) list) world.changes)
-    pub second : (world : World) (list : Listed) → form.shape world → Extends world.changes (with_change (object form) (listed_if (form.adds list 1) list) world.changes)
+    pub beside : (world : World) (entry : Entry) → form.shape world → Extends world.changes (with_change form.object (form.adds_beside world entry) world.changes)
+    pub first : (world : World) (list : Listed) → form.shape world → (form.needs_block list.call.op ≡ false) ⊎ (world.used list.block ≡ false) → Extends world.changes (with_change form.object (listed_if (form.adds list 0) list) world.changes)
+    pub second : (world : World) (list : Listed) → form.shape world → Extends world.changes (with_change form.object (listed_if (form.adds list 1) list) world.changes)
     -- a word that stays, one that is cleared, and one that is exchanged
     pub stays : (word : ℕ) → Moves word word
     pub clears : (word : ℕ) → Moves word (cleared_word word)
@@ -72,7 +72,7 @@ module _ {S W : Type 0} (form : NormalForm S W) (Extends : List Change → List 
         record { extends = facts.same world.changes; used = λ block u. u; rises = λ place w v. inl refl; moves = λ place w v. facts.stays (world.words place); journal = λ won a. a; took = λ list j t. inl t }
 
     -- a step that wins nothing
-    pub kept_later : (world : World) (words : ℕ → ℕ) → ((place : ℕ) → is_word world place ≡ true → Rises (world.words place) (words place)) → ((place : ℕ) → is_word world place ≡ true → Moves (world.words place) (words place))
+    pub kept_later : (world : World) (words : ℕ → ℕ) → ((place : ℕ) → is_word form.is_root world place ≡ true → Rises (world.words place) (words place)) → ((place : ℕ) → is_word form.is_root world place ≡ true → Moves (world.words place) (words place))
         → Later world (record { words = words; changes = world.changes; used = world.used; journal = world.journal })
     kept_later world words rises moves =
         record {
@@ -119,7 +119,7 @@ module _ {S W : Type 0} (form : NormalForm S W) (Extends : List Change → List 
     pub later : (world after : World) → form.shape world → IsStep form world after → Later world after
     later world _ shape nothing = later_same world
     later world _ shape (elsewhere place word none) =
-        kept_later world (with_word place word world.words) (λ at some. inl (beside_word world place word none at some)) (λ at some. subst (Moves (world.words at)) (sym (beside_word world place word none at some)) (facts.stays (world.words at)))
+        kept_later world (with_word place word world.words) (λ at some. inl (beside_word form.is_root world place word none at some)) (λ at some. subst (Moves (world.words at)) (sym (beside_word form.is_root world place word none at some)) (facts.stays (world.words at)))
     later world _ shape (clears place some versioned listable) =
         kept_later world (with_word place (cleared_word (world.words place)) world.words) (λ at w. rises_at world.words place (cleared_word (world.words place)) (inr (inl refl)) at)
         (λ at w. all_put Moves facts.stays world.words place (cleared_word (world.words place)) (facts.clears (world.words place)) at)

@@ -1,5 +1,5 @@
 -- Words: one that is put at a place, what becomes of a versioned word, and its parts.
-use Rattle.std.proofs.Common.{◌≡◌, ◌≢◌, ℕ, ◌^◌, ◌≤◌, ◌<◌, true, false, refl, sym, ap, ◌∙◌, subst, inl, inr, ◌⊎◌, arith}
+use Rattle.std.proofs.Common.{◌≡◌, ◌≢◌, ℕ, ◌^◌, ◌≤◌, ◌<◌, Bool, true, false, refl, sym, ap, ◌∙◌, subst, inl, inr, ◌⊎◌, arith}
 use Rattle.std.proofs.lemmas.Bool.{true≢false, cases_eq, eqb-false}
 use Rattle.word_fields.specs.Versioned.{versioned_value, versioned_bit, versioned_version, cleared_word, is_modified}
 use Rattle.word_fields.proofs.VersionedLemmas.{bit_below, version-cleared, cleared-clear}
@@ -15,12 +15,12 @@ pub same_place : (place word : ℕ) (words : ℕ → ℕ) → with_word place wo
 same_place place word words = word_put place word words place refl
 
 -- a client's word stands at no place that isn't one
-pub not_word : (world : World) (place at : ℕ) → is_word world place ≡ false → is_word world at ≡ true → at ≢ place
-not_word world place at none some e = true≢false (sym some ∙ ap (is_word world) e ∙ none)
+pub not_word : (is_root : ℕ → Bool) (world : World) (place at : ℕ) → is_word is_root world place ≡ false → is_word is_root world at ≡ true → at ≢ place
+not_word is_root world place at none some e = true≢false (sym some ∙ ap (is_word is_root world) e ∙ none)
 
 -- so a word that is put at no client's place leaves the client's words
-pub beside_word : (world : World) (put word : ℕ) → is_word world put ≡ false → (place : ℕ) → is_word world place ≡ true → with_word put word world.words place ≡ world.words place
-beside_word world put word none place some = word_beside put word world.words place (not_word world put place none some)
+pub beside_word : (is_root : ℕ → Bool) (world : World) (put word : ℕ) → is_word is_root world put ≡ false → (place : ℕ) → is_word is_root world place ≡ true → with_word put word world.words place ≡ world.words place
+beside_word is_root world put word none place some = word_beside put word world.words place (not_word is_root world put place none some)
 
 -- what holds of the word that is put and of each that stays holds of all
 pub all_put : (P : ℕ → ℕ → Type 0) → ((word : ℕ) → P word word) → (words : ℕ → ℕ) (place word : ℕ) → P (words place) word → (at : ℕ) → P (words at) (with_word place word words at)

@@ -4,8 +4,11 @@ use crate::offers::{add_stores_of, list_of, may_list};
 use crate::search::{asked, begun, fed};
 use crate::wrap::{begun_wrap, wrap_begun, wrap_fed};
 use ellen_tree_form::TreeSearch;
-use lin_report::{Client, Op};
+use lin_report::commands::is_command;
+use lin_report::{Client, NoMemory, Op};
+use node_arena::opening_words;
 use normal_traits::{Found, List, Normalized, Stores, Wrapped};
+use std::alloc::Global;
 use step_memory::{Request, Seen};
 use tree_help::Help;
 
@@ -13,8 +16,6 @@ use tree_help::Help;
 pub struct EllenTree;
 
 impl Normalized for EllenTree {
-    ghost use Rattle.std.specs.Prelude.{refl};
-    ghost use Rattle.lin_report.specs.declared.calls.Client.{Client};
     ghost use Rattle.ellen_tree_form.specs.Form.{tree_form};
     ghost use Rattle.ellen_tree.specs.ProvedLaws.{tree_laws};
 
@@ -22,11 +23,15 @@ impl Normalized for EllenTree {
 
     type Wrap = Help;
 
-    const CLIENT: Client = Client::Tree;
-
-    ghost CLIENT = { Client.Tree };
-
     ghost form = { tree_form };
+
+    fn opening(alloc: Global, cap: u32) -> Result<Vec<u64>, NoMemory> {
+        opening_words(alloc, cap, Client::Tree)
+    }
+
+    fn serves(op: Op) -> bool {
+        is_command(Client::Tree, op)
+    }
 
     fn needs_block(op: Op) -> bool {
         may_list(op)
@@ -67,6 +72,4 @@ impl Normalized for EllenTree {
     }
 
     ghost laws = { tree_laws };
-
-    ghost named = { refl };
 }

@@ -7,7 +7,7 @@ use Rattle.word_fields.proofs.VersionedLemmas.{bit-changed}
 use Rattle.node_arena.specs.declared.places.TheConstants.{FIRST_WORDS}
 use Rattle.node_arena.specs.MemoryMap.{block_place, node_place, reference_to}
 use Rattle.node_arena.proofs.PlaceLemmas.{block_place_behind, field_at-block_place, node_place-reference_to}
-use Rattle.normal_traits.specs.World.{Listed, World, is_word}
+use Rattle.normal_traits.specs.World.{Listed, World, is_word, no_root}
 use Rattle.normal_traits.specs.Laws.{AsksWell}
 use Rattle.tree_help.specs.declared.states.Flag.{Flag}
 use Rattle.tree_help.specs.declared.states.Help.{Help}
@@ -68,16 +68,16 @@ update_versioned node = or_right (is_child (update_at node)) (is_update (update_
 -- ---- helps
 
 module _ (world : World) (shape : Shape world) where
-  pub node_word : (node field : ℕ) → is_node world.changes node ≡ true → 12 ≤ field → field < 32 → is_word world (block_place node field) ≡ true
+  pub node_word : (node field : ℕ) → is_node world.changes node ≡ true → 12 ≤ field → field < 32 → is_word no_root world (block_place node field) ≡ true
   node_word node field is high small = field_word world node field (shape.stored node is).used high small
 
-  pub child_word : (node : ℕ) (left : Bool) → is_node world.changes node ≡ true → is_word world (child_at node left) ≡ true
+  pub child_word : (node : ℕ) (left : Bool) → is_node world.changes node ≡ true → is_word no_root world (child_at node left) ≡ true
   child_word node left is = node_word node (child_field left) is (field_high left) (field_small left)
 
   module _ (list : Listed) where
-    note_word : (flag : Flag) (note : ℕ) → note < 5 → IsFlag world list flag → is_word world (note_at (flag_block flag) note) ≡ true
+    note_word : (flag : Flag) (note : ℕ) → note < 5 → IsFlag world list flag → is_word no_root world (note_at (flag_block flag) note) ≡ true
     note_word flag note small is =
-        ap (λ b. is_word world (note_at b note)) (own_block world list flag shape is) ∙ field_word world list.block (27 + note) (shape.flaggers list is.flagged).used (omega arith) (omega (arith, small))
+        ap (λ b. is_word no_root world (note_at b note)) (own_block world list flag shape is) ∙ field_word world list.block (27 + note) (shape.flaggers list is.flagged).used (omega arith) (omega (arith, small))
 
     small_block : (flag : Flag) → IsFlag world list flag → flag_block flag < 2 ^ 17
     small_block flag is = omega (arith, own_block world list flag shape is, (shape.flaggers list is.flagged).small)
@@ -90,7 +90,7 @@ module _ (world : World) (shape : Shape world) where
         let word : flag.word ≡ (flags_at node is.flagged.from list).to = ap (λ (f : Flag). f.word) (is.own ∙ ap flag_of is.flagged.entries) in
         let checks = shape.flaggers list is.flagged in
         let small : 4 * list.block + flag_state list.call.op < 2 ^ 24 = omega (arith, checks.small, state_below list checks.small) in (
-          ap (is_word world) place ∙ node_word node 21 checks.is (omega arith) (omega arith),
+          ap (is_word no_root world) place ∙ node_word node 21 checks.is (omega arith) (omega arith),
           ap is_versioned place ∙ update_versioned node,
           λ listable. ap versioned_bit word ∙ bit-changed is.flagged.from (4 * list.block + flag_state list.call.op) small,
           (4 * flag_block flag + CLEAN, omega (arith, small_block flag is), refl),
@@ -110,7 +110,7 @@ module _ (world : World) (shape : Shape world) where
         let is = follows.0.0 in
         let i = inserts is.flagged follows.0.1 in
         let place : at ≡ child_at is.flagged.node i.left = follows.1 ∙ i.place in (
-          ap (is_word world) place ∙ child_word is.flagged.node i.left (shape.flaggers list is.flagged).is,
+          ap (is_word no_root world) place ∙ child_word is.flagged.node i.left (shape.flaggers list is.flagged).is,
           ap is_versioned place ∙ child_versioned is.flagged.node i.left,
           λ listable. absurd (true≢false (sym listable ∙ ap is_update place ∙ child_unlisted is.flagged.node i.left)),
           (inner (flag_block flag), omega (arith, small_block flag is), refl),
@@ -124,25 +124,25 @@ module _ (world : World) (shape : Shape world) where
         let is = follows.0.0 in
         let r = removes world list shape is.flagged follows.0.1 in
         let place : at ≡ update_at r.gone = follows.1 ∙ r.update in (
-          ap (is_word world) place ∙ node_word r.gone 21 r.is (omega arith) (omega arith),
+          ap (is_word no_root world) place ∙ node_word r.gone 21 r.is (omega arith) (omega arith),
           ap is_versioned place ∙ update_versioned r.gone,
           λ listable. ap versioned_bit follows.2 ∙ r.clear,
           (4 * flag_block flag + MARKED, omega (arith, small_block flag is), refl),
         )
     delete_asks (delete.Check flag at) follows =
         let r = removes world list shape follows.0.0.flagged follows.0.1 in
-        ap (is_word world) (follows.1 ∙ r.update) ∙ node_word r.gone 21 r.is (omega arith) (omega arith)
+        ap (is_word no_root world) (follows.1 ∙ r.update) ∙ node_word r.gone 21 r.is (omega arith) (omega arith)
     delete_asks (delete.StayPlace flag) follows = note_word flag 4 (omega arith) follows.0.0
     delete_asks (delete.StayWord flag at) follows =
         let r = removes world list shape follows.0.0.flagged follows.0.1 in
-        ap (is_word world) (follows.1 ∙ r.stays) ∙ child_word r.gone _ r.is
+        ap (is_word no_root world) (follows.1 ∙ r.stays) ∙ child_word r.gone _ r.is
     delete_asks (delete.SwingPlace flag stays) follows = note_word flag 2 (omega arith) follows.0.0
     delete_asks (delete.SwingWord flag stays at) follows = note_word flag 3 (omega arith) follows.0.0
     delete_asks (delete.Swing flag stays at from) follows =
         let is = follows.0.0 in
         let r = removes world list shape is.flagged follows.0.1 in
         let place : at ≡ child_at is.flagged.node r.left = follows.1 ∙ r.place in (
-          ap (is_word world) place ∙ child_word is.flagged.node r.left (shape.flaggers list is.flagged).is,
+          ap (is_word no_root world) place ∙ child_word is.flagged.node r.left (shape.flaggers list is.flagged).is,
           ap is_versioned place ∙ child_versioned is.flagged.node r.left,
           λ listable. absurd (true≢false (sym listable ∙ ap is_update place ∙ child_unlisted is.flagged.node r.left)),
           (versioned_value stays, value_below stays, refl),
@@ -151,8 +151,8 @@ module _ (world : World) (shape : Shape world) where
     delete_asks (delete.Unflag flag false) follows = unflags_well flag follows.0
 
     mark_asks : (it : HelpMark) → FollowsMark it world list → AsksWell tree_form world (mark_asked it)
-    mark_asks (mark.FindPlace block) follows = ap (λ b. is_word world (note_at b 2)) (sym follows.2) ∙ field_word world list.block 29 (shape.flaggers list follows.0).used (omega arith) (omega arith)
-    mark_asks (mark.FindFlag block at) follows = ap (is_word world) follows.3.1 ∙ node_word follows.3.0.node 21 (shape.flaggers list follows.3.0).is (omega arith) (omega arith)
+    mark_asks (mark.FindPlace block) follows = ap (λ b. is_word no_root world (note_at b 2)) (sym follows.2) ∙ field_word world list.block 29 (shape.flaggers list follows.0).used (omega arith) (omega arith)
+    mark_asks (mark.FindFlag block at) follows = ap (is_word no_root world) follows.3.1 ∙ node_word follows.3.0.node 21 (shape.flaggers list follows.3.0).is (omega arith) (omega arith)
     mark_asks (mark.Deletes it) follows = delete_asks it follows
 
     pub wrap_asks_well : (help : Help) → Follows help world list → AsksWell tree_form world (help_asked help)
@@ -162,15 +162,15 @@ module _ (world : World) (shape : Shape world) where
 
   -- ---- searches
 
-  pub leaf_word : (leaf field : ℕ) → field < 2 → IsLeaf world.changes leaf → is_word world (node_place leaf field) ≡ true
+  pub leaf_word : (leaf field : ℕ) → field < 2 → IsLeaf world.changes leaf → is_word no_root world (node_place leaf field) ≡ true
   leaf_word leaf field small is = by_name is.names
     where
-      by_name : (leaf ≡ reference_to is.block 1) ⊎ (leaf ≡ reference_to is.block 3) → is_word world (node_place leaf field) ≡ true
+      by_name : (leaf ≡ reference_to is.block 1) ⊎ (leaf ≡ reference_to is.block 3) → is_word no_root world (node_place leaf field) ≡ true
       by_name (inl one) =
-          ap (λ r. is_word world (node_place r field)) one ∙ ap (is_word world) (node_place-reference_to is.block 1 field (omega arith) (omega arith))
+          ap (λ r. is_word no_root world (node_place r field)) one ∙ ap (is_word no_root world) (node_place-reference_to is.block 1 field (omega arith) (omega arith))
           ∙ node_word is.block (12 + field) is.node (omega arith) (omega (arith, small))
       by_name (inr three) =
-          ap (λ r. is_word world (node_place r field)) three ∙ ap (is_word world) (node_place-reference_to is.block 3 field (omega arith) (omega arith))
+          ap (λ r. is_word no_root world (node_place r field)) three ∙ ap (is_word no_root world) (node_place-reference_to is.block 3 field (omega arith) (omega arith))
           ∙ node_word is.block (22 + field) is.node (omega arith) (omega (arith, small))
 
   pub search_asks_well : (search : TreeSearch) (op : Op) (since : ℕ) → Asks search → Knows search op world since → AsksWell tree_form world (asked search)

@@ -5,7 +5,7 @@ use Rattle.word_fields.specs.Versioned.{versioned_value, versioned_version, clea
 use Rattle.word_fields.proofs.VersionedLemmas.{cleared-changed}
 use Rattle.lin_report.specs.declared.calls.Reply.TheVariants.{Yes}
 use Rattle.normal_traits.specs.declared.lists.Entry.{Entry}
-use Rattle.normal_traits.specs.World.{Listed, Change, World, Among, IsPassed, is_word}
+use Rattle.normal_traits.specs.World.{Listed, Change, World, Among, IsPassed, is_word, no_root}
 use Rattle.normal_traits.specs.Steps.{IsStep}
 use Rattle.tree_help.specs.declared.states.Flag.{Flag}
 use Rattle.tree_help.specs.declared.states.Help.{Help}
@@ -66,7 +66,7 @@ module _ (world after : World) (shape : Shape world) (l : Later world after) (s 
     small : list.block < 2 ^ 17
     small = (shape.flaggers list flagged).small
 
-    update_word : is_word world (update_at gone) ≡ true
+    update_word : is_word no_root world (update_at gone) ≡ true
     update_word = field_word world gone 21 used_gone (omega arith) (omega arith)
 
     pub update_later : noted after list 0 ≡ update_at gone
@@ -177,7 +177,7 @@ dead_kept world after list shape dead step = record { entry = dead.entry; entrie
     by_fate : (IsPassed world dead.entry × (¬ Flagged world list) × ((node : ℕ) × (dead.entry.target ≡ update_at node) × (world.used node ≡ true))) ⊎ (Flagged world list × IsGone world list)
         → (IsPassed after dead.entry × (¬ Flagged after list) × ((node : ℕ) × (dead.entry.target ≡ update_at node) × (after.used node ≡ true))) ⊎ (Flagged after list × IsGone after list)
     by_fate (inl lost) = inl (
-      passed_on dead.entry.target dead.entry.from (ap (is_word world) lost.2.1 ∙ field_word world lost.2.0 21 lost.2.2 (omega arith) (omega arith)) l lost.0,
+      passed_on dead.entry.target dead.entry.from (ap (is_word no_root world) lost.2.1 ∙ field_word world lost.2.0 21 lost.2.2 (omega arith) (omega arith)) l lost.0,
       λ flagged. elim (s.flags list flagged) [
         | inl was ↦ lost.1 was
         | inr own ↦

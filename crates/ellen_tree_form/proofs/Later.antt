@@ -8,9 +8,9 @@ use Rattle.word_fields.proofs.VersionedLemmas.{version-cleared}
 use Rattle.step_memory.specs.declared.steps.Request.{Request}
 use Rattle.step_memory.specs.declared.steps.Seen.{Seen}
 use Rattle.normal_traits.specs.declared.lists.Entry.{Entry}
-use Rattle.normal_traits.specs.World.{Listed, Maker, Won, Change, World, Among, StandsOrPassed, is_word}
+use Rattle.normal_traits.specs.World.{Listed, Maker, Won, Change, World, Among, StandsOrPassed, is_word, no_root}
 use Rattle.normal_traits.specs.World.Maker.{By, Beside}
-use Rattle.normal_traits.specs.Steps.{with_word, with_change, listed_if, IsExchanged, IsOffered, Requested, IsStep, exchanged, object}
+use Rattle.normal_traits.specs.Steps.{with_word, with_change, listed_if, IsExchanged, IsOffered, Requested, IsStep, exchanged}
 use Rattle.normal_traits.specs.Steps.Requested.{loaded, lost, won}
 use Rattle.normal_traits.specs.Steps.IsStep.{nothing, elsewhere, clears, searches, wraps, first, first_of_block, second}
 use Rattle.normal_traits.specs.Laws.{AsksWell}
@@ -25,8 +25,8 @@ use Rattle.client_lemmas.proofs.Words.{Rises, rises_version, rises_seen, rises_a
 use Rattle.client_lemmas.proofs.Entries.{the_entry, no_second}
 
 pub record Later (world after : World) : Type 0 where
-  pub rises : (place : ℕ) → is_word world place ≡ true → Rises (world.words place) (after.words place)
-  pub plain : (place : ℕ) → is_word world place ≡ true → is_versioned place ≡ false → after.words place ≡ world.words place
+  pub rises : (place : ℕ) → is_word no_root world place ≡ true → Rises (world.words place) (after.words place)
+  pub plain : (place : ℕ) → is_word no_root world place ≡ true → is_versioned place ≡ false → after.words place ≡ world.words place
   pub used : (block : ℕ) → world.used block ≡ true → after.used block ≡ true
   pub journal : (item : Won) → Among item world.journal → Among item after.journal
   pub changes : (after.changes ≡ world.changes) ⊎ ((change : Change) × (after.changes ≡ change ∷ world.changes))
@@ -40,7 +40,7 @@ stays_plain words place word is at none = word_beside place word words at (λ e.
 pub same_later : (world : World) → Later world world
 same_later world = record { rises = λ place is. inl refl; plain = λ place is none. refl; used = λ block used. used; journal = λ item among. among; changes = inl refl }
 
-grown : (added : Option Listed) (changes : List Change) → (with_change (object tree_form) added changes ≡ changes) ⊎ ((change : Change) × (with_change (object tree_form) added changes ≡ change ∷ changes))
+grown : (added : Option Listed) (changes : List Change) → (with_change tree_form.object added changes ≡ changes) ⊎ ((change : Change) × (with_change tree_form.object added changes ≡ change ∷ changes))
 grown None changes = inl refl
 grown (Some list) changes = inr (_, refl)
 
@@ -76,7 +76,7 @@ flag_later world list search since entry word offered listed stood to =
 pub later : (world after : World) → Shape world → IsStep tree_form world after → Later world after
 later world after shape nothing = same_later world
 later world after shape (elsewhere place word outside) =
-    let apart : (at : ℕ) → is_word world at ≡ true → with_word place word world.words at ≡ world.words at = beside_word world place word outside in
+    let apart : (at : ℕ) → is_word no_root world at ≡ true → with_word place word world.words at ≡ world.words at = beside_word no_root world place word outside in
     record { rises = λ at is. inl (apart at is); plain = λ at is none. apart at is; used = λ block used. used; journal = λ item among. among; changes = inl refl }
 later world after shape (clears place inside versioned listable) = record {
   rises = λ at is. rises_at world.words place (cleared_word (world.words place)) (inr (inl refl)) at;
@@ -102,9 +102,9 @@ later world after shape (second list search since entry word offered took untook
 -- ---- what was seen
 
 -- a place that is past a word stays past it
-pub passed_on : {world after : World} (place word : ℕ) → is_word world place ≡ true → Later world after → versioned_version word < versioned_version (world.words place) → versioned_version word < versioned_version (after.words place)
+pub passed_on : {world after : World} (place word : ℕ) → is_word no_root world place ≡ true → Later world after → versioned_version word < versioned_version (world.words place) → versioned_version word < versioned_version (after.words place)
 passed_on {world} {after} place word is l passed = omega (arith, passed, rises_version (world.words place) (after.words place) (l.rises place is))
 
 -- a word that was seen with its bit clear still stands or is passed
-pub seen_later : (world after : World) (place word : ℕ) → is_word world place ≡ true → Later world after → StandsOrPassed world place word → StandsOrPassed after place word
+pub seen_later : (world after : World) (place word : ℕ) → is_word no_root world place ≡ true → Later world after → StandsOrPassed world place word → StandsOrPassed after place word
 seen_later world after place word is l seen clear = rises_seen (world.words place) (after.words place) word (l.rises place is) clear (seen clear)

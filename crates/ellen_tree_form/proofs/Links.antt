@@ -12,7 +12,7 @@ use Rattle.lin_report.specs.declared.calls.TheConstants.{SET}
 use Rattle.lin_report.specs.Object.{map_object, map_apply}
 use Rattle.step_memory.specs.declared.steps.Seen.{Seen}
 use Rattle.normal_traits.specs.World.{Listed, World, Among, held_after}
-use Rattle.normal_traits.specs.Steps.{Requested, with_change, object}
+use Rattle.normal_traits.specs.Steps.{Requested, with_change}
 use Rattle.normal_traits.specs.Steps.Requested.{lost, won}
 use Rattle.tree_help.specs.declared.states.Flag.{Flag}
 use Rattle.tree_help.specs.declared.states.Help.TheVariants as helps
@@ -78,5 +78,5 @@ link_fed world list flag at from after seen shape follows (won at' from' to stoo
     adds_own world list flagged.node flagged.from i.left (record { target = at; from = from; to = to }) shape flagged waits.up (shape.flaggers list flagged).small (follows.1 ∙ i.place) in
     let yes = link_yes world list shape flagged set i waits in (
       record { flagged = record { node = flagged.node; from = flagged.from; entries = flagged.entries; won = inr flagged.won }; own = follows.0.0.own },
-      subst (λ (o : Option Listed). Among (record { list = list; reply = Yes }) (with_change (object tree_form) o world.changes)) (sym own) (inl (ap (λ reply. record { list = list; reply = reply }) (sym yes))),
+      subst (λ (o : Option Listed). Among (record { list = list; reply = Yes }) (with_change tree_form.object o world.changes)) (sym own) (inl (ap (λ reply. record { list = list; reply = reply }) (sym yes))),
     )

@@ -6,9 +6,9 @@ use Rattle.std.proofs.lemmas.Bool.{true≢false, eq-eqb, ne_eqb, ltb-true, and_p
 use Rattle.std.proofs.lemmas.List.Elements.{All-nil, All-cons}
 use Rattle.std.proofs.lemmas.List.Kept.{AllPairs-cons}
 use Rattle.lin_report.specs.declared.calls.Op.{Op}
-use Rattle.lin_report.specs.declared.calls.Client.TheVariants as client
 use Rattle.lin_report.specs.declared.calls.TheConstants.{SET, REM, GET}
-use Rattle.lin_report.specs.Commands.{KEY_LIMIT, IsCommandOf}
+use Rattle.lin_report.specs.Commands.{KEY_LIMIT}
+use Rattle.lin_report.specs.Object.{IsCommandOf, map_object}
 use Rattle.node_arena.specs.declared.places.TheConstants.{FIRST_WORDS}
 use Rattle.node_arena.specs.MemoryMap.{block_place, field_at, reference_to}
 use Rattle.node_arena.proofs.PlaceLemmas.{field_at-block_place, same_field, node_place-reference_to}
@@ -100,7 +100,7 @@ all_good block [] each = All-nil (IsGoodStore tree_form block)
 all_good block (store ∷ stores) each = All-cons (IsGoodStore tree_form block) (block_place block store.0, store.1) (placed block stores) (good block store each.0) (all_good block stores each.1)
 
 -- the key of a command
-pub key_limit : (op : Op) → IsCommandOf client.Tree op → op.key < KEY_LIMIT
+pub key_limit : (op : Op) → IsCommandOf map_object op → op.key < KEY_LIMIT
 key_limit op command = by_case (or_cases (eqb op.code SET && ltb op.key KEY_LIMIT) ((eqb op.code REM || eqb op.code GET) && (ltb op.key KEY_LIMIT && eqb op.value 0)) command.command)
   where
     by_case : ((eqb op.code SET && ltb op.key KEY_LIMIT) ≡ true) ⊎ (((eqb op.code REM || eqb op.code GET) && (ltb op.key KEY_LIMIT && eqb op.value 0)) ≡ true) → op.key < KEY_LIMIT
@@ -232,7 +232,7 @@ module _ (world : World) (shape : Shape world) where
 
   -- ---- any ready search
 
-  pub offers : (search : TreeSearch) (op : Op) (since block : ℕ) → IsCommandOf client.Tree op → Knows search op world since → IsReady search → block < 2 ^ 17 → IsGoodOffer tree_form world block (offered search op block)
+  pub offers : (search : TreeSearch) (op : Op) (since block : ℕ) → IsCommandOf map_object op → Knows search op world since → IsReady search → block < 2 ^ 17 → IsGoodOffer tree_form world block (offered search op block)
   offers (SetReady last key value) op since block command knows ready small =
       let bounds = leaf_bounds (leaf_of last) knows.learnt.0.told.is in
       set_good since last op key value block small (omega (arith, key_limit op command)) (omega (arith, command.value)) (omega (arith, bounds.0, knows.learnt.3)) (omega (arith, bounds.1, knows.learnt.5)) knows.learnt.0.passed knows.learnt.2

@@ -8,7 +8,7 @@ use Rattle.lin_report.specs.declared.calls.Op.{Op}
 use Rattle.step_memory.specs.declared.steps.Request.{Request}
 use Rattle.step_memory.specs.declared.steps.Seen.{Seen}
 use Rattle.normal_traits.specs.declared.lists.Entry.{Entry}
-use Rattle.normal_traits.specs.World.{Listed, Maker, Won, World, is_word}
+use Rattle.normal_traits.specs.World.{Listed, Maker, Won, World, is_word, no_root}
 use Rattle.normal_traits.specs.World.Maker.{By, Beside}
 use Rattle.normal_traits.specs.Steps.{with_word, listed_if, IsExchanged, IsOffered, Requested, IsStep, exchanged}
 use Rattle.normal_traits.specs.Steps.Requested.{loaded, lost, won}
@@ -33,11 +33,11 @@ use Rattle.client_lemmas.proofs.Entries.{the_entry, no_second}
 
 pub record Spares (world after : World) : Type 0 where
   -- a marked node's update word keeps its value, and its children stay
-  pub frozen : (node : ℕ) → is_word world (update_at node) ≡ true → state_of (world.words (update_at node)) ≡ MARKED
+  pub frozen : (node : ℕ) → is_word no_root world (update_at node) ≡ true → state_of (world.words (update_at node)) ≡ MARKED
       → (after.words (update_at node) ≡ world.words (update_at node)) ⊎ (after.words (update_at node) ≡ cleared_word (world.words (update_at node)))
-  pub held : (node : ℕ) (left : Bool) → is_word world (child_at node left) ≡ true → state_of (world.words (update_at node)) ≡ MARKED → after.words (child_at node left) ≡ world.words (child_at node left)
+  pub held : (node : ℕ) (left : Bool) → is_word no_root world (child_at node left) ≡ true → state_of (world.words (update_at node)) ≡ MARKED → after.words (child_at node left) ≡ world.words (child_at node left)
   -- a block's mark is set from the word that its list noted
-  pub marks : (node : ℕ) → is_word world (update_at node) ≡ true → (block : ℕ) → versioned_value (after.words (update_at node)) ≡ 4 * block + MARKED
+  pub marks : (node : ℕ) → is_word no_root world (update_at node) ≡ true → (block : ℕ) → versioned_value (after.words (update_at node)) ≡ 4 * block + MARKED
       → (versioned_value (world.words (update_at node)) ≡ 4 * block + MARKED) ⊎ ((list : Listed) × Flagged world list × (list.block ≡ block) × (world.words (update_at node) ≡ noted world list 1))
   -- a list's flag is set by its entry
   pub flags : (list : Listed) → Flagged after list → Flagged world list ⊎ ((entry : Entry) × (list.entries ≡ entry ∷ []) × (world.words entry.target ≡ entry.from))
@@ -98,7 +98,7 @@ search_fair world shape _ op since asks knows = tt
 pub spares : (world after : World) → Shape world → IsStep tree_form world after → Spares world after
 spares world after shape nothing = same_spares world
 spares world after shape (elsewhere place word outside) =
-    let apart : (at : ℕ) → is_word world at ≡ true → with_word place word world.words at ≡ world.words at = beside_word world place word outside in
+    let apart : (at : ℕ) → is_word no_root world at ≡ true → with_word place word world.words at ≡ world.words at = beside_word no_root world place word outside in
     record {
       frozen = λ node is marked. inl (apart (update_at node) is);
       held = λ node left is marked. apart (child_at node left) is;

@@ -11,7 +11,7 @@ use Rattle.lin_report.specs.declared.calls.TheConstants.{REM}
 use Rattle.lin_report.specs.Object.{map_object, map_apply, yes_if}
 use Rattle.step_memory.specs.declared.steps.Seen.{Seen}
 use Rattle.normal_traits.specs.World.{Listed, World, Among, held_after}
-use Rattle.normal_traits.specs.Steps.{Requested, with_change, object}
+use Rattle.normal_traits.specs.Steps.{Requested, with_change}
 use Rattle.normal_traits.specs.Steps.Requested.{lost, won}
 use Rattle.tree_help.specs.Updates.{inner}
 use Rattle.ellen_tree_form.specs.Words.{update_at, leaf_key_at, leaf_value_at, is_rem}
@@ -90,5 +90,5 @@ swing_fed world list flag stays at from after seen shape follows (won at' from' 
     let side : s.0 ≡ r.left = (child_same flagged.node flagged.node s.0 r.left (sym s.1 ∙ follows.1 ∙ r.place)).1 in
     let yes : (map_apply list.call.op (held_after map_object world.changes)).1 ≡ Yes = swing_yes world list shape flagged rem gone same (subst (λ l. RemoveStands world list flagged.node flagged.from l gone) side s.2) in (
       record { flagged = record { node = flagged.node; from = flagged.from; entries = flagged.entries; won = inr flagged.won }; own = follows.0.0.own },
-      subst (λ (o : Option Listed). Among (record { list = list; reply = Yes }) (with_change (object tree_form) o world.changes)) (sym own) (inl (ap (λ reply. record { list = list; reply = reply }) (sym yes))),
+      subst (λ (o : Option Listed). Among (record { list = list; reply = Yes }) (with_change tree_form.object o world.changes)) (sym own) (inl (ap (λ reply. record { list = list; reply = reply }) (sym yes))),
     )

@@ -26,7 +26,6 @@ use Rattle.ellen_tree_form.specs.Search.{flag_of, begin_wrap_of, wrap_begun_of, 
 use Rattle.ellen_tree_form.specs.Shape.{Shape, Flagged, flags_at, flag_state, Changed, IsGone, IsMarked, IsGivenUp, noted, adds_beside}
 use Rattle.ellen_tree_form.specs.Knowledge.{Dead, Follows, IsFlag, IsTried}
 use Rattle.ellen_tree_form.specs.Form.{tree_form}
-use Rattle.normal_traits.specs.Steps.{object}
 use Rattle.normal_traits.specs.World.{Change}
 use Rattle.node_arena.specs.MemoryMap.{field_at}
 use Rattle.node_arena.specs.declared.places.TheConstants.{FIRST_WORDS}
@@ -234,4 +233,4 @@ module _ (world : World) (list : Listed) (stop : ℕ) (shape : Shape world) (fla
       let place = place_is (flag_in made follows) in
       let none : adds_beside world (record { target = flag.place; from = flag.word; to = updated flag.word (flag_block flag) CLEAN }) ≡ None = rw (place.1, no_child place.0) refl in
       ended_well made _ (record { before = flag.word; won = true })
-      (follows_still made _ place.0 (λ at'. ap (λ p. with_word p (updated flag.word (flag_block flag) CLEAN) world.words at') place.1) (ap (λ (o : Option Listed). with_change (object tree_form) o world.changes) none) (λ item among. inr among) (ap world.words (sym place.1) ∙ stood) raised follows)
+      (follows_still made _ place.0 (λ at'. ap (λ p. with_word p (updated flag.word (flag_block flag) CLEAN) world.words at') place.1) (ap (λ (o : Option Listed). with_change tree_form.object o world.changes) none) (λ item among. inr among) (ap world.words (sym place.1) ∙ stood) raised follows)

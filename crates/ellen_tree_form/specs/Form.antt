@@ -1,6 +1,11 @@
 -- The tree as a structure in normalized form.
 use Rattle.std.specs.Prelude.{false}
 use Rattle.lin_report.specs.declared.calls.Client.TheVariants as client
+use Rattle.lin_report.specs.Object.{map_object}
+use Rattle.node_arena.specs.Opening.{opening_word}
+use Rattle.normal_traits.specs.World.{no_root}
+use Rattle.lin_report.proofs.Tellable.{objects_are_tellable}
+use Rattle.node_arena.proofs.Openings.{clients_open}
 use Rattle.normal_traits.specs.NormalForm.{NormalForm}
 use Rattle.ellen_tree_form.specs.Words.{is_versioned, is_update, may_list}
 use Rattle.tree_help.specs.declared.states.Help.{Help}
@@ -12,7 +17,11 @@ use Rattle.ellen_tree_form.specs.Knowledge.{Knows, Keeps, IsForced, Follows, Dea
 
 abbrev pub tree_form : NormalForm TreeSearch Help
 tree_form = record {
-  client = client.Tree;
+  object = map_object;
+  tellable = objects_are_tellable client.Tree;
+  is_root = no_root;
+  opening = opening_word client.Tree;
+  opens = clients_open client.Tree;
   needs_block = may_list;
   begin_of = begun;
   request_of = asked;

@@ -5,15 +5,14 @@ use Rattle.std.specs.FinMap as map
 use Rattle.std.specs.Ordering.{nat_cmp}
 use Rattle.std.specs.Cmp.{nat_cmp_total, unsigned_tied}
 use Rattle.std.proofs.lemmas.Bool.{eqb-true, eq-eqb, ne_eqb, or_cases, and_parts}
-use Rattle.lin_report.specs.declared.calls.Client.TheVariants as client
 use Rattle.lin_report.specs.declared.calls.Op.{Op}
 use Rattle.lin_report.specs.declared.calls.Reply.{Reply}
 use Rattle.lin_report.specs.declared.calls.Reply.TheVariants.{Yes, No, Absent}
 use Rattle.lin_report.specs.declared.calls.Outcome.{Outcome}
 use Rattle.lin_report.specs.declared.calls.Outcome.TheVariants.{Plain, ValueOf}
 use Rattle.lin_report.specs.declared.calls.TheConstants.{SET, REM, GET}
-use Rattle.lin_report.specs.Commands.{IsCommandOf, KEY_LIMIT}
-use Rattle.lin_report.specs.Object.{map_object, map_apply, object_of, value_or_absent, yes_if}
+use Rattle.lin_report.specs.Commands.{KEY_LIMIT}
+use Rattle.lin_report.specs.Object.{IsCommandOf, map_object, map_apply, value_or_absent, yes_if}
 use Rattle.node_arena.specs.declared.places.TheConstants.{NODE_VALUE}
 use Rattle.node_arena.specs.MemoryMap.{block_at, node_place, reference_to}
 use Rattle.node_arena.proofs.PlaceLemmas.{block_at-node_place, block-reference_to}
@@ -58,7 +57,7 @@ module _ (op : Op) (pairs : map.FinMap nat_cmp ℕ) where
   get_observes code = (rw code refl, rw code refl)
 
 -- a command of the tree is one of three
-command_cases : (op : Op) → IsCommandOf client.Tree op → (is_set op ≡ true) ⊎ ((is_rem op ≡ true) ⊎ (op.code ≡ GET))
+command_cases : (op : Op) → IsCommandOf map_object op → (is_set op ≡ true) ⊎ ((is_rem op ≡ true) ⊎ (op.code ≡ GET))
 command_cases op command = elim (or_cases (op.code == SET && nat_lt op.key KEY_LIMIT) ((op.code == REM || op.code == GET) && (nat_lt op.key KEY_LIMIT && op.value == 0)) command.command) [
   | inl set ↦ inl (and_parts (op.code == SET) (nat_lt op.key KEY_LIMIT) set).0
   | inr other ↦ elim (or_cases (op.code == REM) (op.code == GET) (and_parts (op.code == REM || op.code == GET) (nat_lt op.key KEY_LIMIT && op.value == 0) other).0) [
@@ -81,11 +80,11 @@ module _ (world : World) (shape : Shape world) (op : Op) (since : ℕ) (last : P
   lacks : is ≡ false → map.get held op.key ≡ None
   lacks e = leaf.told.told ∙ ap (λ b. if b then Some (world.words (leaf_value_at (leaf_of last))) else None) (found ∙ e)
 
-  right : (outcome : Outcome) → (map_apply op held).0 ≡ held → StandsFor world outcome (map_apply op held).1 → RightSince (object_of client.Tree) world op since outcome
+  right : (outcome : Outcome) → (map_apply op held).0 ≡ held → StandsFor world outcome (map_apply op held).1 → RightSince map_object world op since outcome
   right outcome observes stands = record { count = leaf.told.count; not_before = leaf.told.not_before; made = leaf.told.made; observes = observes; told = stands }
 
   abbrev IsRight : Outcome → Type 0
-  IsRight outcome = RightSince (object_of client.Tree) world op since outcome × IsFixed tree_form outcome
+  IsRight outcome = RightSince map_object world op since outcome × IsFixed tree_form outcome
 
   -- ---- not a look at a value
 
@@ -113,7 +112,7 @@ module _ (world : World) (shape : Shape world) (op : Op) (since : ℕ) (last : P
   )
   get_right code false e = (right (Plain Absent) (get_observes op held code).0 (sym ((get_observes op held code).1 ∙ ap value_or_absent (lacks e))), tt)
 
-  pub answers : IsCommandOf client.Tree op → (is_set op ≡ true → is ≡ true) × (is_rem op ≡ true → is ≡ false) → IsRight (told op last is)
+  pub answers : IsCommandOf map_object op → (is_set op ≡ true → is ≡ true) × (is_rem op ≡ true → is ≡ false) → IsRight (told op last is)
   answers command only = elim (command_cases op command) [
     | inl set ↦
         let o = set_observes op held set (world.words (leaf_value_at (leaf_of last))) (holds (only.0 set)) in

@@ -1,9 +1,8 @@
 -- A search that is fed with what its step saw knows the world after the step, and what it found is so.
 use Rattle.std.proofs.Common.{ℕ, ◌≤◌, true, length, refl, sym, subst}
 use Rattle.std.specs.Prelude.{nat_lt}
-use Rattle.lin_report.specs.declared.calls.Client.TheVariants as client
 use Rattle.lin_report.specs.declared.calls.Op.{Op}
-use Rattle.lin_report.specs.Commands.{IsCommandOf}
+use Rattle.lin_report.specs.Object.{IsCommandOf, map_object}
 use Rattle.step_memory.specs.declared.steps.Seen.{Seen}
 use Rattle.normal_traits.specs.World.{Listed, World}
 use Rattle.normal_traits.specs.Steps.{Requested, IsStep}
@@ -34,7 +33,7 @@ help_well world op since stay help Running began follows fits = (record { began 
 help_well world op since stay help Finished began follows fits = (record { began = began; learnt = follows }, tt)
 help_well world op since stay help BackedOut began follows fits = (record { began = began; learnt = follows }, tt)
 
-fed_well : (world : World) (search : TreeSearch) (op : Op) (since : ℕ) (after : World) (seen : Seen) → IsCommandOf client.Tree op → Shape world → Asks search → Knows search op world since → Requested tree_form (asked search) world after seen → Fed after op since (fed search seen)
+fed_well : (world : World) (search : TreeSearch) (op : Op) (since : ℕ) (after : World) (seen : Seen) → IsCommandOf map_object op → Shape world → Asks search → Knows search op world since → Requested tree_form (asked search) world after seen → Fed after op since (fed search seen)
 fed_well world (AtUpdate o above node) op since after seen command shape asks knows (loaded at') =
     (record { began = knows.began; learnt = (knows.learnt.0, knows.learnt.1, update_fed world shape op since (key_limit op command) knows.began above node knows.learnt.1) }, asks)
 fed_well world (AtKey o above node update) op since after seen command shape asks knows (loaded at') = (record { began = knows.began; learnt = (knows.learnt.0, knows.learnt.1, knows.learnt.2, refl) }, asks)
@@ -57,5 +56,5 @@ fed_well world (Helps help) op since after seen command shape asks knows r =
     let follows = help_follows world shape list after (later world after shape step) (spares world after shape step) help seen knows.learnt.1 r in
     help_well after op since (Helps help) (help_fed help seen).0 (help_fed help seen).1 (knows_kept world after (Helps help) op since command shape knows step).began (list, follows) (help_fits_on help seen)
 
-pub search_fed : (world after : World) (seen : Seen) (search : TreeSearch) (op : Op) (since : ℕ) → IsCommandOf client.Tree op → Shape world → Asks search → Knows search op world since → Requested tree_form (asked search) world after seen → Fed after op since (fed search seen)
+pub search_fed : (world after : World) (seen : Seen) (search : TreeSearch) (op : Op) (since : ℕ) → IsCommandOf map_object op → Shape world → Asks search → Knows search op world since → Requested tree_form (asked search) world after seen → Fed after op since (fed search seen)
 search_fed world after seen search op since command shape asks knows r = fed_well world search op since after seen command shape asks knows r

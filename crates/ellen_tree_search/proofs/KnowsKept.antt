@@ -3,9 +3,9 @@ use Rattle.std.proofs.Common.{◌≡◌, ℕ, ◌<◌, ◌≤◌, Bool, true, fa
 use Rattle.std.specs.Prelude.{◌==◌, if◌then◌else◌, Some, None}
 use Rattle.word_fields.specs.Versioned.{versioned_version}
 use Rattle.lin_report.specs.declared.calls.Op.{Op}
-use Rattle.lin_report.specs.declared.calls.Client.TheVariants as client
 use Rattle.lin_report.specs.declared.calls.Reply.TheVariants.{Yes}
-use Rattle.lin_report.specs.Commands.{IsCommandOf, KEY_LIMIT}
+use Rattle.lin_report.specs.Commands.{KEY_LIMIT}
+use Rattle.lin_report.specs.Object.{IsCommandOf, map_object}
 use Rattle.normal_traits.specs.World.{World}
 use Rattle.normal_traits.specs.Steps.{with_word, IsStep}
 use Rattle.tree_help.specs.declared.states.TheConstants.{CLEAN, INSERTING, DELETING, MARKED}
@@ -167,6 +167,6 @@ module _ (world after : World) (shape : Shape world) (l : Later world after) (s 
     knows_later : (search : TreeSearch) → Learnt search op world since → Knows search op after since
     knows_later search k = record { began = omega (arith, began, length_later world after shape l l.changes); learnt = learnt_kept search k }
 
-pub knows_kept : (world after : World) (search : TreeSearch) (op : Op) (since : ℕ) → IsCommandOf client.Tree op → Shape world → Knows search op world since → IsStep tree_form world after → Knows search op after since
+pub knows_kept : (world after : World) (search : TreeSearch) (op : Op) (since : ℕ) → IsCommandOf map_object op → Shape world → Knows search op world since → IsStep tree_form world after → Knows search op after since
 knows_kept world after search op since command shape knows step =
     knows_later world after shape (later world after shape step) (spares world after shape step) op since (key_limit op command) knows.began (effect_of world after shape step) search knows.learnt

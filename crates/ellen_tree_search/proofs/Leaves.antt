@@ -4,9 +4,8 @@ use Rattle.std.specs.Prelude.{◌==◌, if◌then◌else◌, Some, None}
 use Rattle.std.proofs.lemmas.Bool.{eqb-true, eq-eqb, and_parts, true≢false}
 use Rattle.word_fields.specs.Versioned.{versioned_bit, is_modified}
 use Rattle.word_fields.proofs.VersionedLemmas.{bit_below}
-use Rattle.lin_report.specs.declared.calls.Client.TheVariants as client
 use Rattle.lin_report.specs.declared.calls.Op.{Op}
-use Rattle.lin_report.specs.Commands.{IsCommandOf}
+use Rattle.lin_report.specs.Object.{IsCommandOf, map_object}
 use Rattle.normal_traits.specs.declared.form.Found.{Found}
 use Rattle.normal_traits.specs.declared.form.Found.TheVariants as found
 use Rattle.normal_traits.specs.World.{World}
@@ -141,7 +140,7 @@ module _ (world : World) (shape : Shape world) (op : Op) (since : ℕ) (began : 
 
   -- ---- the second look
 
-  pub again_fed : (last : Passed) (is : Bool) → IsCommandOf client.Tree op → HasLeaf world since op.key last → (world.words (leaf_key_at (leaf_of last)) == op.key) ≡ is → (is_set op ≡ true → is ≡ true) × (is_rem op ≡ true → is ≡ false)
+  pub again_fed : (last : Passed) (is : Bool) → IsCommandOf map_object op → HasLeaf world since op.key last → (world.words (leaf_key_at (leaf_of last)) == op.key) ≡ is → (is_set op ≡ true → is ≡ true) × (is_rem op ≡ true → is ≡ false)
       → Fed world op since (met_again (Again op last is) op last is (world.words (update_at last.node)))
   again_fed last is command leaf e only = by_mark (state_of (world.words (update_at last.node)) == MARKED) refl
     where

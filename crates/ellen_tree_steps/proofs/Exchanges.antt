@@ -11,7 +11,7 @@ use Rattle.node_arena.proofs.PlaceLemmas.{block_at-block_place}
 use Rattle.normal_traits.specs.declared.lists.Entry.{Entry}
 use Rattle.normal_traits.specs.World.{Listed, World, held_after}
 use Rattle.normal_traits.specs.World.Maker.{Beside}
-use Rattle.normal_traits.specs.Steps.{Requested, exchanged, with_word, with_change, object}
+use Rattle.normal_traits.specs.Steps.{Requested, exchanged, with_word, with_change}
 use Rattle.normal_traits.specs.Steps.Requested.{lost, won}
 use Rattle.tree_help.specs.declared.states.Flag.{Flag}
 use Rattle.tree_help.specs.declared.states.HelpInsert.TheVariants as insert
@@ -102,7 +102,7 @@ module _ (world : World) (shape : Shape world) (list : Listed) where
         value = value-changed from (inner (flag_block flag)) (omega (arith, block_small)) ∙ ap inner own;
         beside = beside_of world list 1 (child_at flagged.node i.left) at from to _ place stood raised (changed_below from (inner (flag_block flag)) (omega (arith, block_small)))
             (child_cause world (record { target = at; from = from; to = to }) list flagged.node flagged.from i.left place waits.up small);
-        changes = ap (λ (o : Option Listed). with_change (object tree_form) o world.changes) adds ∙ ap (λ reply. record { list = list; reply = reply } ∷ world.changes) yes;
+        changes = ap (λ (o : Option Listed). with_change tree_form.object o world.changes) adds ∙ ap (λ reply. record { list = list; reply = reply } ∷ world.changes) yes;
       })
 
   -- ---- a swing
@@ -134,7 +134,7 @@ module _ (world : World) (shape : Shape world) (list : Listed) where
         value = value-changed from (versioned_value stays) (value_below stays) ∙ subst (λ g. versioned_value stays ≡ versioned_value (world.words (child_at g (not (nat_lt list.call.op.key (world.words (key_at g))))))) same will.child;
         beside = beside_of world list 1 (child_at flagged.node r.left) at from to _ place stood raised (changed_below from (versioned_value stays) (value_below stays))
             (child_cause world (record { target = at; from = from; to = to }) list flagged.node flagged.from r.left place stands.up small);
-        changes = ap (λ (o : Option Listed). with_change (object tree_form) o world.changes) adds ∙ ap (λ reply. record { list = list; reply = reply } ∷ world.changes) yes;
+        changes = ap (λ (o : Option Listed). with_change tree_form.object o world.changes) adds ∙ ap (λ reply. record { list = list; reply = reply } ∷ world.changes) yes;
       })
 
   -- ---- a mark
@@ -176,7 +176,7 @@ module _ (world : World) (shape : Shape world) (list : Listed) where
         beside = subst (IsBeside world _ list 3 (update_at r.gone)) written
             (beside_of world list 3 (update_at r.gone) at from (updated from (flag_block flag) MARKED) _ place stood raised (changed_below from (4 * flag_block flag + MARKED) (omega (arith, own, small)))
             (mark_cause world (record { target = at; from = from; to = updated from (flag_block flag) MARKED }) r.gone place list.block value));
-        changes = ap (λ (o : Option Listed). with_change (object tree_form) o world.changes) (no_change world (record { target = at; from = from; to = updated from (flag_block flag) MARKED }) r.gone place);
+        changes = ap (λ (o : Option Listed). with_change tree_form.object o world.changes) (no_change world (record { target = at; from = from; to = updated from (flag_block flag) MARKED }) r.gone place);
       })
 
   -- ---- the end of a flag
@@ -199,5 +199,5 @@ module _ (world : World) (shape : Shape world) (list : Listed) where
         beside = subst (IsBeside world _ list 2 (update_at flagged.node)) written
             (beside_of world list 2 (update_at flagged.node) flag.place flag.word (updated flag.word (flag_block flag) CLEAN) _ place stood raised (changed_below flag.word (4 * flag_block flag + CLEAN) (omega (arith, own, small)))
             (end_cause world (record { target = flag.place; from = flag.word; to = updated flag.word (flag_block flag) CLEAN }) flagged.node place list.block value));
-        changes = ap (λ (o : Option Listed). with_change (object tree_form) o world.changes) (no_change world (record { target = flag.place; from = flag.word; to = updated flag.word (flag_block flag) CLEAN }) flagged.node place);
+        changes = ap (λ (o : Option Listed). with_change tree_form.object o world.changes) (no_change world (record { target = flag.place; from = flag.word; to = updated flag.word (flag_block flag) CLEAN }) flagged.node place);
       })

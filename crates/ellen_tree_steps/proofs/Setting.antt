@@ -5,8 +5,7 @@ use Rattle.std.proofs.lemmas.Bool.{true≢false, or_left, eq-eqb}
 use Rattle.word_fields.specs.Versioned.{versioned_value, versioned_bit, versioned_version, cleared_word}
 use Rattle.word_fields.proofs.VersionedLemmas.{version-cleared, version_below, bit_below, word-split}
 use Rattle.word_fields.specs.Versioned.{value_below}
-use Rattle.lin_report.specs.declared.calls.Client.TheVariants as client
-use Rattle.lin_report.specs.Commands.{IsCommandOf}
+use Rattle.lin_report.specs.Object.{IsCommandOf, map_object}
 use Rattle.node_arena.specs.MemoryMap.{block_place, node_place, reference_to}
 use Rattle.node_arena.proofs.PlaceLemmas.{node_place-reference_to, same_field}
 use Rattle.normal_traits.specs.declared.lists.Entry.{Entry}
@@ -85,7 +84,7 @@ module _ (world : World) (shape : Shape world) (list : Listed) (node from word :
 
   -- ---- an insertion
 
-  module _ (last : Passed) (key value since : ℕ) (command : IsCommandOf client.Tree list.call.op) (knows : Knows (SetReady last key value) list.call.op world since) (at_node : node ≡ last.node) (from_is : from ≡ last.update)
+  module _ (last : Passed) (key value since : ℕ) (command : IsCommandOf map_object list.call.op) (knows : Knows (SetReady last key value) list.call.op world since) (at_node : node ≡ last.node) (from_is : from ≡ last.update)
       (filled : IsFilled world list (offered (SetReady last key value) list.call.op list.block).stores) where
     has : HasPassed world since list.call.op.key last
     has = knows.learnt.0.passed
@@ -152,7 +151,7 @@ module _ (world : World) (shape : Shape world) (list : Listed) (node from word :
 
   -- ---- a removal
 
-  module _ (above last : Passed) (since : ℕ) (command : IsCommandOf client.Tree list.call.op) (knows : Knows (RemReady above last) list.call.op world since) (at_node : node ≡ above.node) (from_is : from ≡ above.update)
+  module _ (above last : Passed) (since : ℕ) (command : IsCommandOf map_object list.call.op) (knows : Knows (RemReady above last) list.call.op world since) (at_node : node ≡ above.node) (from_is : from ≡ above.update)
       (filled : IsFilled world list (offered (RemReady above last) list.call.op list.block).stores) where
     abbrev K : ℕ
     K = list.call.op.key

@@ -8,7 +8,7 @@ use Rattle.lin_report.specs.declared.calls.Op.{Op}
 use Rattle.step_memory.specs.declared.steps.Request.TheVariants.{Load}
 use Rattle.step_memory.specs.declared.steps.Seen.{Seen}
 use Rattle.normal_traits.specs.declared.lists.Entry.{Entry}
-use Rattle.normal_traits.specs.World.{Listed, World, is_word}
+use Rattle.normal_traits.specs.World.{Listed, World, is_word, no_root}
 use Rattle.normal_traits.specs.Steps.{IsExchanged, IsFresh, IsFilled, IsOffered, Requested, IsStep}
 use Rattle.normal_traits.specs.Steps.Requested.{loaded}
 use Rattle.normal_traits.specs.Steps.IsStep.{nothing, elsewhere, clears, searches, wraps, first, first_of_block, second}
@@ -160,7 +160,7 @@ module _ (world : World) (shape : Shape world) (list : Listed) (since : ℕ) (en
 pub effect_of : (world after : World) → Shape world → IsStep tree_form world after → Effect world after
 effect_of world after shape nothing = quiet (same_quiet world)
 effect_of world after shape (elsewhere place word outside) = quiet (record {
-  words = λ at is. inl (with_other place word world.words at (λ e. true≢false (sym is ∙ ap (is_word world) e ∙ outside)));
+  words = λ at is. inl (with_other place word world.words at (λ e. true≢false (sym is ∙ ap (is_word no_root world) e ∙ outside)));
   changes = refl;
   used = λ block. refl;
   journal = refl;

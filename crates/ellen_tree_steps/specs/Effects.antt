@@ -3,7 +3,7 @@
 use Rattle.std.specs.Prelude.{◌≡◌, ℕ, ◌+◌, ◌^◌, ◌<◌, true, false, not, ◌⊎◌, [], ◌∷◌}
 use Rattle.lin_report.specs.declared.calls.Reply.TheVariants.{Yes}
 use Rattle.word_fields.specs.Versioned.{versioned_value, versioned_version, cleared_word}
-use Rattle.normal_traits.specs.World.{Listed, Won, World, is_word}
+use Rattle.normal_traits.specs.World.{Listed, Won, World, is_word, no_root}
 use Rattle.normal_traits.specs.World.Maker.{Beside}
 use Rattle.normal_traits.specs.Steps.{IsFresh, with_word, using_block}
 use Rattle.tree_help.specs.declared.states.TheConstants.{CLEAN, MARKED}
@@ -13,7 +13,7 @@ use Rattle.ellen_tree_form.specs.Shape.{Flagged, flags_at, flag_won, cause_here,
 
 -- nothing is exchanged: a client's word stays, or an update word has its bit cleared
 pub record IsQuiet (world after : World) : Type 0 where
-  pub words : (at : ℕ) → is_word world at ≡ true → (after.words at ≡ world.words at) ⊎ ((is_update at ≡ true) × (after.words at ≡ cleared_word (world.words at)))
+  pub words : (at : ℕ) → is_word no_root world at ≡ true → (after.words at ≡ world.words at) ⊎ ((is_update at ≡ true) × (after.words at ≡ cleared_word (world.words at)))
   pub changes : after.changes ≡ world.changes
   pub used : (block : ℕ) → after.used block ≡ world.used block
   pub journal : after.journal ≡ world.journal

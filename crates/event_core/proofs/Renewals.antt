@@ -1,16 +1,14 @@
 -- A core that is taken back to its opening.
-use Rattle.std.proofs.Common.{arith, ◌≡◌, ◌∙◌, ◌+◌, ◌<◌, ◌≤◌, ◌==◌, ◌||◌, refl, sym, subst, ap, ℕ, zero, suc, cond, List, [], ◌∷◌, length, map, slice_index, slice_index_or, slice_set, inl, inr}
-use Rattle.std.proofs.lemmas.Bool.{cases_eq, cases_lt, ne_eqb}
+use Rattle.std.proofs.Common.{arith, ◌≡◌, ◌∙◌, ◌+◌, ◌<◌, ◌≤◌, refl, sym, subst, ap, ℕ, zero, suc, List, [], ◌∷◌, length, map, slice_index, slice_index_or, slice_set, inl, inr}
+use Rattle.std.proofs.lemmas.Bool.{cases_eq, cases_lt}
 use Rattle.std.proofs.lemmas.List.{ext_get_or, get_or_past}
 use Rattle.std.proofs.lemmas.List.FromFn.{get_or-map-range_with_len, length-map-range_with_len}
-use Rattle.lin_report.specs.declared.calls.Client.{Client}
-use Rattle.lin_report.specs.declared.calls.Client.TheVariants as client
 use Rattle.step_memory.specs.declared.steps.Request.TheVariants.{Store}
 use Rattle.step_memory.specs.Step.{words_after}
 use Rattle.step_memory.proofs.Words.{length-words_after, word_at_place, word_elsewhere}
-use Rattle.node_arena.specs.MemoryMap.{reference_to, words_of}
-use Rattle.node_arena.specs.Opening.{dummy_word, opening_word, opening_words}
-use Rattle.node_arena.specs.declared.places.TheConstants.{HEAD, TAIL}
+use Rattle.node_arena.specs.MemoryMap.{words_of}
+use Rattle.node_arena.specs.Opening.{IsOpening, opening_words}
+use Rattle.node_arena.proofs.Openings.{opens_zero_behind}
 use Rattle.normal_traits.specs.NormalForm.{NormalForm}
 use Rattle.fast_slow_engine.specs.declared.setup.Setup.{Setup}
 use Rattle.fast_slow_engine.specs.PhaseTable.{mech_new, mech_request}
@@ -38,40 +36,25 @@ one_written from old now now' at value inside is step w =
       ];
     })
 
--- behind the first two blocks every opening has zeros
-zero_behind : (c : Client) (place : ℕ) → words_of 1 ≤ place → opening_word c place ≡ 0
-unfolding opening_word
-zero_behind client.Queue place behind =
-    ap (λ b. cond (b || (place == TAIL)) dummy_word 0) (ne_eqb place HEAD (λ e. absurd (omega (arith, e, behind))))
-    ∙ ap (λ b. cond b dummy_word 0) (ne_eqb place TAIL (λ e. absurd (omega (arith, e, behind))))
-zero_behind client.List place behind = refl
-zero_behind client.Buckets place behind = refl
-zero_behind client.Tree place behind =
-    ap (λ b. cond b 1048576 (cond ((place == 49) || (place == 54)) 1048577 (cond (place == 51) (reference_to 0 1) (cond (place == 52) (reference_to 0 3) 0)))) (ne_eqb place 44 (λ e. absurd (omega (arith, e, behind))))
-    ∙ ap (λ b. cond (b || (place == 54)) 1048577 (cond (place == 51) (reference_to 0 1) (cond (place == 52) (reference_to 0 3) 0))) (ne_eqb place 49 (λ e. absurd (omega (arith, e, behind))))
-    ∙ ap (λ b. cond b 1048577 (cond (place == 51) (reference_to 0 1) (cond (place == 52) (reference_to 0 3) 0))) (ne_eqb place 54 (λ e. absurd (omega (arith, e, behind))))
-    ∙ ap (λ b. cond b (reference_to 0 1) (cond (place == 52) (reference_to 0 3) 0)) (ne_eqb place 51 (λ e. absurd (omega (arith, e, behind))))
-    ∙ ap (λ b. cond b (reference_to 0 3) 0) (ne_eqb place 52 (λ e. absurd (omega (arith, e, behind))))
-
--- so the words of one block tell those of any number
-word_by_first : (c : Client) (place : ℕ) → slice_index (opening_words c 1) place ≡ opening_word c place
-word_by_first c place =
+-- behind block 0 every opening has zeros, so the words of one block tell those of any number
+word_by_first : (opening : ℕ → ℕ) → IsOpening opening → (place : ℕ) → slice_index (opening_words opening 1) place ≡ opening place
+word_by_first opening opens place =
     elim (cases_lt place (words_of 1)) [
-      | inl low ↦ get_or-map-range_with_len (opening_word c) 0 (words_of 1) place place 0 low (omega arith)
-      | inr behind ↦ get_or_past (opening_words c 1) place 0 (subst (λ n. n ≤ place) (sym (length-map-range_with_len (opening_word c) 0 (words_of 1))) behind) ∙ sym (zero_behind c place behind)
+      | inl low ↦ get_or-map-range_with_len opening 0 (words_of 1) place place 0 low (omega arith)
+      | inr behind ↦ get_or_past (opening_words opening 1) place 0 (subst (λ n. n ≤ place) (sym (length-map-range_with_len opening 0 (words_of 1))) behind) ∙ sym (opens_zero_behind opening opens place (omega (arith, behind)))
     ]
 
-pub rewritten : (c : Client) (blocks : ℕ) (opening words : List ℕ) → opening ≡ opening_words c 1 → length words ≡ words_of blocks → ((place : ℕ) → place < length words → slice_index words place ≡ slice_index opening place) → words ≡ opening_words c blocks
-rewritten c blocks opening words is count each =
-    let all = length-map-range_with_len (opening_word c) 0 (words_of blocks) in
-    ext_get_or 0 words (opening_words c blocks) (count ∙ sym all)
+pub rewritten : (opening : ℕ → ℕ) → IsOpening opening → (blocks : ℕ) (first words : List ℕ) → first ≡ opening_words opening 1 → length words ≡ words_of blocks → ((place : ℕ) → place < length words → slice_index words place ≡ slice_index first place) → words ≡ opening_words opening blocks
+rewritten opening opens blocks first words is count each =
+    let all = length-map-range_with_len opening 0 (words_of blocks) in
+    ext_get_or 0 words (opening_words opening blocks) (count ∙ sym all)
     (λ place inside.
-    each place inside ∙ ap (λ ws. slice_index ws place) is ∙ word_by_first c place
-    ∙ sym (get_or-map-range_with_len (opening_word c) 0 (words_of blocks) place place 0 (subst (λ n. place < n) count inside) (omega arith)))
+    each place inside ∙ ap (λ ws. slice_index ws place) is ∙ word_by_first opening opens place
+    ∙ sym (get_or-map-range_with_len opening 0 (words_of blocks) place place 0 (subst (λ n. place < n) count inside) (omega arith)))
 
 -- a run has as many words as it opens with
 pub words_stay : {S W : Type 0} (form : NormalForm S W) (setup : Setup) (moves : List Move) → AreMoves form setup moves → length (run_of form setup moves).words ≡ words_of setup.cap
-words_stay form setup [] are = length-map-range_with_len (opening_word form.client) 0 (words_of setup.cap)
+words_stay form setup [] are = length-map-range_with_len form.opening 0 (words_of setup.cap)
 words_stay {S} {W} form setup (move ∷ older) are =
     let is = are.1 in
     let state = run_of form setup older in

@@ -2,7 +2,7 @@
 use Rattle.std.proofs.Common.{arith, ◌≡◌, ◌∙◌, sym, subst, ap, ℕ, zero, suc, ◌+◌, ◌*◌, ◌<◌, ◌≤◌, ◌++◌, List, [], ◌∷◌, length, length-set, map, slice_get, slice_set, slice_index_or, true, Option, Some}
 use Rattle.std.specs.Prelude.{sum_by}
 use Rattle.std.proofs.lemmas.List.{length-append, map-set}
-use Rattle.std.proofs.lemmas.List.Sums.{sum_by-cons, sum_by-set}
+use Rattle.std.proofs.lemmas.List.Sums.{get_or-le-sum_by, sum_by-cons, sum_by-set}
 use Rattle.lin_report.specs.declared.calls.Op.{Op}
 use Rattle.lin_report.specs.declared.events.Event.{Event}
 use Rattle.step_memory.specs.Step.{seen_of, words_after}
@@ -76,6 +76,13 @@ module _ {S W : Type 0} where
     -- a seat that begins nothing leaves all as it was
     pub over_kept : is_over s ≡ true → IsCore form setup opening words (slice_set seats i s1) lines line_room events event_room
     over_kept over = subst (λ l. IsCore form setup opening words l lines line_room events event_room) (sym (put_same seats i s s1 at (over_stays s s1 m1 f1 over))) is
+
+    -- there is room for the lines that the seat owes
+    pub room_for_lines : lines_owed s1 ≡ lines_owed s → lines + lines_owed s1 ≤ line_room
+    room_for_lines same =
+        let left = is.for_lines in
+        let own = subst (λ (x : Seat S W). lines_owed x ≤ sum_by lines_owed seats) (sym at) (get_or-le-sum_by lines_owed seats i s inside) in
+        omega (arith, left, own, same)
 
     module _ (keeps : (moves : List Move) → AreMoves form setup moves → KeepsQueue form setup moves) (can : CanMove form (command_of s) s.mech) (s2 : Seat S W) (words' : List ℕ)
         (w : words' ≡ words_after (mech_request form s1.mech) words) (m2 : s2.mech ≡ mech_fed form s1.mech (seen_of (mech_request form s1.mech) words)) (f2 : s2.file ≡ s1.file) (few : s2.mech.number ≤ length s2.file) where

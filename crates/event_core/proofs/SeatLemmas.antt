@@ -12,7 +12,7 @@ use Rattle.fast_slow_engine.specs.Runs.{returned}
 
 module _ {S W : Type 0} (form : NormalForm S W) where
   -- fed, it has begun as many calls
-  pub seat_fed : (new mech : Mech S W) (file : List Op) (seen : Seen) → new ≡ mech_fed form mech seen → IsSeatOf form.client (record { mech = mech; file = file }) → IsSeatOf form.client (record { mech = new; file = file })
+  pub seat_fed : (new mech : Mech S W) (file : List Op) (seen : Seen) → new ≡ mech_fed form mech seen → IsSeatOf form.object (record { mech = mech; file = file }) → IsSeatOf form.object (record { mech = new; file = file })
   seat_fed new mech file seen h seat = record { file = seat.file; number = subst (λ n. n ≤ length file) (sym (same_as_fed form new mech seen h).number) seat.number }
 
   -- fed, it owes a line less where its call returned

@@ -1,6 +1,6 @@
 -- Seats are made one for each file.
 use Rattle.std.proofs.Common.{rules, arith, ◌<◌, subst, remove, suc, slice_index_or, sum_by, ◌*◌, ◌≡◌, ◌∙◌, ◌+◌, ◌≤◌, ◌++◌, ◌∷◌, [], refl, sym, ap, ℕ, List, length, map, All}
-use Rattle.lin_report.specs.declared.calls.Client.{Client}
+use Rattle.lin_report.specs.Object.{Object}
 use Rattle.lin_report.specs.declared.calls.Op.{Op}
 use Rattle.lin_report.specs.CommandFiles.{IsCommandFile}
 use Rattle.normal_traits.specs.NormalForm.{NormalForm}
@@ -19,13 +19,13 @@ use Rattle.event_core.proofs.CoreLemmas.{rebuilt}
 -- so many seats stand, and the others come from the files that are left
 pub record Seating {S W : Type 0} {F : Type 0} (commands : F → List Op) (form : NormalForm S W) (setup : Setup) (seats : List (Seat S W)) (room : ℕ) (rest files : List F) : Type 0 where
   pub made : seats ++ new_seats setup (length seats) (map commands rest) ≡ new_seats setup 0 (map commands files)
-  pub commanded : All (λ file. IsCommandFile form.client (commands file)) rest
+  pub commanded : All (λ file. IsCommandFile form.object (commands file)) rest
   pub count : length seats + length rest ≡ setup.seats
   pub room' : length seats + length rest ≤ room
 
 -- the first file that is left is one of commands
-pub first_file : {F : Type 0} (client : Client) (commands : F → List Op) (rest : List F) (file : F) → All (λ f. IsCommandFile client (commands f)) rest → 0 < length rest → file ≡ slice_index_or rest 0 file → IsCommandFile client (commands file)
-first_file client commands rest file all some at = subst (λ x. IsCommandFile client (commands x)) (sym at) (all 0 file some)
+pub first_file : {F : Type 0} (object : Object) (commands : F → List Op) (rest : List F) (file : F) → All (λ f. IsCommandFile object (commands f)) rest → 0 < length rest → file ≡ slice_index_or rest 0 file → IsCommandFile object (commands file)
+first_file object commands rest file all some at = subst (λ x. IsCommandFile object (commands x)) (sym at) (all 0 file some)
 
 all_behind : {F : Type 0} (P : F → Type 0) (rest : List F) → All P rest → All P (remove rest 0)
 all_behind P [] all = all
@@ -46,7 +46,7 @@ module _ {S W F : Type 0} (commands : F → List Op) (form : NormalForm S W) (se
       ∙ ap (λ x. seats ++ x ∷ new_seats setup (length seats + 1) (map commands rest)) (is ∙ ap (λ x. record { mech = mech_new (length seats) setup; file = commands x }) at)
 
   -- no seat stands, and the files are all left
-  pub none_seated : (seats : List (Seat S W)) (room : ℕ) (files : List F) → seats ≡ [] → All (λ file. IsCommandFile form.client (commands file)) files → length files ≡ setup.seats → length files ≤ room
+  pub none_seated : (seats : List (Seat S W)) (room : ℕ) (files : List F) → seats ≡ [] → All (λ file. IsCommandFile form.object (commands file)) files → length files ≡ setup.seats → length files ≤ room
       → Seating commands form setup seats room files files
   none_seated seats room files none all count room' =
       record {
@@ -71,7 +71,7 @@ module _ {S W F : Type 0} (commands : F → List Op) (form : NormalForm S W) (se
       (subst (λ x. Seating commands form setup (seats ++ seat ∷ []) x (remove rest 0) files) (sym same)
       (record {
         made = next_made seats seat rest file some at seat_is ∙ s.made;
-        commanded = all_behind (λ f. IsCommandFile form.client (commands f)) rest s.commanded;
+        commanded = all_behind (λ f. IsCommandFile form.object (commands f)) rest s.commanded;
         count = omega (arith, longer, fewer, s.count);
         room' = omega (arith, longer, fewer, s.room');
       })))
@@ -104,7 +104,7 @@ module _ {S W F : Type 0} (commands : F → List Op) (form : NormalForm S W) (se
   fresh_mechs seat (file ∷ files) = ap (λ l. mech_new seat setup ∷ l) (fresh_mechs (seat + 1) files)
 
   pub fresh_core : (words words' : List ℕ) (seats : List (Seat S W)) (receipts : List Receipt) (events : List Event) (files : List F)
-      → words ≡ words' → words' ≡ opening_words form.client setup.cap → seats ≡ new_seats setup 0 (map commands files) → length files ≡ setup.seats → receipts ≡ [] → events ≡ []
+      → words ≡ words' → words' ≡ opening_words form.opening setup.cap → seats ≡ new_seats setup 0 (map commands files) → length files ≡ setup.seats → receipts ≡ [] → events ≡ []
       → core_of setup words seats receipts events ≡ core_new form setup (map commands files)
   fresh_core words words' seats receipts events files w w' s count r e =
       rebuilt setup (ap (map (λ (x : Seat S W). x.file)) s ∙ fresh_files 0 files) (w ∙ w')
@@ -123,7 +123,7 @@ module _ {S W F : Type 0} (commands : F → List Op) (form : NormalForm S W) (se
       omega (arith, rest, left, right)
 
   -- no move was made yet
-  fresh_run : (words : List ℕ) (files : List F) → words ≡ opening_words form.client setup.cap → length files ≡ setup.seats → IsRun form setup words (map (λ seat. seat.mech) (new_seats setup 0 (map commands files))) []
+  fresh_run : (words : List ℕ) (files : List F) → words ≡ opening_words form.opening setup.cap → length files ≡ setup.seats → IsRun form setup words (map (λ seat. seat.mech) (new_seats setup 0 (map commands files))) []
   fresh_run words files w count = record {
     moves = [];
     are = tt;
@@ -132,7 +132,7 @@ module _ {S W F : Type 0} (commands : F → List Op) (form : NormalForm S W) (se
     events_are = refl;
   }
 
-  pub fresh_room : (opening words words' : List ℕ) (seats : List (Seat S W)) (files : List F) (commanded lines line_room : ℕ) (events : List Event) (event_room : ℕ) → opening ≡ opening_words form.client 1 → words ≡ words' → words' ≡ opening_words form.client setup.cap → seats ≡ new_seats setup 0 (map commands files)
+  pub fresh_room : (opening words words' : List ℕ) (seats : List (Seat S W)) (files : List F) (commanded lines line_room : ℕ) (events : List Event) (event_room : ℕ) → opening ≡ opening_words form.opening 1 → words ≡ words' → words' ≡ opening_words form.opening setup.cap → seats ≡ new_seats setup 0 (map commands files)
       → commanded ≡ sum_by (λ file. length (commands file)) files → lines ≡ 0 → events ≡ [] → commanded ≤ line_room → 4 * commanded ≤ event_room → length files ≡ setup.seats
       → IsCore form setup opening words seats lines line_room events event_room
   fresh_room opening words words' seats files commanded lines line_room events event_room o w w' s c l e lr er count =

@@ -44,7 +44,7 @@ HaveBegun (seat ∷ seats) = (seat.mech.number ≤ length seat.file) × HaveBegu
 -- for each of the setup; the run that it holds; room for all lines that the seats still owe, beside so many; and, of each
 -- command, room for a line and for four events
 pub record IsCore {S W : Type 0} (form : NormalForm S W) (setup : Setup) (opening words : List ℕ) (seats : List (Seat S W)) (lines line_room : ℕ) (events : List Event) (event_room : ℕ) : Type 0 where
-  pub opened : opening ≡ opening_words form.client 1
+  pub opened : opening ≡ opening_words form.opening 1
   pub count : length seats ≡ setup.seats
   pub begun : HaveBegun seats
   pub run : IsRun form setup words (map (λ seat. seat.mech) seats) events

@@ -1,6 +1,6 @@
 -- A seat with the file of its commands.
 use Rattle.std.specs.Prelude.{ℕ, ◌+◌, ◌-◌, ◌≤◌, Bool, false, if◌then◌else◌, List, length, slice_get, Option, None, is_none}
-use Rattle.lin_report.specs.declared.calls.Client.{Client}
+use Rattle.lin_report.specs.Object.{Object}
 use Rattle.lin_report.specs.declared.calls.Op.{Op}
 use Rattle.lin_report.specs.CommandFiles.{IsCommandFile}
 use Rattle.fast_slow_engine.specs.Mechs.{Mech}
@@ -12,8 +12,8 @@ pub record Seat (S W : Type 0) : Type 0 where
   pub file : List Op
 
 -- the seat's calls are commands of its file, begun in order
-pub record IsSeatOf {S W : Type 0} (client : Client) (seat : Seat S W) : Type 0 where
-  pub file : IsCommandFile client seat.file
+pub record IsSeatOf {S W : Type 0} (object : Object) (seat : Seat S W) : Type 0 where
+  pub file : IsCommandFile object seat.file
   pub number : seat.mech.number ≤ length seat.file
 
 -- how many lines the seat has still to write: one for each command that hasn't returned

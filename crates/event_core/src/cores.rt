@@ -1,6 +1,5 @@
 //! A run of seats over their command files.
 ghost use Rattle.std.specs.Prelude.{◌≡◌, ◌+◌, ◌++◌, ◌<◌, ◌≤◌, All, IfOk, Some, false, [], length, map, slice_get, sum_by, vec_len, vec_capacity};
-ghost use Rattle.node_arena.specs.Opening.{IsLaidOut};
 ghost use Rattle.lin_report.specs.CommandFiles.{IsCommandFile};
 ghost use Rattle.std.specs.Option.{option_to_list};
 ghost use Rattle.fast_slow_engine.specs.Runs.{returned};
@@ -16,7 +15,6 @@ use crate::watching::Watched;
 use arrayvec::ArrayVec;
 use fast_slow_engine::{Plays, Setup, Turn};
 use lin_report::{Event, NoMemory, Op, PendingCall, Receipt};
-use node_arena::opening_words;
 use normal_traits::Normalized;
 use overtaking_law::greatest_overtaken;
 use std::alloc::Global;
@@ -69,13 +67,12 @@ impl<C: Normalized> Core<C> {
     /// The run of these files that made no step, one seat for each. All room is made here: after
     /// `NoMemory` the files are gone, and nothing else is left.
     pub fn new(alloc: Global, setup: Setup, files: Vec<Vec<Op>>) -> Result<Core<C>, NoMemory>
-        requires client { IsLaidOut C.form.client }
         requires seats { length files.items ≡ setup.seats }
-        requires files { All (λ file. IsCommandFile C.form.client file.items) files.items }
+        requires files { All (λ file. IsCommandFile C.form.object file.items) files.items }
         ensures core { IfOk result (λ core. core ≡ core_new C.form setup (map (λ file. file.items) files.items)) }
     {
-        let opening = opening_words(alloc, 1, C::CLIENT)?;
-        let words = opening_words(alloc, setup.cap, C::CLIENT)?;
+        let opening = C::opening(alloc, 1)?;
+        let words = C::opening(alloc, setup.cap)?;
         let commands = commands_of(&files);
         let receipts = room_for(alloc, commands)?;
         let events = room_for(alloc, EVENTS * commands)?;
@@ -110,8 +107,7 @@ impl<C: Normalized> Core<C> {
             return CoreTurn::Idle;
         }
         if at.draws_tick() {
-            let turn = draw(at, &mut self.cells, &mut self.events);
-            return keep(&mut self.receipts, turn);
+            return draw_tick(at, &mut self.cells, &mut self.events, &mut self.receipts);
         }
         at.go_on_over(&mut self.cells);
         let Some(mark) = self.cells.mark() else {
@@ -216,7 +212,7 @@ fn seats_of<C: Normalized>(
     files: Vec<Vec<Op>>,
 ) -> Result<Vec<Seat<C>>, NoMemory>
     requires seats { length files.items ≡ setup.seats }
-    requires files { All (λ file. IsCommandFile C.form.client file.items) files.items }
+    requires files { All (λ file. IsCommandFile C.form.object file.items) files.items }
     ensures seats { IfOk result (λ seats. seats.items ≡ new_seats setup 0 (map (λ file. file.items) files.items)) }
 {
     let mut seats = room_for(alloc, files.len())?;
@@ -238,8 +234,35 @@ fn add_pending(pending: &mut ArrayVec<PendingCall, 8>, call: Option<PendingCall>
     }
 }
 
-/// The step of a seat that draws a tick. Its event is put last.
+/// The step of a seat that draws a tick. Its event is put last, and so is the line of a call that returns. It stands for
+/// itself, so that no other step makes room for a line.
 #[inline(never)]
+fn draw_tick<C: Normalized>(
+    at: &mut Seat<C>,
+    cells: &mut Watched,
+    events: &mut Vec<Event>,
+    receipts: &mut Vec<Receipt>,
+) -> CoreTurn
+    requires runs { rests at.old.mech.phase ≡ false }
+    requires room { vec_len events.old + length (option_to_list (mech_event at.old.mech)) ≤ vec_capacity events.old }
+    requires lines { vec_len receipts.old + lines_owed at.old ≤ vec_capacity receipts.old }
+    ensures words { cells.new.words ≡ words_after (mech_request C.form at.old.mech) cells.old.words }
+    ensures mech { at.new.mech ≡ mech_fed C.form at.old.mech (seen_of (mech_request C.form at.old.mech) cells.old.words) }
+    ensures number { at.new.mech.number ≤ length at.new.file }
+    ensures file { at.new.file ≡ at.old.file }
+    ensures lines { lines_owed at.new + length (returned (mech_turn at.old.mech (seen_of (mech_request C.form at.old.mech) cells.old.words))) ≡ lines_owed at.old }
+    ensures items { events.new.items ≡ events.old.items ++ option_to_list (mech_event at.old.mech) }
+    ensures capacity { vec_capacity events.new ≡ vec_capacity events.old }
+    ensures receipts { receipts.new.items ≡ receipts.old.items ++ returned (mech_turn at.old.mech (seen_of (mech_request C.form at.old.mech) cells.old.words)) }
+    ensures count { vec_len receipts.new ≡ vec_len receipts.old + length (returned (mech_turn at.old.mech (seen_of (mech_request C.form at.old.mech) cells.old.words))) }
+    ensures room { vec_capacity receipts.new ≡ vec_capacity receipts.old }
+    ensures turn { result ≡ core_turn_of (mech_turn at.old.mech (seen_of (mech_request C.form at.old.mech) cells.old.words)) }
+{
+    let turn = draw(at, cells, events);
+    keep(receipts, turn)
+}
+
+/// The same, but for the line.
 fn draw<C: Normalized>(at: &mut Seat<C>, cells: &mut Watched, events: &mut Vec<Event>) -> Turn
     requires runs { rests at.old.mech.phase ≡ false }
     requires room { vec_len events.old + length (option_to_list (mech_event at.old.mech)) ≤ vec_capacity events.old }

@@ -25,7 +25,7 @@ impl<C: Normalized> Model for Seat<C> {
 
     ghost view = { λ s. record { mech = s.machine; file = s.file.items } };
 
-    ghost invariant = { λ s. IsSeatOf C.form.client (record { mech = s.machine; file = s.file.items }) };
+    ghost invariant = { λ s. IsSeatOf C.form.object (record { mech = s.machine; file = s.file.items }) };
 }
 
 impl<C: Normalized> Seat<C> {
@@ -57,7 +57,7 @@ impl<C: Normalized> Seat<C> {
     /// The seat of this number, whose machine has made no call.
     pub fn new(seat: u32, setup: Setup, file: Vec<Op>) -> Seat<C>
         requires seat { seat < setup.seats }
-        requires file { IsCommandFile C.form.client file.items }
+        requires file { IsCommandFile C.form.object file.items }
         ensures mech { result.mech ≡ mech_new seat setup }
         ensures file { result.file ≡ file.items }
     {

@@ -3,7 +3,6 @@ use Rattle.std.specs.Prelude.{◌≡◌, ℕ, ◌+◌, ◌<◌, ◌≤◌, ◌==
 use Rattle.lin_report.specs.declared.calls.Op.{Op}
 use Rattle.lin_report.specs.declared.calls.Reply.TheVariants as reply
 use Rattle.lin_report.specs.declared.calls.Outcome.TheVariants.{Plain}
-use Rattle.lin_report.specs.Commands.{is_command}
 use Rattle.step_memory.specs.declared.steps.Request.{Request}
 use Rattle.step_memory.specs.declared.steps.Request.TheVariants.{Load, Exchange, Add}
 use Rattle.step_memory.specs.declared.steps.Seen.{Seen}
@@ -168,7 +167,7 @@ module _ {S W : Type 0} (form : NormalForm S W) where
 
   -- a block whose operation is no command is not wrapped up
   abbrev pub given_turn : Op → ℕ → WorkTurn
-  given_turn op word = again_if (not (is_executing (record_phase word)) && not (is_command form.client op))
+  given_turn op word = again_if (not (is_executing (record_phase word)) && not (form.object.serves op))
 
   abbrev pub read_turn : Option (ℕ × ℕ × ArrayVec Entry) → ℕ → WorkTurn
   read_turn None word = Going
@@ -181,7 +180,7 @@ module _ {S W : Type 0} (form : NormalForm S W) where
   abbrev pub work_turn : Work S W → ℕ → ℕ → Seen → WorkTurn
   work_turn work.Head head word seen = if leads seen.before head then Going else Over
   work_turn work.Op head word seen = again_if (not (op_number seen.before == record_number word))
-  work_turn (work.Value op) head word seen = again_if (not ((value_number seen.before == record_number word) && is_command form.client (announced_op op seen.before)))
+  work_turn (work.Value op) head word seen = again_if (not ((value_number seen.before == record_number word) && form.object.serves (announced_op op seen.before)))
   work_turn (work.Generate op search at) head word seen = generate_turn search at seen
   work_turn (work.Fill stores made) head word seen = Going
   work_turn (work.Advance to) head word seen = Again
@@ -229,7 +228,7 @@ module _ {S W : Type 0} (form : NormalForm S W) where
   CanWork work.Head = Unit {0}
   CanWork work.Op = Unit {0}
   CanWork (work.Value op) = Unit {0}
-  CanWork (work.Generate op search at) = IsTrue (is_command form.client op) × IsGeneratingAt search at
+  CanWork (work.Generate op search at) = IsTrue (form.object.serves op) × IsGeneratingAt search at
   CanWork (work.Fill stores made) = made < length stores.items
   CanWork (work.Advance to) = Unit {0}
   CanWork (work.Read read) = IsReading read
@@ -238,7 +237,7 @@ module _ {S W : Type 0} (form : NormalForm S W) where
 
   -- the work is a search that can name its list
   abbrev pub CanName : Work S W → Type 0
-  CanName (work.Generate op search at) = IsTrue (is_command form.client op) × form.is_ready search
+  CanName (work.Generate op search at) = IsTrue (form.object.serves op) × form.is_ready search
   CanName _ = ⊥
 
   abbrev pub CanHelpAt : Helping S W → Type 0

@@ -1,9 +1,8 @@
 -- A machine as plain data, and which states a machine can be in.
 use Rattle.std.specs.Prelude.{◌≡◌, ℕ, ◌^◌, ◌<◌, ◌≤◌, IsTrue, length, Option}
 use Rattle.lin_report.specs.declared.calls.Op.{Op}
-use Rattle.lin_report.specs.declared.calls.Client.{Client}
 use Rattle.lin_report.specs.declared.calls.Path.{Path}
-use Rattle.lin_report.specs.Commands.{is_command}
+use Rattle.lin_report.specs.Object.{Object}
 use Rattle.normal_traits.specs.NormalForm.{NormalForm}
 use Rattle.cas_executor.specs.FastRuns.{IsRunning}
 use Rattle.fast_slow_engine.specs.declared.setup.Setup.{Setup}
@@ -59,16 +58,16 @@ pub record IsInRange (call : Call) : Type 0 where
   pub few_blocks : block_of call.hand < 2 ^ 17
   pub same_limit : call.contention.limit ≡ call.setup.limit
 
--- a call of a command of the client
-pub record IsCallOf (client : Client) (call : Call) : Type 0 where
+-- a call of a command of the object
+pub record IsCallOf (object : Object) (call : Call) : Type 0 where
   pub range : IsInRange call
   pub some : 1 ≤ call.number
-  pub command : IsTrue (is_command client call.op)
+  pub command : IsTrue (object.serves call.op)
 
 -- a machine may be in this state: a call that runs is a command
 abbrev pub IsMachine : {S W : Type 0} → NormalForm S W → Call → Phase S W → Type 0
 IsMachine form call phase.Idle = IsInRange call
-IsMachine form call phase = IsCallOf form.client call × IsReadyIn form phase
+IsMachine form call phase = IsCallOf form.object call × IsReadyIn form phase
 
 -- a generator of the phase can name its list
 abbrev pub CanOffer : {S W : Type 0} → NormalForm S W → Phase S W → Type 0

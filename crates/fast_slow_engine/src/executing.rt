@@ -13,7 +13,6 @@ use crate::help_words::{again_word, announced_op, named_block, stop_of, told_wor
 use crate::plays::Plays;
 use cas_executor::{Execution, SlowRun};
 use lin_report::Op;
-use lin_report::commands::is_command;
 use normal_traits::{List, Normalized, Wrapped};
 use step_memory::Seen;
 use word_fields::{Phase as RecordPhase, RecordWord};
@@ -52,7 +51,7 @@ fn use_block<C: Normalized>(
         *task = Task::Execute(SlowRun::new(named_block(word), list));
         return WorkTurn::Going;
     }
-    if !is_command(C::CLIENT, op) {
+    if !C::serves(op) {
         return WorkTurn::Again;
     }
     let (wrap, begun) = C::begin_wrap(op, &list, stop_of(word, &list));

@@ -31,7 +31,7 @@ pub fn tell<S: Drop, W: Drop>(outcome: Outcome, call: &Call, room: &mut Room<S, 
 
 /// Begins a new search. At the limit of failures the call is announced.
 pub fn try_again<C: Normalized>(call: &Call, room: &mut Room<C::Search, C::Wrap>)
-    requires { IsCallOf C.form.client call.now }
+    requires { IsCallOf C.form.object call.now }
     ensures machine { mech_of call.now (phase_of room.new) ≡ tried C.form (mech_of call.now (phase_of room.old)) }
     ensures ready { IsReadyIn C.form (phase_of room.new) }
 {
@@ -48,9 +48,9 @@ pub fn try_again<C: Normalized>(call: &Call, room: &mut Room<C::Search, C::Wrap>
 /// Counts a failure and begins a new search.
 #[inline(never)]
 fn fail<C: Normalized>(call: &mut Call, room: &mut Room<C::Search, C::Wrap>)
-    requires { IsCallOf C.form.client call.old }
+    requires { IsCallOf C.form.object call.old }
     ensures machine { mech_of call.new (phase_of room.new) ≡ failed C.form (mech_of call.old (phase_of room.old)) }
-    ensures call { IsCallOf C.form.client call.new }
+    ensures call { IsCallOf C.form.object call.new }
     ensures ready { IsReadyIn C.form (phase_of room.new) }
 {
     call.contention.count();
@@ -59,7 +59,7 @@ fn fail<C: Normalized>(call: &mut Call, room: &mut Room<C::Search, C::Wrap>)
 
 /// Makes the stores that fill a block for a list that the seat executes itself.
 pub fn fill_for<C: Normalized>(call: &Call, search: &C::Search, block: u32, stores: &mut Stores)
-    requires call { IsCallOf C.form.client call.now }
+    requires call { IsCallOf C.form.object call.now }
     requires ready { C.form.is_ready search.now }
     requires block { block < 2 ^ 17 }
     ensures filled { stores.new.items ≡ own_stores block call.now.seat call.now.number call.now.op (C.form.offer_of search.now call.now.op block).stores }
@@ -71,7 +71,7 @@ pub fn fill_for<C: Normalized>(call: &Call, search: &C::Search, block: u32, stor
 /// Names the list of a generator that is ready, with the block in hand where the operation needs one. The
 /// block is filled first.
 fn offer<C: Normalized>(call: &Call, room: &mut Room<C::Search, C::Wrap>)
-    requires call { IsCallOf C.form.client call.now }
+    requires call { IsCallOf C.form.object call.now }
     requires ready { CanOffer C.form (phase_of room.old) }
     ensures machine { mech_of call.now (phase_of room.new) ≡ offered_in C.form (phase_of room.old) (mech_of call.now (phase_of room.old)) }
     ensures ready { IsReadyIn C.form (phase_of room.new) }
@@ -99,7 +99,7 @@ fn offer<C: Normalized>(call: &Call, room: &mut Room<C::Search, C::Wrap>)
 /// is in hand.
 #[inline(never)]
 fn ready<C: Normalized>(call: &Call, room: &mut Room<C::Search, C::Wrap>)
-    requires call { IsCallOf C.form.client call.now }
+    requires call { IsCallOf C.form.object call.now }
     requires ready { CanOffer C.form (phase_of room.old) }
     ensures machine { mech_of call.now (phase_of room.new) ≡ readied_in C.form (phase_of room.old) (mech_of call.now (phase_of room.old)) }
     ensures ready { IsReadyIn C.form (phase_of room.new) }
@@ -117,11 +117,11 @@ fn ready<C: Normalized>(call: &Call, room: &mut Room<C::Search, C::Wrap>)
 /// A step of the generator.
 #[inline(always)]
 pub fn search<C: Normalized>(call: &mut Call, room: &mut Room<C::Search, C::Wrap>, seen: Seen)
-    requires call { IsCallOf C.form.client call.old }
+    requires call { IsCallOf C.form.object call.old }
     requires searches { IsAt Generating.Search (phase_of room.old) }
     requires ready { IsReadyIn C.form (phase_of room.old) }
     ensures machine { mech_of call.new (phase_of room.new) ≡ stepped C.form (phase_of room.old) seen (mech_of call.old (phase_of room.old)) }
-    ensures call { IsCallOf C.form.client call.new }
+    ensures call { IsCallOf C.form.object call.new }
     ensures ready { IsReadyIn C.form (phase_of room.new) }
 {
     let Doing::Generate { search, .. } = &mut room.doing else {
@@ -163,11 +163,11 @@ pub fn look_for_block<C: Normalized>(call: &Call, room: &mut Room<C::Search, C::
 /// Takes the block that was claimed, where there was one.
 #[inline(never)]
 pub fn claim<C: Normalized>(call: &mut Call, room: &mut Room<C::Search, C::Wrap>, seen: Seen)
-    requires call { IsCallOf C.form.client call.old }
+    requires call { IsCallOf C.form.object call.old }
     requires claims { IsAt Generating.Claim (phase_of room.old) }
     requires ready { IsReadyIn C.form (phase_of room.old) }
     ensures machine { mech_of call.new (phase_of room.new) ≡ stepped C.form (phase_of room.old) seen (mech_of call.old (phase_of room.old)) }
-    ensures call { IsCallOf C.form.client call.new }
+    ensures call { IsCallOf C.form.object call.new }
     ensures ready { IsReadyIn C.form (phase_of room.new) }
 {
     if none_is_left(call, seen.before) {
@@ -204,10 +204,10 @@ fn wrapped<C: Normalized>(
     call: &mut Call,
     room: &mut Room<C::Search, C::Wrap>,
 )
-    requires call { IsCallOf C.form.client call.old }
+    requires call { IsCallOf C.form.object call.old }
     requires goes { wrapped ≡ Wrapped.Going → C.form.wraps wrap }
     ensures machine { (before : Phase C.Search C.Wrap) → mech_of call.new (phase_of room.new) ≡ wrapped_up C.form wrapped wrap (mech_of call.old before) }
-    ensures call { IsCallOf C.form.client call.new }
+    ensures call { IsCallOf C.form.object call.new }
     ensures ready { IsReadyIn C.form (phase_of room.new) }
 {
     match wrapped {
@@ -219,11 +219,11 @@ fn wrapped<C: Normalized>(
 
 /// Where an entry of the list took effect, the block that it uses is no longer in hand.
 pub fn spend<C: Normalized>(call: &mut Call, stop: u32)
-    requires { IsCallOf C.form.client call.old }
+    requires { IsCallOf C.form.object call.old }
     ensures machine { (phase : Phase C.Search C.Wrap) → mech_of call.new phase ≡ spent C.form stop (mech_of call.old phase) }
     ensures op { call.new.op ≡ call.old.op }
     ensures same { IsSameCall call.new call.old }
-    ensures call { IsCallOf C.form.client call.new }
+    ensures call { IsCallOf C.form.object call.new }
 {
     if stop > 0 && C::needs_block(call.op) {
         call.hand = None;
@@ -233,11 +233,11 @@ pub fn spend<C: Normalized>(call: &mut Call, stop: u32)
 /// The exchange of an entry was made.
 #[inline(never)]
 pub fn execute<C: Normalized>(call: &mut Call, room: &mut Room<C::Search, C::Wrap>, seen: Seen)
-    requires call { IsCallOf C.form.client call.old }
+    requires call { IsCallOf C.form.object call.old }
     requires executes { Executes (phase_of room.old) }
     requires ready { IsReadyIn C.form (phase_of room.old) }
     ensures machine { mech_of call.new (phase_of room.new) ≡ stepped C.form (phase_of room.old) seen (mech_of call.old (phase_of room.old)) }
-    ensures call { IsCallOf C.form.client call.new }
+    ensures call { IsCallOf C.form.object call.new }
     ensures ready { IsReadyIn C.form (phase_of room.new) }
 {
     let Doing::Apply { run, .. } = &mut room.doing else {
@@ -254,11 +254,11 @@ pub fn execute<C: Normalized>(call: &mut Call, room: &mut Room<C::Search, C::Wra
 /// A step of the wrap-up.
 #[inline(never)]
 pub fn wrap_up<C: Normalized>(call: &mut Call, room: &mut Room<C::Search, C::Wrap>, seen: Seen)
-    requires call { IsCallOf C.form.client call.old }
+    requires call { IsCallOf C.form.object call.old }
     requires wraps { WrapsUp (phase_of room.old) }
     requires ready { IsReadyIn C.form (phase_of room.old) }
     ensures machine { mech_of call.new (phase_of room.new) ≡ stepped C.form (phase_of room.old) seen (mech_of call.old (phase_of room.old)) }
-    ensures call { IsCallOf C.form.client call.new }
+    ensures call { IsCallOf C.form.object call.new }
     ensures ready { IsReadyIn C.form (phase_of room.new) }
 {
     let Doing::Wrap(wrap) = &mut room.doing else {

@@ -11,7 +11,6 @@ ghost use Rattle.fast_slow_engine.specs.HelpWords.{is_executing};
 ghost use Rattle.fast_slow_engine.specs.declared.help.Helping.{Helping};
 ghost use Rattle.fast_slow_engine.specs.declared.help.Work.{Work as Does};
 ghost use Rattle.fast_slow_engine.specs.declared.phases.Generating.{Generating as Stage};
-ghost use Rattle.lin_report.specs.Commands.{is_command};
 ghost use Rattle.step_memory.specs.declared.steps.Seen.{Seen};
 ghost use Rattle.word_fields.specs.Records.{record_number};
 ghost use Rattle.fast_slow_engine.specs.declared.help.WorkTurn.{WorkTurn as Turned};
@@ -29,7 +28,6 @@ use help_queue::Removing;
 use help_queue::gather::leads;
 use help_queue::heads::{is_other, removal_of};
 use lin_report::Op;
-use lin_report::commands::is_command;
 use node_arena::places::QUEUE;
 use node_arena::{op_place, record_place, value_place};
 use normal_traits::{Normalized, Stores};
@@ -45,6 +43,7 @@ pub struct Helped {
 
 /// After the load of the record. Values of these sizes are written where they are made, in a function of their own, so
 /// that no other step makes room for them.
+#[inline(always)]
 fn meet<S: Drop, W: Drop>(word: u64, aid: &mut Aid<S, W>)
     requires head { aid.old.head < aid.old.seats }
     requires few { aid.old.seats ≤ 8 }
@@ -71,6 +70,7 @@ fn read_again<S: Drop, W: Drop>(word: u64, aid: &mut Aid<S, W>)
 }
 
 /// What is done first where the seat is the head: a list that stands is read, any other call's operation is loaded.
+#[inline(always)]
 fn begin_work<C: Normalized>(word: u64, task: &mut Task<C::Search, C::Wrap>)
     ensures work { (stores : ArrayVec (ℕ × ℕ)) → work_of task.new stores ≡ first_work C.form (record_phase word) word }
     ensures can { (stores : ArrayVec (ℕ × ℕ)) → CanWork C.form (work_of task.new stores) }
@@ -85,7 +85,7 @@ fn begin_work<C: Normalized>(word: u64, task: &mut Task<C::Search, C::Wrap>)
 
 /// The search of the call's operation begins.
 fn begin_search<C: Normalized>(op: Op, task: &mut Task<C::Search, C::Wrap>)
-    requires { IsTrue (is_command C.form.client op) }
+    requires { IsTrue (C.form.object.serves op) }
     ensures work { (stores : ArrayVec (ℕ × ℕ)) → work_of task.new stores ≡ Does.Generate op (C.form.begin_of op) Stage.Search }
     ensures can { (stores : ArrayVec (ℕ × ℕ)) → CanWork C.form (work_of task.new stores) }
 {
@@ -165,7 +165,7 @@ fn look_up<C: Normalized, P: Plays>(
                 at: value_place(helped.head),
             });
             let op = announced_op(*op, seen.before);
-            if ValueWord::unpack(seen.before).number != number || !is_command(C::CLIENT, op) {
+            if ValueWord::unpack(seen.before).number != number || !C::serves(op) {
                 return (WorkTurn::Again, seen);
             }
             begin_search::<C>(op, task);

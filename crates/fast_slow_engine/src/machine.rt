@@ -36,7 +36,6 @@ impl<C: Normalized> Model for Machine<C> {
 }
 
 impl<C: Normalized> Machine<C> {
-    ghost use Rattle.lin_report.specs.Commands.{is_command};
     ghost use Rattle.fast_slow_engine.specs.Mechs.{IsCallOf, mech_of};
     ghost use Rattle.fast_slow_engine.specs.Tries.{CanResume, mech_tried, searches};
     ghost use Rattle.fast_slow_engine.specs.PhaseTable.{ends, mech_event, mech_new, mech_started, mech_pending, mech_request, mech_fed, mech_turn, rests, lists};
@@ -82,7 +81,7 @@ impl<C: Normalized> Machine<C> {
     pub fn start(&mut self, op: Op)
         requires idle { rests self.old.phase ≡ true }
         requires fewer { self.old.number < 65535 }
-        requires command { IsTrue (is_command C.form.client op) }
+        requires command { IsTrue (C.form.object.serves op) }
         ensures machine { self.new ≡ mech_started op self.old }
     {
         self.call.begin_next(op);
@@ -193,14 +192,14 @@ impl<C: Normalized> Machine<C> {
     pub fn call(&self) -> Call
         requires runs { rests self.now.phase ≡ false }
         ensures machine { self.now ≡ mech_of result self.now.phase }
-        ensures call { IsCallOf C.form.client result }
+        ensures call { IsCallOf C.form.object result }
     {
         self.call
     }
 
     /// Goes on from where a call stands of which a try was made in one piece.
     pub fn resume(&mut self, call: Call, tried: Tried<C::Search, C::Wrap>)
-        requires call { IsCallOf C.form.client call }
+        requires call { IsCallOf C.form.object call }
         requires can { CanResume C.form tried }
         ensures machine { self.new ≡ mech_tried C.form call tried }
     {

@@ -108,7 +108,7 @@ fn help_request<C: Normalized>(aid: &Aid<C::Search, C::Wrap>, stores: &Stores) -
 #[inline(never)]
 #[tactic(auto, using(crate::proofs::Commands::code_fits, crate::proofs::Commands::key_fits))]
 fn slow_request<C: Normalized>(call: &Call, room: &Room<C::Search, C::Wrap>) -> Request
-    requires call { IsCallOf C.form.client call.now }
+    requires call { IsCallOf C.form.object call.now }
     requires slow { IsSlow (phase_of room.now) }
     requires ready { IsReadyIn C.form (phase_of room.now) }
     ensures { result ≡ request_in C.form (phase_of room.now) (mech_of call.now (phase_of room.now)) }
@@ -128,7 +128,7 @@ fn slow_request<C: Normalized>(call: &Call, room: &Room<C::Search, C::Wrap>) -> 
 /// The next request of a phase in which a call runs.
 #[inline(always)]
 pub fn request_of<C: Normalized>(call: &Call, room: &Room<C::Search, C::Wrap>) -> Request
-    requires call { IsCallOf C.form.client call.now }
+    requires call { IsCallOf C.form.object call.now }
     requires runs { rests (phase_of room.now) ≡ false }
     requires ready { IsReadyIn C.form (phase_of room.now) }
     ensures { result ≡ request_in C.form (phase_of room.now) (mech_of call.now (phase_of room.now)) }

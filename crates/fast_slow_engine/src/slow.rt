@@ -21,7 +21,7 @@ use step_memory::Seen;
 
 /// Goes on where helping has ended.
 pub fn end_help<C: Normalized>(drives: bool, call: &Call, room: &mut Room<C::Search, C::Wrap>)
-    requires { IsCallOf C.form.client call.now }
+    requires { IsCallOf C.form.object call.now }
     ensures machine { mech_of call.now (phase_of room.new) ≡ helped C.form drives (mech_of call.now (phase_of room.old)) }
     ensures ready { IsReadyIn C.form (phase_of room.new) }
 {
@@ -39,7 +39,7 @@ pub fn help_head<C: Normalized>(
     call: &Call,
     room: &mut Room<C::Search, C::Wrap>,
 )
-    requires { IsCallOf C.form.client call.now }
+    requires { IsCallOf C.form.object call.now }
     ensures machine { mech_of call.now (phase_of room.new) ≡ head_helped C.form head drives (mech_of call.now (phase_of room.old)) }
     ensures ready { IsReadyIn C.form (phase_of room.new) }
 {
@@ -94,7 +94,7 @@ pub fn enter<C: Normalized>(call: &Call, room: &mut Room<C::Search, C::Wrap>, se
 
 /// The queue word was loaded: its head is helped while it holds the seat.
 pub fn drive<C: Normalized>(call: &Call, room: &mut Room<C::Search, C::Wrap>, seen: Seen)
-    requires { IsCallOf C.form.client call.now }
+    requires { IsCallOf C.form.object call.now }
     ensures machine { mech_of call.now (phase_of room.new) ≡ driven C.form seen (mech_of call.now (phase_of room.old)) }
     ensures ready { IsReadyIn C.form (phase_of room.new) }
 {
@@ -115,7 +115,7 @@ pub fn collect<S: Drop, W: Drop>(call: &Call, room: &mut Room<S, W>, seen: Seen)
 /// The queue word was loaded, before the own search: its head is helped.
 #[inline(never)]
 pub fn look<C: Normalized>(call: &Call, room: &mut Room<C::Search, C::Wrap>, seen: Seen)
-    requires { IsCallOf C.form.client call.now }
+    requires { IsCallOf C.form.object call.now }
     ensures machine { mech_of call.now (phase_of room.new) ≡ head_helped C.form (head_of seen.before) false (mech_of call.now (phase_of room.old)) }
     ensures ready { IsReadyIn C.form (phase_of room.new) }
 {

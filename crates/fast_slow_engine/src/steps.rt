@@ -27,14 +27,14 @@ pub fn go_on<C: Normalized, P: Plays>(
     room: &mut Room<C::Search, C::Wrap>,
     port: &mut P,
 ) -> Seen
-    requires call { IsCallOf C.form.client call.old }
+    requires call { IsCallOf C.form.object call.old }
     requires runs { rests (phase_of room.old) ≡ false }
     requires goes_on { ends (phase_of room.old) ≡ false }
     requires ready { IsReadyIn C.form (phase_of room.old) }
     requires plays { P.can port.old (request_in C.form (phase_of room.old) (mech_of call.old (phase_of room.old))) }
     ensures made { P.makes port.old (request_in C.form (phase_of room.old) (mech_of call.old (phase_of room.old))) port.new result }
     ensures machine { mech_of call.new (phase_of room.new) ≡ stepped C.form (phase_of room.old) result (mech_of call.old (phase_of room.old)) }
-    ensures call { IsCallOf C.form.client call.new }
+    ensures call { IsCallOf C.form.object call.new }
     ensures ready { IsReadyIn C.form (phase_of room.new) }
     ensures still { rests (phase_of room.new) ≡ false }
 {
@@ -76,13 +76,13 @@ fn generate<C: Normalized, P: Plays>(
     room: &mut Room<C::Search, C::Wrap>,
     port: &mut P,
 ) -> Seen
-    requires call { IsCallOf C.form.client call.old }
+    requires call { IsCallOf C.form.object call.old }
     requires generates { Generates (phase_of room.old) }
     requires ready { IsReadyIn C.form (phase_of room.old) }
     requires plays { P.can port.old (request_in C.form (phase_of room.old) (mech_of call.old (phase_of room.old))) }
     ensures made { P.makes port.old (request_in C.form (phase_of room.old) (mech_of call.old (phase_of room.old))) port.new result }
     ensures machine { mech_of call.new (phase_of room.new) ≡ stepped C.form (phase_of room.old) result (mech_of call.old (phase_of room.old)) }
-    ensures call { IsCallOf C.form.client call.new }
+    ensures call { IsCallOf C.form.object call.new }
     ensures ready { IsReadyIn C.form (phase_of room.new) }
 {
     let Doing::Generate { search: state, at } = &room.doing else {
@@ -114,13 +114,13 @@ fn apply<C: Normalized, P: Plays>(
     room: &mut Room<C::Search, C::Wrap>,
     port: &mut P,
 ) -> Seen
-    requires call { IsCallOf C.form.client call.old }
+    requires call { IsCallOf C.form.object call.old }
     requires applies { Applies (phase_of room.old) }
     requires ready { IsReadyIn C.form (phase_of room.old) }
     requires plays { P.can port.old (request_in C.form (phase_of room.old) (mech_of call.old (phase_of room.old))) }
     ensures made { P.makes port.old (request_in C.form (phase_of room.old) (mech_of call.old (phase_of room.old))) port.new result }
     ensures machine { mech_of call.new (phase_of room.new) ≡ stepped C.form (phase_of room.old) result (mech_of call.old (phase_of room.old)) }
-    ensures call { IsCallOf C.form.client call.new }
+    ensures call { IsCallOf C.form.object call.new }
     ensures ready { IsReadyIn C.form (phase_of room.new) }
 {
     let Doing::Apply { run, at } = &room.doing else {
@@ -140,21 +140,21 @@ fn apply<C: Normalized, P: Plays>(
     }
 }
 
-/// A step of the slow path. It stands for itself, so that a step of the fast path is short.
-#[inline(never)]
+/// A step of the slow path.
+#[inline(always)]
 #[tactic(auto, using(crate::proofs::Commands::code_fits, crate::proofs::Commands::key_fits))]
 fn go_slowly<C: Normalized, P: Plays>(
     call: &mut Call,
     room: &mut Room<C::Search, C::Wrap>,
     port: &mut P,
 ) -> Seen
-    requires call { IsCallOf C.form.client call.old }
+    requires call { IsCallOf C.form.object call.old }
     requires slow { IsSlow (phase_of room.old) }
     requires ready { IsReadyIn C.form (phase_of room.old) }
     requires plays { P.can port.old (request_in C.form (phase_of room.old) (mech_of call.old (phase_of room.old))) }
     ensures made { P.makes port.old (request_in C.form (phase_of room.old) (mech_of call.old (phase_of room.old))) port.new result }
     ensures machine { mech_of call.new (phase_of room.new) ≡ stepped C.form (phase_of room.old) result (mech_of call.old (phase_of room.old)) }
-    ensures call { IsCallOf C.form.client call.new }
+    ensures call { IsCallOf C.form.object call.new }
     ensures ready { IsReadyIn C.form (phase_of room.new) }
 {
     match &mut room.doing {
@@ -192,13 +192,13 @@ fn help<C: Normalized, P: Plays>(
     room: &mut Room<C::Search, C::Wrap>,
     port: &mut P,
 ) -> Seen
-    requires call { IsCallOf C.form.client call.old }
+    requires call { IsCallOf C.form.object call.old }
     requires helps { Helps (phase_of room.old) }
     requires ready { IsReadyIn C.form (phase_of room.old) }
     requires plays { P.can port.old (request_in C.form (phase_of room.old) (mech_of call.old (phase_of room.old))) }
     ensures made { P.makes port.old (request_in C.form (phase_of room.old) (mech_of call.old (phase_of room.old))) port.new result }
     ensures machine { mech_of call.new (phase_of room.new) ≡ stepped C.form (phase_of room.old) result (mech_of call.old (phase_of room.old)) }
-    ensures call { IsCallOf C.form.client call.new }
+    ensures call { IsCallOf C.form.object call.new }
     ensures ready { IsReadyIn C.form (phase_of room.new) }
 {
     let Doing::Help { drives, aid } = &mut room.doing else {

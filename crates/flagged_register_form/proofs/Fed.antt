@@ -9,13 +9,11 @@ use Rattle.word_fields.specs.Versioned.{versioned_value, versioned_bit, versione
 use Rattle.word_fields.proofs.VersionedLemmas.{cleared-clear}
 use Rattle.lin_report.specs.declared.calls.Op.{Op}
 use Rattle.lin_report.specs.declared.calls.Reply.TheVariants.{Yes}
-use Rattle.lin_report.specs.declared.calls.Client.TheVariants.{Tree}
-use Rattle.lin_report.specs.Object.{map_object, map_apply}
-use Rattle.lin_report.specs.Commands.{IsCommandOf}
+use Rattle.lin_report.specs.Object.{map_object, map_apply, IsCommandOf}
 use Rattle.step_memory.specs.declared.steps.Request.TheVariants.{Load, Exchange}
 use Rattle.step_memory.specs.declared.steps.Seen.{Seen}
 use Rattle.normal_traits.specs.declared.form.Found.TheVariants as found
-use Rattle.normal_traits.specs.World.{Listed, Change, World, held_after, Observes, RightSince, is_word}
+use Rattle.normal_traits.specs.World.{Listed, Change, World, held_after, Observes, RightSince, is_word, no_root}
 use Rattle.normal_traits.specs.Steps.{Requested}
 use Rattle.normal_traits.specs.Laws.{AsksWell, FoundWell, WrappedWell}
 use Rattle.flagged_register_form.specs.Register.{FLAG, REGISTER, note_place, toggled, toggles, told, flag_of, Help, Search, request_of, request_of_help, feed_of, feed_help, found_of, after_flag, after_register, after_help, wrap_found_of, decision_place, decided, decided_value, toggled_value}
@@ -40,11 +38,11 @@ use Rattle.client_lemmas.proofs.Requests.{Went, went}
 -- ---- what is asked
 
 module _ (world : World) (shape : Shape world) where
-  flag_is_word : is_word world FLAG ≡ true
-  flag_is_word = field_word world 0 16 (omega arith) shape.opened refl
+  flag_is_word : is_word no_root world FLAG ≡ true
+  flag_is_word = field_word no_root world 0 16 (omega arith) shape.opened refl
 
-  register_is_word : is_word world REGISTER ≡ true
-  register_is_word = field_word world 0 14 (omega arith) shape.opened refl
+  register_is_word : is_word no_root world REGISTER ≡ true
+  register_is_word = field_word no_root world 0 14 (omega arith) shape.opened refl
 
   is_versioned_decision : (block : ℕ) → flagged_form.is_versioned (decision_place block) ≡ true
   is_versioned_decision block =
@@ -57,15 +55,15 @@ module _ (world : World) (shape : Shape world) where
   pub help_asks : (help : Help) (list : Listed) → Helps help world list → AsksWell flagged_form world (request_of_help help)
   help_asks (Deciding flag make) list h =
       subst (λ block. AsksWell flagged_form world (Exchange (decision_place block) 0 (decided make))) (sym (named_block world list flag shape h.0 h.1)) (
-        field_word world list.block 28 (omega arith) (shape.flaggers list h.0).used refl,
+        field_word no_root world list.block 28 (omega arith) (shape.flaggers list h.0).used refl,
         is_versioned_decision list.block,
         λ listable. absurd (decision_flag list.block (eqb-true (decision_place list.block) FLAG listable)),
         (decided_value make, decided_value_below make, refl),
       )
   help_asks (Checking flag) list h =
-      subst (λ block. is_word world (decision_place block) ≡ true) (sym (named_block world list flag shape h.0 h.1)) (field_word world list.block 28 (omega arith) (shape.flaggers list h.0).used refl)
+      subst (λ block. is_word no_root world (decision_place block) ≡ true) (sym (named_block world list flag shape h.0 h.1)) (field_word no_root world list.block 28 (omega arith) (shape.flaggers list h.0).used refl)
   help_asks (Reading flag) list h =
-      subst (λ block. is_word world (note_place block) ≡ true) (sym (named_block world list flag shape h.0 h.1)) (field_word world list.block 27 (omega arith) (shape.flaggers list h.0).used refl)
+      subst (λ block. is_word no_root world (note_place block) ≡ true) (sym (named_block world list flag shape h.0 h.1)) (field_word no_root world list.block 27 (omega arith) (shape.flaggers list h.0).used refl)
   help_asks (Changing flag noted) list h =
       (register_is_word, or_left (REGISTER == FLAG || REGISTER == REGISTER) (field_at REGISTER == 28) (or_right (REGISTER == FLAG) (REGISTER == REGISTER) (eq-eqb REGISTER REGISTER refl)), λ listable. absurd (register_flag (eqb-true REGISTER FLAG listable)), (toggled_value noted (versioned_value flag / 4), toggled_below noted (versioned_value flag / 4) (omega (arith, named_block world list flag shape h.0 h.1, (shape.flaggers list h.0).small)), refl))
   help_asks (Clearing flag true) list h = clearing_asks flag list h.0 h.1
@@ -177,7 +175,7 @@ learnt_flag world o op flag shape same here = by_bit (versioned_bit flag == 0) r
     by_bit true e = by_value (eqb-true (versioned_bit flag) 0 e) (versioned_value flag == 0) refl
     by_bit false e = (same, tt)
 
-right_now : (world : World) (op : Op) (since register : ℕ) → Shape world → IsCommandOf Tree op → since < length world.changes + 1 → register ≡ world.words REGISTER → op.key ≡ 0 → toggles op register ≡ false
+right_now : (world : World) (op : Op) (since register : ℕ) → Shape world → IsCommandOf map_object op → since < length world.changes + 1 → register ≡ world.words REGISTER → op.key ≡ 0 → toggles op register ≡ false
     → RightSince map_object world op since (told op register) × IsFixed flagged_form (told op register)
 right_now world op since register shape command before here key same =
     let held = held_after map_object world.changes in
@@ -193,7 +191,7 @@ right_now world op since register shape command before here key same =
       told = subst (λ (changes : List Change). StandsFor world (told op register) (map_apply op (held_after map_object changes)).1) (sym all) o.1;
     } in (right, o.2)
 
-learnt_register : (world : World) (o op : Op) (flag register since : ℕ) → Shape world → IsCommandOf Tree op → since < length world.changes + 1 → o ≡ op → WasDown world flag → register ≡ world.words REGISTER
+learnt_register : (world : World) (o op : Op) (flag register since : ℕ) → Shape world → IsCommandOf map_object op → since < length world.changes + 1 → o ≡ op → WasDown world flag → register ≡ world.words REGISTER
     → Learnt (after_register o flag register) op world
     × FoundWell flagged_form world op since (after_register o flag register) (if o.key == 0 then (if toggles o register then found.Ready else found.Answer (told o register)) else found.Going)
 learnt_register world o op flag register since shape command before same down here = by_key (o.key == 0) refl
@@ -218,7 +216,7 @@ learnt_register world o op flag register since shape command before same down he
     by_key true e = by_toggles (key_of e) (toggles o register) refl
     by_key false e = (same, tt)
 
-pub search_fed_well : (world after : World) (seen : Seen) (search : Search) (op : Op) (since : ℕ) → IsCommandOf Tree op → Shape world → asks search → Knows search op world since → Requested flagged_form (request_of search) world after seen
+pub search_fed_well : (world after : World) (seen : Seen) (search : Search) (op : Op) (since : ℕ) → IsCommandOf map_object op → Shape world → asks search → Knows search op world since → Requested flagged_form (request_of search) world after seen
     → Knows (feed_of search seen) op after since × FoundWell flagged_form after op since (feed_of search seen) (found_of search seen)
 search_fed_well world after seen (AtFlag o) op since command shape asking knows r =
     let a = went flagged_form (Load FLAG) world after seen r in

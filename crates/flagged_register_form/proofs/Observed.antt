@@ -10,10 +10,9 @@ use Rattle.lin_report.specs.declared.calls.Outcome.{Outcome}
 use Rattle.lin_report.specs.declared.calls.Outcome.TheVariants.{Plain, ValueOf}
 use Rattle.lin_report.specs.declared.calls.Reply.{Reply}
 use Rattle.lin_report.specs.declared.calls.Reply.TheVariants.{No, Yes, Absent, Value}
-use Rattle.lin_report.specs.declared.calls.Client.TheVariants.{Tree}
 use Rattle.lin_report.specs.declared.calls.TheConstants.{SET, REM, GET, HAS, PEEK, MIN}
-use Rattle.lin_report.specs.Object.{map_apply, set_absent, value_or_absent, yes_if}
-use Rattle.lin_report.specs.Commands.{IsCommandOf, takes_key, may_exhaust, KEY_LIMIT}
+use Rattle.lin_report.specs.Object.{map_apply, set_absent, value_or_absent, yes_if, IsCommandOf, map_object}
+use Rattle.lin_report.specs.Commands.{takes_key, may_exhaust, KEY_LIMIT}
 use Rattle.node_arena.specs.declared.places.TheConstants.{NODE_VALUE}
 use Rattle.node_arena.specs.MemoryMap.{node_place, block_at}
 use Rattle.node_arena.proofs.PlaceLemmas.{node_place-reference_to, block_at-block_place, field_at-block_place}
@@ -118,7 +117,7 @@ module _ (world : World) (register value : ℕ) (pairs : map.FinMap nat_cmp ℕ)
           subst (λ (b : Bool). StandsFor world (if b then ValueOf (versioned_value register) else Plain Absent) (value_or_absent (map.get pairs 0)) × IsFixed flagged_form (if b then ValueOf (versioned_value register) else Plain Absent))
           (sym (some_in world register name.0 name.3)) ((used, word), fixed_value world register name.0 name.3)
 
-code_of : (op : Op) → IsCommandOf Tree op → (op.code ≡ SET) ⊎ ((op.code ≡ REM) ⊎ (op.code ≡ GET))
+code_of : (op : Op) → IsCommandOf map_object op → (op.code ≡ SET) ⊎ ((op.code ≡ REM) ⊎ (op.code ≡ GET))
 code_of op command = by_set (or_cases (op.code == SET && nat_lt op.key KEY_LIMIT) ((op.code == REM || op.code == GET) && takes_key op) command.command)
   where
     by_rem : ((op.code == REM) ≡ true) ⊎ ((op.code == GET) ≡ true) → (op.code ≡ SET) ⊎ ((op.code ≡ REM) ⊎ (op.code ≡ GET))
@@ -129,7 +128,7 @@ code_of op command = by_set (or_cases (op.code == SET && nat_lt op.key KEY_LIMIT
     by_set (inl e) = inl (eqb-true op.code SET (and_parts (op.code == SET) (nat_lt op.key KEY_LIMIT) e).0)
     by_set (inr e) = by_rem (or_cases (op.code == REM) (op.code == GET) (and_parts (op.code == REM || op.code == GET) (takes_key op) e).0)
 
-pub observed : (world : World) (op : Op) (register : ℕ) (pairs : map.FinMap nat_cmp ℕ) → IsCommandOf Tree op → op.key ≡ 0 → toggles op register ≡ false → IsName register world.used → map.get pairs 0 ≡ content register world.words
+pub observed : (world : World) (op : Op) (register : ℕ) (pairs : map.FinMap nat_cmp ℕ) → IsCommandOf map_object op → op.key ≡ 0 → toggles op register ≡ false → IsName register world.used → map.get pairs 0 ≡ content register world.words
     → ((map_apply op pairs).0 ≡ pairs) × StandsFor world (told op register) (map_apply op pairs).1 × IsFixed flagged_form (told op register)
 observed world op register pairs command key same names tells = rw key (by_code (code_of op command) same)
   where

@@ -11,7 +11,7 @@ use Rattle.lin_report.specs.Object.{map_object}
 use Rattle.step_memory.specs.declared.steps.Request.TheVariants.{Load, Exchange}
 use Rattle.step_memory.specs.declared.steps.Seen.{Seen}
 use Rattle.normal_traits.specs.declared.lists.Entry.{Entry}
-use Rattle.normal_traits.specs.World.{Listed, Cause, World, is_word, is_state}
+use Rattle.normal_traits.specs.World.{Listed, Cause, World, is_state, is_word, no_root}
 use Rattle.normal_traits.specs.World.Maker.{By, Beside}
 use Rattle.normal_traits.specs.Steps.{with_word, put_word, with_change, IsExchanged, IsFresh, IsFilled, IsOffered, Requested, IsStep, exchanged, using_block}
 use Rattle.normal_traits.specs.Steps.IsStep.{nothing, elsewhere, clears, searches, wraps, first, first_of_block, second}
@@ -205,7 +205,7 @@ one_entry world list _ since entry offered listed = absurd offered.ready
 
 -- ---- any step
 
-elsewhere_effect : (world : World) (place word : ℕ) → Shape world → is_word world place ≡ false → Effect world (put_word place word world)
+elsewhere_effect : (world : World) (place word : ℕ) → Shape world → is_word no_root world place ≡ false → Effect world (put_word place word world)
 elsewhere_effect world place word shape is = quiet (with_word place word world.words) (record {
   flag = inl (word_beside place word world.words FLAG (differs 0 16 (omega arith) shape.opened refl));
   register = word_beside place word world.words REGISTER (differs 0 14 (omega arith) shape.opened refl);
@@ -215,7 +215,7 @@ elsewhere_effect world place word shape is = quiet (with_word place word world.w
 })
   where
     differs : (block field : ℕ) → field < 32 → world.used block ≡ true → not (is_state field) ≡ true → block_place block field ≢ place
-    differs block field small used plain = not_word world place (block_place block field) is (field_word world block field small used plain)
+    differs block field small used plain = not_word no_root world place (block_place block field) is (field_word no_root world block field small used plain)
 
 clears_effect : (world : World) (place : ℕ) → place ≡ FLAG → Effect world (put_word place (cleared_word (world.words place)) world)
 clears_effect world place e = subst (λ p. Effect world (put_word p (cleared_word (world.words p)) world)) (sym e) (quiet (with_word FLAG (cleared_word (world.words FLAG)) world.words) (record {

@@ -18,7 +18,7 @@ use Rattle.step_memory.specs.declared.steps.Seen.{Seen}
 use Rattle.normal_traits.specs.declared.form.Found.TheVariants as found
 use Rattle.normal_traits.specs.declared.form.Wrapped.TheVariants as wrapped
 use Rattle.normal_traits.specs.declared.lists.Entry.{Entry}
-use Rattle.normal_traits.specs.World.{Listed, Won, Cause, Change, World, Among, Took, Failed, Stopped, Observes, held_after}
+use Rattle.normal_traits.specs.World.{Listed, Won, Cause, Change, World, Among, Took, Failed, Stopped, Observes, held_after, no_root}
 use Rattle.normal_traits.specs.Steps.{IsOffered, IsFresh}
 use Rattle.normal_traits.specs.Laws.{Laws, opening_world, IsGoodEntry, IsGoodStore, IsGoodOffer, WrappedWell}
 use Rattle.flagged_register_form.specs.Register.{FLAG, REGISTER, note_place, flag_value, toggles, told, flag_entry, flag_of, offer_of, found_of, begin_wrap_of, wrap_begun_of, Search, decision_place, value_at}
@@ -103,7 +103,7 @@ lists world _ op since knows ready = absurd ready
 
 good_entry : (world : World) (op : Op) (flag register block : ℕ) → Shape world → WasRead world op flag register → block < 2 ^ 17 → IsGoodEntry flagged_form world (flag_entry flag block)
 good_entry world op flag register block shape read small = record {
-  word = field_word world 0 16 (omega arith) shape.opened refl;
+  word = field_word no_root world 0 16 (omega arith) shape.opened refl;
   versioned = or_left (FLAG == FLAG || FLAG == REGISTER) (field_at FLAG == 28) (or_left (FLAG == FLAG) (FLAG == REGISTER) (eq-eqb FLAG FLAG refl));
   listable = eq-eqb FLAG FLAG refl;
   clear = read.down.clear;

@@ -9,8 +9,11 @@ use Rattle.lin_report.specs.Object.{map_object}
 use Rattle.word_fields.specs.Versioned.{versioned_value, versioned_bit, versioned_version, cleared_word}
 use Rattle.node_arena.specs.MemoryMap.{block_at, field_at}
 use Rattle.normal_traits.specs.declared.lists.Entry.{Entry}
-use Rattle.normal_traits.specs.World.{Listed, Maker, Cause, Won, Change, World, Among, held_after, Observes}
+use Rattle.normal_traits.specs.World.{Listed, Maker, Cause, Won, Change, World, Among, held_after, Observes, no_root}
 use Rattle.normal_traits.specs.World.Maker.{By, Beside}
+use Rattle.lin_report.proofs.Tellable.{objects_are_tellable}
+use Rattle.node_arena.proofs.Openings.{clients_open}
+use Rattle.node_arena.specs.Opening.{opening_word}
 use Rattle.normal_traits.specs.NormalForm.{NormalForm}
 use Rattle.flagged_register_form.specs.Register.{FLAG, REGISTER, value_at, note_place, decision_place, decided, flag_value, flag_word, toggles, flag_entry, flag_of, Help, Search, begin_of, request_of, feed_of, found_of, offer_of, request_of_help, feed_help, begin_wrap_of, wrap_begun_of, wrap_found_of}
 use Rattle.flagged_register_form.specs.Register.Help.{Deciding, Checking, Reading, Changing, Clearing}
@@ -193,7 +196,11 @@ is_ready _ = ⊥
 
 abbrev pub flagged_form : NormalForm Search Help
 flagged_form = record {
-  client = client.Tree;
+  object = map_object;
+  tellable = objects_are_tellable client.Tree;
+  is_root = no_root;
+  opening = opening_word client.Tree;
+  opens = clients_open client.Tree;
   needs_block = λ op. true;
   begin_of = begin_of;
   request_of = request_of;

@@ -6,6 +6,7 @@ use Rattle.lin_report.specs.declared.calls.Client.{Client}
 use Rattle.lin_report.specs.declared.calls.Client.TheVariants as client
 use Rattle.lin_report.specs.declared.calls.Op.{Op}
 use Rattle.lin_report.specs.declared.calls.TheConstants.{PUT, TAKE, ADD, DEL, HAS, SET, REM, GET}
+use Rattle.lin_report.specs.Object.{object_of}
 use Rattle.generated_files.specs.Numbers.{draw}
 
 -- a command of three draws: the first picks which one it is, the second its key, or a queue's value, and the third
@@ -39,4 +40,4 @@ generated_files c seed seats calls = map (generated_file c seed calls) (range_wi
 
 -- each generated file is one that a seat can run
 abbrev pub EachRuns : Type 0
-EachRuns = (c : Client) (seed calls seat : ℕ) → calls ≤ 65535 → IsCommandFile c (generated_file c seed calls seat)
+EachRuns = (c : Client) (seed calls seat : ℕ) → calls ≤ 65535 → IsCommandFile (object_of c) (generated_file c seed calls seat)

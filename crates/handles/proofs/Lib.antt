@@ -1,1 +1,4 @@
 pub mod Closed
+pub mod Rows
+pub mod Wholes
+pub mod Opened

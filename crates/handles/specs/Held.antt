@@ -20,4 +20,6 @@ module _ {C S W : Type 0} where
     pub line : Receipt
     pub of_op : line.op ≡ op
     pub told : line.reply ≡ reply
+    pub of_seat : after.machine.seat ≡ before.machine.seat
+    pub of_run : after.machine.setup ≡ before.machine.setup
     pub is : after ≡ after_call before after.machine line

@@ -1,13 +1,12 @@
 //! A handle, and a call through it.
 ghost use Rattle.std.specs.Prelude.{◌≡◌, ◌+◌, ◌<◌, IsTrue, IfOk, OnErr, false, length, true};
-ghost use Rattle.lin_report.specs.Commands.{is_command};
-ghost use Rattle.node_arena.specs.Opening.{IsLaidOut};
 ghost use Rattle.shared_memory.specs.Closing.{IsWhole};
 ghost use Rattle.shared_memory.specs.Views.{cut_left, first_view, glued, new_view};
 ghost use Rattle.thread_laws.specs.Headline.{MeetsInSomeOrder};
 ghost use Rattle.thread_runs.specs.Whole.{IsRun};
 ghost use Rattle.handles.specs.Closing.{all_lines, files_in};
 ghost use Rattle.handles.specs.Held.{HasCalled};
+ghost use Rattle.handles.specs.Opening.{before_calls};
 
 use fast_slow_engine::{Machine, Setup};
 use lin_report::{NoMemory, Op, Reply};
@@ -49,7 +48,6 @@ pub struct Spent;
 impl<C: Normalized> Handle<C> {
     /// A new structure, which is empty, with the handle of seat 0.
     pub fn first(alloc: Global, setup: Setup) -> Result<(Shared<C>, Handle<C>), NoMemory>
-        requires client { IsLaidOut C.form.client }
         ensures table { IfOk result (λ r. r.1.table ≡ r.0.table) }
         ensures setup { IfOk result (λ r. r.0.setup ≡ setup) }
         ensures view { IfOk result (λ r. r.1.view ≡ first_view setup) }
@@ -84,8 +82,9 @@ impl<C: Normalized> Handle<C> {
         op: Op,
     ) -> Result<Reply, Spent>
         requires table { self.old.table ≡ shared.now.table }
-        requires command { IsTrue (is_command C.form.client op) }
+        requires command { IsTrue (C.form.object.serves op) }
         ensures table { self.new.table ≡ self.old.table }
+        ensures seat { before_calls self.new.view ≡ before_calls self.old.view }
         ensures called { IfOk result (λ reply. HasCalled self.old.view self.new.view op reply) }
         ensures fewer { IfOk result (λ _. length self.old.view.receipts < 65535) }
         ensures spent { OnErr result (length self.old.view.receipts ≡ 65535) }

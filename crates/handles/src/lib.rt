@@ -2,8 +2,10 @@
 //! the lines of these calls.
 #![tactic(auto)]
 
+pub use closing::close;
 pub use handle::{Handle, Spent};
-pub use queue::{QueueHandle, Refused};
+pub use opening::{OpenError, open};
 
+pub mod closing;
 pub mod handle;
-pub mod queue;
+pub mod opening;

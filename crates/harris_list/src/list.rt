@@ -4,8 +4,11 @@ use crate::seeking::Seeking;
 use harris_list_form::ListWrap;
 use harris_list_form::states::LIST_START;
 use lin_report::calls::ADD;
-use lin_report::{Client, Op, Outcome, Reply};
+use lin_report::commands::is_command;
+use lin_report::{Client, NoMemory, Op, Outcome, Reply};
+use node_arena::opening_words;
 use normal_traits::{Found, List, Normalized, Stores, Wrapped};
+use std::alloc::Global;
 use step_memory::{Request, Seen};
 use whole_calls::{Seeks, Steps};
 
@@ -13,8 +16,6 @@ use whole_calls::{Seeks, Steps};
 pub struct HarrisList;
 
 impl Normalized for HarrisList {
-    ghost use Rattle.std.specs.Prelude.{refl};
-    ghost use Rattle.lin_report.specs.declared.calls.Client.{Client};
     ghost use Rattle.harris_list_form.specs.Lists.{the_list};
     ghost use Rattle.harris_list_form.specs.Form.{list_form};
     ghost use Rattle.harris_list.specs.ProvedLaws.{list_laws};
@@ -23,11 +24,15 @@ impl Normalized for HarrisList {
 
     type Wrap = ListWrap;
 
-    const CLIENT: Client = Client::List;
-
-    ghost CLIENT = { Client.List };
-
     ghost form = { list_form the_list };
+
+    fn opening(alloc: Global, cap: u32) -> Result<Vec<u64>, NoMemory> {
+        opening_words(alloc, cap, Client::List)
+    }
+
+    fn serves(op: Op) -> bool {
+        is_command(Client::List, op)
+    }
 
     fn needs_block(op: Op) -> bool {
         op.code == ADD
@@ -73,8 +78,6 @@ impl Normalized for HarrisList {
     }
 
     ghost laws = { list_laws };
-
-    ghost named = { refl };
 }
 
 impl Seeks for HarrisList {

@@ -5,7 +5,8 @@ use Rattle.lin_report.specs.declared.calls.Client.{Client}
 use Rattle.lin_report.specs.declared.calls.Client.TheVariants as client
 use Rattle.lin_report.specs.declared.calls.Op.{Op}
 use Rattle.lin_report.specs.declared.calls.TheConstants.{ADD, DEL, HAS, MIN}
-use Rattle.lin_report.specs.Commands.{KEY_LIMIT, IsCommandOf, is_command, is_set_command, takes_nothing}
+use Rattle.lin_report.specs.Commands.{KEY_LIMIT, is_set_command, takes_nothing}
+use Rattle.lin_report.specs.Object.{IsCommandOf, is_command, object_of}
 use Rattle.harris_list_form.specs.declared.states.Aim.TheVariants.{Add, Del, Has}
 use Rattle.harris_list_form.specs.Lists.{IsOfSets}
 use Rattle.harris_list_form.specs.Search.{aim_of}
@@ -17,7 +18,7 @@ set_command client.List sets op is = or_cases (is_set_command op) (eqb op.code M
 set_command client.Tree sets op is = absurd sets
 set_command client.Buckets sets op is = inl is
 
-module _ (c : Client) (sets : IsOfSets c) (op : Op) (command : IsCommandOf c op) where
+module _ (c : Client) (sets : IsOfSets c) (op : Op) (command : IsCommandOf (object_of c) op) where
   parts : is_set_command op ≡ true → ((eqb op.code ADD || eqb op.code DEL || eqb op.code HAS) ≡ true) × ((ltb op.key KEY_LIMIT && eqb op.value 0) ≡ true)
   parts is = and_parts (eqb op.code ADD || eqb op.code DEL || eqb op.code HAS) (ltb op.key KEY_LIMIT && eqb op.value 0) is
 

@@ -10,7 +10,7 @@ use Rattle.word_fields.proofs.VersionedLemmas.{value-changed, value-cleared}
 use Rattle.node_arena.specs.MemoryMap.{reference_to}
 use Rattle.normal_traits.specs.declared.lists.Entry.{Entry}
 use Rattle.normal_traits.specs.NormalForm.{Offered}
-use Rattle.normal_traits.specs.World.{Listed, World, Won, Took, is_word}
+use Rattle.normal_traits.specs.World.{Listed, World, Won, Took, is_word, no_root}
 use Rattle.normal_traits.specs.World.Maker.{By, Beside}
 use Rattle.normal_traits.specs.Steps.{IsStep, IsFresh, IsExchanged, IsFilled, with_word, put_word, using_block}
 use Rattle.normal_traits.specs.Steps.IsStep.{nothing, elsewhere, clears, searches, wraps, first, first_of_block, second}
@@ -150,10 +150,10 @@ module _ (lists : Lists) (are : AreLists lists) where
 
   -- ---- a step on a word
 
-  written_keeps : (world : World) (place word : ℕ) → AreSorted lists world → is_word world place ≡ false → Later lists are world (put_word place word world) → AreSorted lists (put_word place word world)
+  written_keeps : (world : World) (place word : ℕ) → AreSorted lists world → is_word no_root world place ≡ false → Later lists are world (put_word place word world) → AreSorted lists (put_word place word world)
   written_keeps world place word sorted none kept =
       still lists are world (with_word place word world.words) sorted kept
-      (λ at some versioned. ap versioned_value (beside_word world place word none at some)) (λ at some plain. beside_word world place word none at some)
+      (λ at some versioned. ap versioned_value (beside_word no_root world place word none at some)) (λ at some plain. beside_word no_root world place word none at some)
 
   cleared_keeps : (world : World) (place : ℕ) → AreSorted lists world → is_versioned lists place ≡ true → Later lists are world (put_word place (cleared_word (world.words place)) world)
       → AreSorted lists (put_word place (cleared_word (world.words place)) world)

@@ -2,7 +2,7 @@
 use Rattle.std.proofs.Common.{◌≡◌, ◌≢◌, ℕ, ◌/◌, ◌<◌, true, ap, ◌∙◌, inl, inr, arith}
 use Rattle.node_arena.specs.MemoryMap.{reference_to}
 use Rattle.node_arena.proofs.PlaceLemmas.{block-reference_to}
-use Rattle.normal_traits.specs.World.{World, is_word}
+use Rattle.normal_traits.specs.World.{World, is_word, no_root}
 use Rattle.harris_list_form.specs.Lists.{Lists, AreLists, is_versioned}
 use Rattle.harris_list_form.specs.Search.{next_place}
 use Rattle.harris_list_form.specs.Nodes.{is_node, next_at, IsOf, IsLink, IsNamed}
@@ -13,12 +13,12 @@ module _ (lists : Lists) (are : AreLists lists) (world : World) (sorted : AreSor
   pub positive : (block : ℕ) → is_node world.changes block ≡ true → 0 < block
   positive block node = (sorted.stored block node).some
 
-  pub node_word : (block : ℕ) → is_node world.changes block ≡ true → is_word world (next_at block) ≡ true
+  pub node_word : (block : ℕ) → is_node world.changes block ≡ true → is_word no_root world (next_at block) ≡ true
   node_word block node = next_word world block (sorted.stored block node).used
 
-  pub link_word : (start place : ℕ) → IsLink lists world.changes start place → is_word world place ≡ true
-  link_word start place (inl at) = ap (is_word world) at.1 ∙ start_word lists are world start sorted.first at.0
-  link_word start place (inr link) = ap (is_word world) link.2 ∙ node_word link.0 link.1.node
+  pub link_word : (start place : ℕ) → IsLink lists world.changes start place → is_word no_root world place ≡ true
+  link_word start place (inl at) = ap (is_word no_root world) at.1 ∙ start_word lists are world start sorted.first at.0
+  link_word start place (inr link) = ap (is_word no_root world) link.2 ∙ node_word link.0 link.1.node
 
   pub link_versioned : (start place : ℕ) → IsLink lists world.changes start place → is_versioned lists place ≡ true
   link_versioned start place (inl at) = ap (is_versioned lists) at.1 ∙ start_versioned lists are start at.0

@@ -3,7 +3,7 @@ use Rattle.std.proofs.Common.{◌≡◌, ◌≢◌, ℕ, ◌+◌, ◌-◌, ◌*�
 use Rattle.std.proofs.lemmas.Bool.{ne_eqb, eq-eqb, le-leb, lt-ltb, le-ltb, cond-true, cond-false, or_left, or_right}
 use Rattle.node_arena.specs.MemoryMap.{block_place, block_at, field_at, reference_to}
 use Rattle.node_arena.proofs.PlaceLemmas.{node_place-reference_to, block-reference_to, field_at-block_place}
-use Rattle.normal_traits.specs.World.{Change, World, is_word, is_state}
+use Rattle.normal_traits.specs.World.{Change, World, is_state, is_word, no_root}
 use Rattle.harris_list_form.specs.Lists.{Lists, AreLists, is_versioned, is_next}
 use Rattle.harris_list_form.specs.Nodes.{next_at, key_at, node_rank, place_rank, rank_of, LAST_RANK}
 use Rattle.harris_list_form.specs.Path.{stands}
@@ -67,22 +67,21 @@ rank_some changes reference some = cond-false (eqb reference 0) LAST_RANK (node_
 
 -- ---- a client's words
 
-pub next_word : (world : World) (block : ℕ) → world.used block ≡ true → is_word world (next_at block) ≡ true
-next_word world block used = node_word world block NODE_NEXT (omega arith) used
+pub next_word : (world : World) (block : ℕ) → world.used block ≡ true → is_word no_root world (next_at block) ≡ true
+next_word world block used = node_word no_root world block NODE_NEXT (omega arith) used
 
-pub key_word : (world : World) (block : ℕ) → world.used block ≡ true → is_word world (key_at block) ≡ true
-key_word world block used = node_word world block NODE_KEY (omega arith) used
+pub key_word : (world : World) (block : ℕ) → world.used block ≡ true → is_word no_root world (key_at block) ≡ true
+key_word world block used = node_word no_root world block NODE_KEY (omega arith) used
 
-in_first : (a b c d : Bool) → a ≡ false → b ≡ false → c ≡ true → d ≡ true → (e z : Bool) → e ≡ true → (a || b || (c && d && (e || z))) ≡ true
-in_first a b c d low low' behind used e z first = rw (low, low', behind, used, first) refl
+in_first : (c d : Bool) → c ≡ true → d ≡ true → (e z : Bool) → e ≡ true → (c && d && (e || z)) ≡ true
+in_first c d behind used e z first = rw (behind, used, first) refl
 
 module _ (lists : Lists) (are : AreLists lists) where
-  pub start_word : (world : World) (place : ℕ) → world.used 0 ≡ true → lists.is_start place ≡ true → is_word world place ≡ true
+  pub start_word : (world : World) (place : ℕ) → world.used 0 ≡ true → lists.is_start place ≡ true → is_word no_root world place ≡ true
   start_word world place used is =
       let low = are.behind place is in
       let block : block_at place ≡ 0 = omega (arith, block_number place, low, are.within place is, second_block) in
-      in_first (eqb place 20) (eqb place 21) (leb 32 place) (world.used (block_at place))
-      (ne_eqb place 20 (λ e. omega (arith, low, e))) (ne_eqb place 21 (λ e. omega (arith, low, e))) (le-leb 32 place low) (ap world.used block ∙ used)
+      in_first (leb 32 place) (world.used (block_at place)) (le-leb 32 place low) (ap world.used block ∙ used)
       (eqb (block_at place) 0) (not (is_state (field_at place))) (eq-eqb (block_at place) 0 block)
 
   -- beginnings and next words are versioned, keys and the notes of blocks are not

@@ -3,14 +3,14 @@ use Rattle.std.proofs.Common.{◌≡◌, ◌≢◌, ℕ, ◌+◌, ◌*◌, ◌/�
 use Rattle.std.proofs.lemmas.Bool.{true≢false, eqb-true, eqb-false, leb-true, leb-false, cond-false, ne_eqb, or_parts}
 use Rattle.lin_report.specs.declared.calls.Op.{Op}
 use Rattle.lin_report.specs.declared.calls.TheConstants.{MIN}
-use Rattle.lin_report.specs.Commands.{KEY_LIMIT, IsCommandOf}
-use Rattle.lin_report.specs.Object.{object_of}
+use Rattle.lin_report.specs.Commands.{KEY_LIMIT}
+use Rattle.lin_report.specs.Object.{IsCommandOf, object_of}
 use Rattle.step_memory.specs.declared.steps.Seen.{Seen}
 use Rattle.word_fields.specs.Versioned.{versioned_value, is_modified, value_below}
 use Rattle.word_fields.proofs.VersionedLemmas.{value-changed}
 use Rattle.node_arena.specs.MemoryMap.{reference_to}
 use Rattle.normal_traits.specs.declared.form.Found.TheVariants.{Going, Ready, Contended}
-use Rattle.normal_traits.specs.World.{World, is_word}
+use Rattle.normal_traits.specs.World.{World, is_word, no_root}
 use Rattle.normal_traits.specs.Laws.{AsksWell}
 use Rattle.harris_list_form.specs.declared.states.Aim.{Aim}
 use Rattle.harris_list_form.specs.declared.states.Aim.TheVariants.{Add, Del, Has}
@@ -47,7 +47,7 @@ module _ (lists : Lists) (are : AreLists lists) where
   pub begins_asking : (op : Op) → Asks (begun lists op)
   begins_asking op = either Asks (eqb op.code MIN) (LeastStart (lists.start_of op.key)) (Start (sought_of op) (lists.start_of op.key)) tt tt
 
-  pub begins_knowing : (world : World) (op : Op) → IsCommandOf lists.client op → Knows lists (begun lists op) op world (length world.changes)
+  pub begins_knowing : (world : World) (op : Op) → IsCommandOf (object_of lists.client) op → Knows lists (begun lists op) op world (length world.changes)
   begins_knowing world op command = by_code (eqb op.code MIN) refl
     where
       by_code : (min : Bool) → eqb op.code MIN ≡ min → Knows lists (cond min (LeastStart (lists.start_of op.key)) (Start (sought_of op) (lists.start_of op.key))) op world (length world.changes)
@@ -57,19 +57,19 @@ module _ (lists : Lists) (are : AreLists lists) where
   -- ---- what it asks for
 
   pub asks_well : (world : World) (searched : ListSearch) (key since : ℕ) → AreSorted lists world → Asks searched → Learnt lists world key since searched → AsksWell (list_form lists) world (asked searched)
-  asks_well world (Start sought start) key since sorted asks l = ap (is_word world) l ∙ start_word lists are world (lists.start_of key) sorted.first (are.starts key)
+  asks_well world (Start sought start) key since sorted asks l = ap (is_word no_root world) l ∙ start_word lists are world (lists.start_of key) sorted.first (are.starts key)
   asks_well world (Next sought left run cur) key since sorted asks l =
       link_word lists are world sorted (lists.start_of key) (next_place cur) (named_link lists are world sorted (lists.start_of key) cur l.1.named l.2)
   asks_well world (Key sought left run cur next) key since sorted asks l =
       let node = node_of lists are world sorted (lists.start_of key) cur l.1.named l.3.some in
-      ap (λ r. is_word world (key_place r)) node.2 ∙ key_word world node.0 (sorted.stored node.0 node.1.node).used
+      ap (λ r. is_word no_root world (key_place r)) node.2 ∙ key_word world node.0 (sorted.stored node.0 node.1.node).used
   asks_well world (Unlink sought left cur next found) key since sorted asks l = (
     link_word lists are world sorted (lists.start_of key) left.place l.0.link,
     link_versioned lists are world sorted (lists.start_of key) left.place l.0.link,
     λ listable. l.2,
     (2 * cur, omega (arith, asks), refl),
   )
-  asks_well world (LeastStart start) key since sorted asks l = ap (is_word world) l ∙ start_word lists are world (lists.start_of key) sorted.first (are.starts key)
+  asks_well world (LeastStart start) key since sorted asks l = ap (is_word no_root world) l ∙ start_word lists are world (lists.start_of key) sorted.first (are.starts key)
   asks_well world (LeastNext left run cur) key since sorted asks l =
       link_word lists are world sorted (lists.start_of key) (next_place cur) (named_link lists are world sorted (lists.start_of key) cur l.0.was.named l.1)
   asks_well world (LeastUnlink left cur) key since sorted asks l = (
@@ -80,7 +80,7 @@ module _ (lists : Lists) (are : AreLists lists) where
   )
   asks_well world (LeastKey cur) key since sorted asks l =
       let node = node_of lists are world sorted (lists.start_of key) cur l.0 l.1 in
-      ap (λ r. is_word world (key_place r)) node.2 ∙ key_word world node.0 (sorted.stored node.0 node.1.node).used
+      ap (λ r. is_word no_root world (key_place r)) node.2 ∙ key_word world node.0 (sorted.stored node.0 node.1.node).used
   asks_well world (AddReady left cur) key since sorted asks l = absurd asks
   asks_well world (DelReady left cur next) key since sorted asks l = absurd asks
 
@@ -318,7 +318,7 @@ module _ (lists : Lists) (are : AreLists lists) where
 
   -- ---- a step
 
-  pub fed_well : (world after : World) (seen : Seen) (searched : ListSearch) (op : Op) (since : ℕ) → IsCommandOf lists.client op → AreSorted lists world → AreSorted lists after → Asks searched
+  pub fed_well : (world after : World) (seen : Seen) (searched : ListSearch) (op : Op) (since : ℕ) → IsCommandOf (object_of lists.client) op → AreSorted lists world → AreSorted lists after → Asks searched
       → Knows lists searched op world since → Knows lists searched op after since → Went (list_form lists) (asked searched) world after seen → FedWell (list_form lists) after op since (fed searched seen)
   fed_well world after seen (Start sought start) op since command sorted later asks knows still w =
       from_load world after seen start (λ a s. FedWell (list_form lists) a op since (fed (Start sought start) s)) w (start_met world sorted op since start sought (key_limit lists.client are.sets op command) knows)

@@ -3,7 +3,7 @@ use Rattle.std.proofs.Common.{◌≡◌, ◌≢◌, ℕ, ◌*◌, ◌/◌, ◌%�
 use Rattle.std.proofs.lemmas.Bool.{cases_eq, and_from, and_left, and_right}
 use Rattle.word_fields.specs.Versioned.{versioned_value}
 use Rattle.normal_traits.specs.declared.lists.Entry.{Entry}
-use Rattle.normal_traits.specs.World.{Maker, Change, World, is_word}
+use Rattle.normal_traits.specs.World.{Maker, Change, World, is_word, no_root}
 use Rattle.normal_traits.specs.Steps.{with_word}
 use Rattle.harris_list_form.specs.Lists.{Lists, AreLists, is_versioned}
 use Rattle.harris_list_form.specs.Search.{led}
@@ -47,8 +47,8 @@ module _ (lists : Lists) (are : AreLists lists) where
   -- ---- nothing is won
 
   module _ (world : World) (words : ℕ → ℕ) (sorted : AreSorted lists world) (kept : Later lists are world (with_words words world))
-      (versioned : (place : ℕ) → is_word world place ≡ true → is_versioned lists place ≡ true → versioned_value (words place) ≡ versioned_value (world.words place))
-      (plain : (place : ℕ) → is_word world place ≡ true → is_versioned lists place ≡ false → words place ≡ world.words place) where
+      (versioned : (place : ℕ) → is_word no_root world place ≡ true → is_versioned lists place ≡ true → versioned_value (words place) ≡ versioned_value (world.words place))
+      (plain : (place : ℕ) → is_word no_root world place ≡ true → is_versioned lists place ≡ false → words place ≡ world.words place) where
     pub still : AreSorted lists (with_words words world)
     still =
         let some = positive lists are world sorted in

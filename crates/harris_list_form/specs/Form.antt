@@ -1,5 +1,10 @@
 -- Sorted lists as a structure in normalized form.
 use Rattle.std.specs.Prelude.{◌==◌, None}
+use Rattle.lin_report.specs.Object.{object_of}
+use Rattle.node_arena.specs.Opening.{opening_word}
+use Rattle.normal_traits.specs.World.{no_root}
+use Rattle.lin_report.proofs.Tellable.{objects_are_tellable}
+use Rattle.node_arena.proofs.Openings.{clients_open}
 use Rattle.normal_traits.specs.NormalForm.{NormalForm}
 use Rattle.harris_list_form.specs.declared.states.ListSearch.{ListSearch}
 use Rattle.harris_list_form.specs.declared.states.ListWrap.{ListWrap}
@@ -15,7 +20,11 @@ use Rattle.client_lemmas.specs.Lost.{IsLost}
 abbrev pub list_form : Lists → NormalForm ListSearch ListWrap
 list_form lists =
     record {
-      client = lists.client;
+      object = object_of lists.client;
+      tellable = objects_are_tellable lists.client;
+      is_root = no_root;
+      opening = opening_word lists.client;
+      opens = clients_open lists.client;
       needs_block = is_add;
       begin_of = begun lists;
       request_of = asked;
@@ -41,5 +50,5 @@ list_form lists =
       cause_of = cause_of;
       knows = Knows lists;
       follows = Follows;
-      dead = IsLost (is_versioned lists);
+      dead = IsLost no_root (is_versioned lists);
     }

@@ -4,7 +4,7 @@ use Rattle.lin_report.specs.declared.calls.Client.{Client}
 use Rattle.lin_report.specs.declared.calls.Client.TheVariants as client
 use Rattle.lin_report.specs.declared.calls.Op.{Op}
 use Rattle.lin_report.specs.declared.calls.TheConstants.{MIN}
-use Rattle.lin_report.specs.Commands.{IsCommandOf}
+use Rattle.lin_report.specs.Object.{IsCommandOf, object_of}
 use Rattle.node_arena.specs.declared.places.TheConstants.{FIRST_WORDS, NODE_FIELD, NODE_NEXT}
 use Rattle.node_arena.specs.MemoryMap.{field_at, block_place}
 use Rattle.node_arena.specs.Opening.{opening_word}
@@ -31,7 +31,7 @@ pub record AreLists (lists : Lists) : Type 0 where
   pub within : (place : ℕ) → lists.is_start place ≡ true → place < block_place 1 0
   pub opening : (place : ℕ) → lists.is_start place ≡ true → opening_word lists.client place ≡ 0
   -- where the least key is asked for there is one list
-  pub least : (op : Op) → IsCommandOf lists.client op → op.code ≡ MIN → (key : ℕ) → lists.start_of key ≡ lists.start_of op.key
+  pub least : (op : Op) → IsCommandOf (object_of lists.client) op → op.code ≡ MIN → (key : ℕ) → lists.start_of key ≡ lists.start_of op.key
 
 -- a place of the next word of a block's node 1
 abbrev pub is_next : ℕ → Bool

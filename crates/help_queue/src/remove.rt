@@ -73,6 +73,7 @@ impl Remove {
     }
 
     /// The next step. An exchange of the queue word raises its version by one.
+    #[inline(always)]
     pub fn request(&self) -> Request
         ensures request { result ≡ remove_request self.now }
         ensures rises { (at from to : ℕ) → result ≡ Request.Exchange at from to →
@@ -95,6 +96,7 @@ impl Remove {
 
     /// Takes what the step saw. `Gone` comes exactly where the head of the loaded queue word isn't the seat,
     /// its record isn't completed with this number, or the exchange that removes it was won.
+    #[inline(always)]
     pub fn feed(&mut self, seen: Seen) -> Removing
         ensures removal { self.new ≡ remove_fed self.old seen }
         ensures answer { result ≡ removing self.old seen }
@@ -104,6 +106,7 @@ impl Remove {
     }
 
     /// The same, by the stage.
+    #[inline(always)]
     fn advance(&mut self, seen: Seen) -> Removing
         ensures removal { self.new ≡ remove_fed self.old seen }
         ensures answer { result ≡ removing self.old seen }

@@ -12,7 +12,7 @@ use crate::words::{
 };
 use fast_slow_engine::{Setup, Turn};
 use harris_list::HarrisList;
-use lin_report::{Client, Path, Reply};
+use lin_report::{Path, Reply};
 use ms_queue::MsQueue;
 
 /// One seat, whose calls are published at once.
@@ -45,7 +45,7 @@ fn behind(record: u64, queue: u64, removed: u64) -> [Row; 3] {
 
 #[test]
 fn put_and_take_go_through_each_phase(rt: HostRuntime) {
-    let Some(mut play) = Play::<MsQueue>::new(rt.alloc(), Client::Queue, ALONE) else {
+    let Some(mut play) = Play::<MsQueue>::new(rt.alloc(), ALONE) else {
         panic!(rt; "no memory")
     };
     assert!(rt; play.begin(0, PUT_7));
@@ -82,7 +82,7 @@ fn put_and_take_go_through_each_phase(rt: HostRuntime) {
 
 #[test]
 fn a_peek_is_answered_from_its_search(rt: HostRuntime) {
-    let Some(mut play) = Play::<MsQueue>::new(rt.alloc(), Client::Queue, ALONE) else {
+    let Some(mut play) = Play::<MsQueue>::new(rt.alloc(), ALONE) else {
         panic!(rt; "no memory")
     };
     assert!(rt; play.begin(0, PUT_7) && play.finish(0).is_some());
@@ -99,7 +99,7 @@ fn a_peek_is_answered_from_its_search(rt: HostRuntime) {
 
 #[test]
 fn add_and_del_go_through_each_phase(rt: HostRuntime) {
-    let Some(mut play) = Play::<HarrisList>::new(rt.alloc(), Client::List, ALONE) else {
+    let Some(mut play) = Play::<HarrisList>::new(rt.alloc(), ALONE) else {
         panic!(rt; "no memory")
     };
     assert!(rt; play.begin(0, ADD_5));
@@ -123,7 +123,7 @@ fn add_and_del_go_through_each_phase(rt: HostRuntime) {
 
 #[test]
 fn a_call_is_on_its_slow_path_once_its_record_is_stored(rt: HostRuntime) {
-    let Some(mut play) = Play::<MsQueue>::new(rt.alloc(), Client::Queue, ALONE) else {
+    let Some(mut play) = Play::<MsQueue>::new(rt.alloc(), ALONE) else {
         panic!(rt; "no memory")
     };
     assert!(rt; play.begin(0, PUT_7));

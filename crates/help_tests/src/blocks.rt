@@ -7,7 +7,7 @@ use crate::words::{
     QUEUE_6,
 };
 use fast_slow_engine::{Setup, Turn};
-use lin_report::{Client, Reply};
+use lin_report::Reply;
 use ms_queue::MsQueue;
 
 /// Two seats with one block, whose calls are published at once.
@@ -26,7 +26,7 @@ const THREE: Setup = Setup {
 
 #[test]
 fn a_helper_that_finds_no_block_left_says_exhausted(rt: HostRuntime) {
-    let Some(mut play) = Play::<MsQueue>::new(rt.alloc(), Client::Queue, TWO) else {
+    let Some(mut play) = Play::<MsQueue>::new(rt.alloc(), TWO) else {
         panic!(rt; "no memory")
     };
     assert!(rt; play.begin(0, PUT_7) && play.finish(0).is_some());
@@ -63,7 +63,7 @@ fn a_helper_that_finds_no_block_left_says_exhausted(rt: HostRuntime) {
 
 #[test]
 fn of_two_helpers_at_the_last_block_one_says_exhausted_and_the_other_keeps_it(rt: HostRuntime) {
-    let Some(mut play) = Play::<MsQueue>::new(rt.alloc(), Client::Queue, THREE) else {
+    let Some(mut play) = Play::<MsQueue>::new(rt.alloc(), THREE) else {
         panic!(rt; "no memory")
     };
     assert!(rt; play.begin(0, PUT_7) && play.begin(1, PUT_8) && play.begin(2, ONE_TAKE));

@@ -6,7 +6,7 @@ use crate::rows::Row::{Load, Wins};
 use crate::words::{DONE_1, GENERATE_1, QUEUE_1, QUEUE_OF_EIGHT};
 use fast_slow_engine::{Setup, Turn};
 use lin_report::calls::PUT;
-use lin_report::{Client, Op, Receipt, Reply};
+use lin_report::{Op, Receipt, Reply};
 use ms_queue::MsQueue;
 
 /// Eight seats, whose calls are published at once.
@@ -45,7 +45,7 @@ fn own_line(seat: u32, end: u64) -> Receipt {
 
 #[test]
 fn one_exchange_enters_all_eight_seats(rt: HostRuntime) {
-    let Some(mut play) = Play::<MsQueue>::new(rt.alloc(), Client::Queue, EIGHT) else {
+    let Some(mut play) = Play::<MsQueue>::new(rt.alloc(), EIGHT) else {
         panic!(rt; "no memory")
     };
     for seat in 0..8u32 {
@@ -89,7 +89,7 @@ fn one_exchange_enters_all_eight_seats(rt: HostRuntime) {
 
 #[test]
 fn a_removal_enters_whom_it_finds(rt: HostRuntime) {
-    let Some(mut play) = Play::<MsQueue>::new(rt.alloc(), Client::Queue, THREE) else {
+    let Some(mut play) = Play::<MsQueue>::new(rt.alloc(), THREE) else {
         panic!(rt; "no memory")
     };
     // seat 2 has looked at the empty queue word, and announces its call while seat 1 helps

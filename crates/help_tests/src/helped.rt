@@ -7,7 +7,7 @@ use crate::rows::Row::{self, Add, Load, Loses, Store, Wins};
 use crate::words::{DONE_1, GENERATE_1, QUEUE_1, QUEUE_2, QUEUE_4, VALUE_2, YES_1, YES_2};
 use fast_slow_engine::{Setup, Turn};
 use harris_list::HarrisList;
-use lin_report::{Client, Op, Receipt, Reply};
+use lin_report::{Op, Receipt, Reply};
 use ms_queue::MsQueue;
 use normal_traits::Normalized;
 
@@ -41,7 +41,7 @@ const PUBLISH_PUT: [Row; 9] = [
 
 #[test]
 fn a_put_is_helped_at_the_look_of_a_take(rt: HostRuntime) {
-    let Some(mut play) = Play::<MsQueue>::new(rt.alloc(), Client::Queue, TWO) else {
+    let Some(mut play) = Play::<MsQueue>::new(rt.alloc(), TWO) else {
         panic!(rt; "no memory")
     };
     assert!(rt; play.begin(0, PUT_7) && play.begin(1, ONE_TAKE));
@@ -75,7 +75,7 @@ fn a_put_is_helped_at_the_look_of_a_take(rt: HostRuntime) {
 
 #[test]
 fn an_owner_that_stopped_before_it_entered_finds_its_call_completed(rt: HostRuntime) {
-    let Some(mut play) = Play::<MsQueue>::new(rt.alloc(), Client::Queue, TWO) else {
+    let Some(mut play) = Play::<MsQueue>::new(rt.alloc(), TWO) else {
         panic!(rt; "no memory")
     };
     let both = (1 << 32) + 1 + (2 << 4);
@@ -104,7 +104,7 @@ fn an_owner_that_stopped_before_it_entered_finds_its_call_completed(rt: HostRunt
 
 #[test]
 fn an_owner_that_loses_its_exchange_was_entered_by_the_other(rt: HostRuntime) {
-    let Some(mut play) = Play::<MsQueue>::new(rt.alloc(), Client::Queue, TWO) else {
+    let Some(mut play) = Play::<MsQueue>::new(rt.alloc(), TWO) else {
         panic!(rt; "no memory")
     };
     let both = (1 << 32) + 1 + (2 << 4);
@@ -143,7 +143,7 @@ fn finished_by_another<C: Normalized>(
 #[test]
 fn put_and_take_are_finished_wherever_their_seat_stops(rt: HostRuntime) {
     for after in ANNOUNCED..=ENTERED {
-        let Some(mut play) = Play::<MsQueue>::new(rt.alloc(), Client::Queue, TWO) else {
+        let Some(mut play) = Play::<MsQueue>::new(rt.alloc(), TWO) else {
             panic!(rt; "no memory")
         };
         let put = slow_line(0, 1, PUT_7, Reply::Done, 0, 3);
@@ -152,7 +152,7 @@ fn put_and_take_are_finished_wherever_their_seat_stops(rt: HostRuntime) {
         assert_eq!(rt; came, Some((take, DONE_1, put)), "after {after} steps");
     }
     for after in ANNOUNCED..=ENTERED {
-        let Some(mut play) = Play::<MsQueue>::new(rt.alloc(), Client::Queue, TWO) else {
+        let Some(mut play) = Play::<MsQueue>::new(rt.alloc(), TWO) else {
             panic!(rt; "no memory")
         };
         assert!(rt; play.begin(0, PUT_7) && play.finish(0).is_some());
@@ -166,7 +166,7 @@ fn put_and_take_are_finished_wherever_their_seat_stops(rt: HostRuntime) {
 #[test]
 fn add_and_del_are_finished_wherever_their_seat_stops(rt: HostRuntime) {
     for after in ANNOUNCED..=ENTERED {
-        let Some(mut play) = Play::<HarrisList>::new(rt.alloc(), Client::List, TWO) else {
+        let Some(mut play) = Play::<HarrisList>::new(rt.alloc(), TWO) else {
             panic!(rt; "no memory")
         };
         let add = slow_line(0, 1, ADD_5, Reply::Yes, 0, 3);

@@ -9,7 +9,7 @@ use crate::words::{
     QUEUE_4, WRAPPING_1, WRAPPING_1_IN_2,
 };
 use fast_slow_engine::{Setup, Turn};
-use lin_report::{Client, Reply};
+use lin_report::Reply;
 use ms_queue::MsQueue;
 use std::alloc::Global;
 use step_memory::Request;
@@ -32,7 +32,7 @@ const LATE: u32 = 13;
 /// The owner's `put 7` is published, and both helpers have looked at the queue word: one on its way to `put 8`, the other
 /// on its way to a take.
 fn helped_by_two(alloc: Global) -> Option<Play<MsQueue>> {
-    let mut play = Play::<MsQueue>::new(alloc, Client::Queue, THREE)?;
+    let mut play = Play::<MsQueue>::new(alloc, THREE)?;
     play.begin(0, PUT_7);
     play.steps(0, ENTERED);
     play.begin(1, PUT_8);

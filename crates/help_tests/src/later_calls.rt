@@ -5,7 +5,7 @@ use crate::queue_rows::{PUT_1, TAKE_2};
 use crate::rows::Row::{self, Add, Load, Loses, Store, Wins};
 use crate::words::{BIT, DONE_1, EXECUTING_2, GENERATE_1, GENERATE_2, NODE_OF_1, QUEUE_2, QUEUE_3};
 use fast_slow_engine::{Setup, Turn};
-use lin_report::{Client, Reply};
+use lin_report::Reply;
 use ms_queue::MsQueue;
 use std::alloc::Global;
 use std::process::Abort;
@@ -48,7 +48,7 @@ const SECOND_ALONE: u64 = (2 << 32) + 2;
 /// Seat 0 enters, seat 1 makes these steps, and seat 0 ends its call and makes so many of its next one. Then seat 1 takes
 /// these steps, with which it leaves off helping, and both calls end as they should.
 fn leaves_off(rt: &impl Abort, alloc: Global, helped: u32, later: u32, rows: &[Row]) {
-    let Some(mut play) = Play::<MsQueue>::new(alloc, Client::Queue, TWO) else {
+    let Some(mut play) = Play::<MsQueue>::new(alloc, TWO) else {
         panic!(rt; "no memory")
     };
     assert!(rt; play.begin(0, PUT_7) && play.begin(1, ONE_TAKE));
@@ -118,7 +118,7 @@ fn a_removal_leaves_off_where_the_owner_heads_with_a_later_call(rt: HostRuntime)
 
 #[test]
 fn a_search_that_meets_a_list_in_execution_loads_the_record_anew(rt: HostRuntime) {
-    let Some(mut play) = Play::<MsQueue>::new(rt.alloc(), Client::Queue, TWO) else {
+    let Some(mut play) = Play::<MsQueue>::new(rt.alloc(), TWO) else {
         panic!(rt; "no memory")
     };
     assert!(rt; play.begin(0, PUT_7) && play.finish(0).is_some());
@@ -142,7 +142,7 @@ fn a_search_that_meets_a_list_in_execution_loads_the_record_anew(rt: HostRuntime
 
 #[test]
 fn an_owner_that_finds_itself_at_the_head_removes_itself(rt: HostRuntime) {
-    let Some(mut play) = Play::<MsQueue>::new(rt.alloc(), Client::Queue, TWO) else {
+    let Some(mut play) = Play::<MsQueue>::new(rt.alloc(), TWO) else {
         panic!(rt; "no memory")
     };
     assert!(rt; play.begin(0, PUT_7) && play.begin(1, ONE_TAKE));

@@ -1,11 +1,7 @@
 //! Machines over one memory, and steps of them by hand.
-ghost use Rattle.node_arena.specs.Opening.{IsLaidOut};
-
 use crate::rows::Row;
 use fast_slow_engine::{Machine, Setup, Turn};
-use lin_report::commands::is_command;
-use lin_report::{Client, Op, Path, Receipt};
-use node_arena::opening_words;
+use lin_report::{Op, Path, Receipt};
 use normal_traits::Normalized;
 use std::alloc::Global;
 use step_memory::{Cells, Port, Request, Seen};
@@ -30,17 +26,15 @@ pub struct Play<C: Normalized> {
 }
 
 impl<C: Normalized> Play<C> {
-    /// The memory as a run of this client opens, with machines that have made no call.
-    pub fn new(alloc: Global, client: Client, setup: Setup) -> Option<Play<C>>
-        requires { IsLaidOut client }
-    {
+    /// The memory as a run opens, with machines that have made no call.
+    pub fn new(alloc: Global, setup: Setup) -> Option<Play<C>> {
         let mut machines = Vec::new(alloc);
         for seat in 0..setup.seats {
             machines.push(Machine::new(seat, setup)).ok()?;
         }
         Some(Play {
-            cells: Cells::new(opening_words(alloc, setup.cap, client).ok()?),
-            told: opening_words(alloc, setup.cap, client).ok()?,
+            cells: Cells::new(C::opening(alloc, setup.cap).ok()?),
+            told: C::opening(alloc, setup.cap).ok()?,
             machines,
         })
     }
@@ -50,7 +44,7 @@ impl<C: Normalized> Play<C> {
         let Some(machine) = self.machines.get_mut(seat as usize) else {
             return false;
         };
-        if !machine.is_idle() || machine.number() >= 65535 || !is_command(C::CLIENT, op) {
+        if !machine.is_idle() || machine.number() >= 65535 || !C::serves(op) {
             return false;
         }
         machine.start(op);

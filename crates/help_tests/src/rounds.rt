@@ -10,7 +10,7 @@ use crate::words::{BIT, EXECUTING_1, NODE_OF_1, NODE_OF_2, NODE_OF_3, NODE_OF_4,
 use fast_slow_engine::{Setup, Turn};
 use harris_list::HarrisList;
 use lin_report::Path::{Fast, Slow};
-use lin_report::{Client, Reply};
+use lin_report::Reply;
 use ms_queue::MsQueue;
 
 /// Two seats, whose calls are published after so many failures.
@@ -85,12 +85,12 @@ fn entries_are_made_once_by_whomever(rt: HostRuntime) {
         ONCE.as_slice(),
         GREATEST.as_slice(),
     ] {
-        let Some(mut play) = Play::<MsQueue>::new(rt.alloc(), Client::Queue, TWO) else {
+        let Some(mut play) = Play::<MsQueue>::new(rt.alloc(), TWO) else {
             panic!(rt; "no memory")
         };
         assert_eq!(rt; first_undone(&mut play, acts), None);
     }
-    let Some(mut play) = Play::<HarrisList>::new(rt.alloc(), Client::List, TWO) else {
+    let Some(mut play) = Play::<HarrisList>::new(rt.alloc(), TWO) else {
         panic!(rt; "no memory")
     };
     assert_eq!(rt; first_undone(&mut play, SECOND_ENTRY.as_slice()), None);
@@ -98,7 +98,7 @@ fn entries_are_made_once_by_whomever(rt: HostRuntime) {
 
 #[test]
 fn a_late_listed_exchange_is_lost_and_decides_nothing(rt: HostRuntime) {
-    let Some(mut play) = Play::<MsQueue>::new(rt.alloc(), Client::Queue, TWO) else {
+    let Some(mut play) = Play::<MsQueue>::new(rt.alloc(), TWO) else {
         panic!(rt; "no memory")
     };
     assert!(rt; play.begin(0, PUT_7) && play.reach_listed(0));
@@ -180,7 +180,7 @@ const AGAIN: [Row; 33] = [
 
 #[test]
 fn a_list_that_failed_is_made_anew_in_the_next_round(rt: HostRuntime) {
-    let Some(mut play) = Play::<MsQueue>::new(rt.alloc(), Client::Queue, TWO_AFTER_ONE) else {
+    let Some(mut play) = Play::<MsQueue>::new(rt.alloc(), TWO_AFTER_ONE) else {
         panic!(rt; "no memory")
     };
     assert_eq!(rt; first_undone(&mut play, SECOND_ROUND.as_slice()), None);

@@ -1,7 +1,7 @@
 -- A helper's own step: what it rests on, what it finds, and what it leaves.
 use Rattle.std.specs.Prelude.{◌≡◌, ℕ, ◌+◌, ◌^◌, ◌<◌, ◌≤◌, true, length, slice_get, Option, Some}
 use Rattle.lin_report.specs.declared.calls.Op.{Op}
-use Rattle.lin_report.specs.Commands.{IsCommandOf}
+use Rattle.lin_report.specs.Object.{IsCommandOf}
 use Rattle.step_memory.specs.declared.steps.Seen.{Seen}
 use Rattle.step_memory.specs.Step.{place_of}
 use Rattle.word_fields.specs.Records.{record_phase, record_number}
@@ -36,7 +36,7 @@ pub record RestsOn {S W : Type 0} (form : NormalForm S W) (world : World) (offer
   pub holds : HasOffers form world offers
   pub contents : (block : ℕ) (offer : Offer S) → offers block ≡ Some offer → HasContents world offer
   pub announced : HasAnnounced world head caller
-  pub command : IsCommandOf form.client caller.op
+  pub command : IsCommandOf form.object caller.op
   pub few : caller.number < 2 ^ 16
   pub early : caller.begun ≤ length world.changes
 

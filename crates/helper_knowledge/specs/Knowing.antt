@@ -3,8 +3,7 @@
 use Rattle.std.specs.Prelude.{◌≡◌, ℕ, ◌<◌, ◌≤◌, List, slice_get, Some}
 use Rattle.lin_report.specs.declared.calls.Op.{Op}
 use Rattle.lin_report.specs.declared.calls.Outcome.{Outcome}
-use Rattle.lin_report.specs.Object.{object_of}
-use Rattle.lin_report.specs.Commands.{IsCommandOf}
+use Rattle.lin_report.specs.Object.{IsCommandOf}
 use Rattle.word_fields.specs.Records.{record_number}
 use Rattle.op_record.specs.Outcomes.{FitsPayload}
 use Rattle.normal_traits.specs.World.{RightSince, World}
@@ -25,7 +24,7 @@ ToldWhole outcome = FitsPayload outcome × (fitted outcome ≡ outcome)
 module _ {S W : Type 0} (form : NormalForm S W) (world : World) where
   -- a search for the call in the record, which began after the call did
   pub record KnowsSearch (caller : Caller) (word : ℕ) (op : Op) (search : S) (since : ℕ) : Type 0 where
-    pub command : IsCommandOf form.client op
+    pub command : IsCommandOf form.object op
     pub knows : form.knows search op world since
     pub op_is : IfStill caller (record_number word) (op ≡ caller.op)
     pub early : IfStill caller (record_number word) (caller.begun ≤ since)
@@ -39,7 +38,7 @@ module _ {S W : Type 0} (form : NormalForm S W) (world : World) where
   -- it has answered. That the call made no change is no part of it: the record tells that while it is in Generate, and
   -- it may be false before the helper's exchange is lost
   pub record KnowsAnswer (caller : Caller) (word since : ℕ) (op : Op) (outcome : Outcome) : Type 0 where
-    pub right : RightSince (object_of form.client) world op since outcome
+    pub right : RightSince form.object world op since outcome
     pub fixed : IsFixed form outcome
     pub op_is : IfStill caller (record_number word) (op ≡ caller.op)
     pub early : IfStill caller (record_number word) (caller.begun ≤ since)

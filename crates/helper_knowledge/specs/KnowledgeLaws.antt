@@ -55,7 +55,7 @@ module _ {S W : Type 0} (form : NormalForm S W) where
   -- a block that is filled for a list holds the operation and the list of its call
   abbrev pub FilledHolds : Type 0
   FilledHolds =
-      (world : World) (offers : ℕ → Option (Offer S)) (caller : Caller) (head word block : ℕ) (stores : List (ℕ × ℕ)) (offer : Offer S) → HasOffers form world offers → ((place : ℕ) → is_word world place ≡ true → place < 2 ^ 32)
+      (world : World) (offers : ℕ → Option (Offer S)) (caller : Caller) (head word block : ℕ) (stores : List (ℕ × ℕ)) (offer : Offer S) → HasOffers form world offers → ((place : ℕ) → is_word form.is_root world place ≡ true → place < 2 ^ 32)
       → KnowsOffer form world caller head word block stores (length stores) offer → HasContents world offer
 
   -- and where it wins an exchange of the record, that is one of the kinds, and the record tells what is right

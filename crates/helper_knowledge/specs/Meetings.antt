@@ -22,7 +22,7 @@ pub record IsNew {S W : Type 0} (form : NormalForm S W) (world : World) (offers 
   pub spare : IsSpare world offers block
   pub fresh : (j : ℕ) → has_taken world.journal offer.list j ≡ false
   pub identity : (other : ℕ) (mate : Offer S) → offers other ≡ Some mate → mate.list.identity ≢ offer.list.identity
-  pub room : (place : ℕ) → is_word world place ≡ true → form.is_versioned place ≡ true → versioned_version (world.words place) + 1 < 2 ^ 39
+  pub room : (place : ℕ) → is_word form.is_root world place ≡ true → form.is_versioned place ≡ true → versioned_version (world.words place) + 1 < 2 ^ 39
 
 -- the record word that a helper loaded still stands, so its call is the one that the head's seat makes now, the record
 -- tells of that call, and where it is in Generate no list is executed

@@ -14,5 +14,6 @@ pub mod Sequences
 pub mod Ticks
 pub mod Alone
 pub mod Replies
+pub mod Tellable
 pub mod Written
 pub mod Fits

@@ -12,8 +12,8 @@ use Rattle.lin_report.specs.declared.calls.Client.TheVariants as client
 use Rattle.lin_report.specs.declared.calls.Op.{Op}
 use Rattle.lin_report.specs.declared.calls.Reply.{Reply}
 use Rattle.lin_report.specs.declared.calls.TheConstants.{PUT, TAKE, ADD, DEL, HAS, SET, REM, GET, PEEK, MIN}
-use Rattle.lin_report.specs.Commands.{is_queue_command, is_set_command, is_list_command, is_map_command, IsCommandOf, IsReplyTo, tells_presence, VALUE_LIMIT}
-use Rattle.lin_report.specs.Object.{object_of, yes_if, take_first, value_or_empty, least, set_apply, map_apply, value_or_absent}
+use Rattle.lin_report.specs.Commands.{is_queue_command, is_set_command, is_list_command, is_map_command, IsReplyTo, tells_presence, VALUE_LIMIT}
+use Rattle.lin_report.specs.Object.{object_of, IsCommandOf, yes_if, take_first, value_or_empty, least, set_apply, map_apply, value_or_absent}
 use Rattle.lin_report.proofs.Least.{Keys, least_member}
 
 -- each value that is held, and each key that min may tell, is in range
@@ -104,7 +104,7 @@ map_fits op pairs command small =
     (λ not_rem. value_fits op (map.get pairs op.key) (gets_else op command not_set not_rem) (small op.key)))
 
 -- the reply to a command
-pub reply_fits : (c : Client) (op : Op) (held : (object_of c).Held) → IsCommandOf c op → HoldsInRange c held → IsReplyTo op ((object_of c).apply op held).1
+pub reply_fits : (c : Client) (op : Op) (held : (object_of c).Held) → IsCommandOf (object_of c) op → HoldsInRange c held → IsReplyTo op ((object_of c).apply op held).1
 reply_fits client.Queue op values can small =
     by_test (λ (r : List ℕ × Reply). IsReplyTo op r.1) (op.code == PUT) _ _
     (λ puts. record { named = puts; value = omega arith })
@@ -142,7 +142,7 @@ less_in_range : (keys : Keys) (gone : ℕ) → HoldsInRange client.List keys →
 less_in_range keys gone small key there = small key (and_parts (not (eq_by_cmp nat_cmp key gone)) (set.contains keys key) (sym (set.contains-remove nat_cmp_total keys gone key) ∙ there)).1
 
 -- what a command leaves
-pub range_kept : (c : Client) (op : Op) (held : (object_of c).Held) → IsCommandOf c op → HoldsInRange c held → HoldsInRange c ((object_of c).apply op held).0
+pub range_kept : (c : Client) (op : Op) (held : (object_of c).Held) → IsCommandOf (object_of c) op → HoldsInRange c held → HoldsInRange c ((object_of c).apply op held).0
 range_kept client.Queue op values can small =
     let Small : List ℕ × Reply → Type 0 = λ r. All (λ v. v < VALUE_LIMIT) r.0 in
     by_test Small (op.code == PUT) _ _ (λ _. All-push (λ v. v < VALUE_LIMIT) values op.value small can.value)

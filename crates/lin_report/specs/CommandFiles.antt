@@ -1,11 +1,10 @@
 -- A command file that a seat can run.
 use Rattle.std.specs.Prelude.{◌≤◌, List, length, All}
-use Rattle.lin_report.specs.declared.calls.Client.{Client}
 use Rattle.lin_report.specs.declared.calls.Op.{Op}
-use Rattle.lin_report.specs.Commands.{IsCommandOf}
+use Rattle.lin_report.specs.Object.{Object, IsCommandOf}
 
--- commands of the client, no more than a seat can number: an accepted file is one, the seats of a core are made
+-- commands of the object, no more than a seat can number: an accepted file is one, the seats of a core are made
 -- of such files, and every law of a run over files is of these
-pub record IsCommandFile (client : Client) (file : List Op) : Type 0 where
+pub record IsCommandFile (object : Object) (file : List Op) : Type 0 where
   pub few : length file ≤ 65535
-  pub commands : All (IsCommandOf client) file
+  pub commands : All (IsCommandOf object) file

@@ -1,8 +1,6 @@
 -- Which operations the commands are, and which replies each may be given. An operation has 0 in each
 -- number that its command doesn't take.
 use Rattle.std.specs.Prelude.{ℕ, ◌<◌, Bool, IsTrue, ◌==◌, ◌||◌, ◌&&◌, not, nat_lt}
-use Rattle.lin_report.specs.declared.calls.Client.{Client}
-use Rattle.lin_report.specs.declared.calls.Client.TheVariants.{Queue, List, Tree, Buckets}
 use Rattle.lin_report.specs.declared.calls.Op.{Op}
 use Rattle.lin_report.specs.declared.calls.Reply.{Reply}
 use Rattle.lin_report.specs.declared.calls.Reply.TheVariants.{Yes, No, Done, Value, Empty, Absent, Exhausted}
@@ -40,19 +38,7 @@ is_list_command op = is_set_command op || (op.code == MIN && takes_nothing op)
 abbrev pub is_map_command : Op → Bool
 is_map_command op = (op.code == SET && nat_lt op.key KEY_LIMIT) || ((op.code == REM || op.code == GET) && takes_key op)
 
--- whether the operation is a command of the client
-abbrev pub is_command : Client → Op → Bool
-is_command Queue op = is_queue_command op
-is_command List op = is_list_command op
-is_command Buckets op = is_set_command op
-is_command Tree op = is_map_command op
-
--- a command of the client, with its value in range
-pub record IsCommandOf (client : Client) (op : Op) : Type 0 where
-  pub command : IsTrue (is_command client op)
-  pub value : op.value < VALUE_LIMIT
-
--- a command of one client or another
+-- a command of one structure or another
 abbrev pub is_some_command : Op → Bool
 is_some_command op = is_queue_command op || is_list_command op || is_map_command op
 

@@ -1,6 +1,7 @@
 pub mod Commands
 pub mod CommandFiles
 pub mod Object
+pub mod Tellable
 pub mod Calls
 pub mod Report
 pub mod Linearizable

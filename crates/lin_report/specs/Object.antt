@@ -1,6 +1,6 @@
 -- The sequential objects: what each operation answers and leaves, one at a time. They know a list of
 -- values, a set of keys and a map, and nothing of nodes, marks or references.
-use Rattle.std.specs.Prelude.{ℕ, Bool, true, false, ◌==◌, not, nat_lt, if◌then◌else◌, List, [], ◌∷◌, ◌++◌, Option, Some, None, slice_get}
+use Rattle.std.specs.Prelude.{ℕ, ◌<◌, Bool, IsTrue, true, false, ◌==◌, not, nat_lt, if◌then◌else◌, List, [], ◌∷◌, ◌++◌, Option, Some, None, slice_get}
 use Rattle.std.specs.Ordering.{nat_cmp}
 use Rattle.std.specs.FinSet as set
 use Rattle.std.specs.FinMap as map
@@ -10,7 +10,7 @@ use Rattle.lin_report.specs.declared.calls.Op.{Op}
 use Rattle.lin_report.specs.declared.calls.Reply.{Reply}
 use Rattle.lin_report.specs.declared.calls.Reply.TheVariants.{Yes, No, Done, Value, Empty, Absent}
 use Rattle.lin_report.specs.declared.calls.TheConstants.{PUT, TAKE, ADD, DEL, HAS, SET, REM}
-use Rattle.lin_report.specs.Commands.{is_queue_command, is_set_command, is_list_command, is_map_command}
+use Rattle.lin_report.specs.Commands.{is_queue_command, is_set_command, is_list_command, is_map_command, VALUE_LIMIT}
 
 -- an object: what it may hold, what it holds at first, and for each operation that it serves what it
 -- holds afterwards and what it replies
@@ -19,6 +19,11 @@ pub record Object : Type 1 where
   pub empty : Held
   pub apply : Op → Held → Held × Reply
   pub serves : Op → Bool
+
+-- an operation that the object serves, with its value in range
+pub record IsCommandOf (object : Object) (op : Op) : Type 0 where
+  pub command : IsTrue (object.serves op)
+  pub value : op.value < VALUE_LIMIT
 
 -- what is held after operations
 abbrev pub held_after : (object : Object) → object.Held → List Op → object.Held
@@ -103,3 +108,7 @@ object_of client.Queue = queue_object
 object_of client.List = list_object
 object_of client.Buckets = set_object
 object_of client.Tree = map_object
+
+-- whether the operation is a command of the client
+abbrev pub is_command : Client → Op → Bool
+is_command c = (object_of c).serves

@@ -4,8 +4,7 @@ use Rattle.lin_report.specs.declared.calls.Client.{Client}
 use Rattle.lin_report.specs.declared.calls.Op.{Op}
 use Rattle.lin_report.specs.declared.calls.Path.TheVariants.{Fast}
 use Rattle.lin_report.specs.declared.calls.Receipt.{Receipt}
-use Rattle.lin_report.specs.Commands.{IsCommandOf, IsReplyTo}
-use Rattle.lin_report.specs.Object.{Object, object_of, held_after}
+use Rattle.lin_report.specs.Object.{Object, IsCommandOf, object_of}
 use Rattle.lin_report.specs.Calls.{Report, report_of}
 use Rattle.lin_report.specs.Report.{IsReport}
 use Rattle.lin_report.specs.Linearizable.{IsLinearizable}
@@ -34,11 +33,5 @@ SequentialReportIsLinearizable = (client : Client) (ops : List Op) → IsLineari
 -- the writers of the report take it, where the operations are commands and no more than a file may have
 abbrev pub SequentialReportCanBeWritten : Type 0
 SequentialReportCanBeWritten =
-    (client : Client) (ops : List Op) (overtaken : Option ℕ) → All (IsCommandOf client) ops → length ops ≤ 65535 → IfSome overtaken (λ most. most ≤ 524280)
+    (client : Client) (ops : List Op) (overtaken : Option ℕ) → All (IsCommandOf (object_of client)) ops → length ops ≤ 65535 → IfSome overtaken (λ most. most ≤ 524280)
     → CanWrite (sequential_report (object_of client) ops) overtaken
-
--- made after other commands of the client, a command is given a reply of the table
-abbrev pub RepliesFitCommands : Type 0
-RepliesFitCommands =
-    (client : Client) (ops : List Op) (op : Op) → All (IsCommandOf client) ops → IsCommandOf client op
-    → IsReplyTo op ((object_of client).apply op (held_after (object_of client) (object_of client).empty ops)).1

@@ -1,6 +1,6 @@
 //! What a caller asks for and what it is told: operations, replies, and the calls of a report.
 
-/// A structure that the library lifts, by the word that names it on the command line.
+/// A structure that the program serves, by the word that names it on the command line.
 #[derive(Clone, Copy, Debug, PartialEq, Eq)]
 pub enum Client {
     /// Michael and Scott's queue.

@@ -1,16 +1,17 @@
 -- What the kinds of moves come to: nothing, a word put where the client has none, a step of a helper on an offered
 -- list, or a won exchange of a word of the client beside those lists. Proofs go by these four.
-use Rattle.std.proofs.Common.{◌≡◌, ◌≢◌, ◌∙◌, refl, sym, subst, ap, ℕ, ◌+◌, ◌<◌, Bool, false, inl, inr, List, [], ◌∷◌, ◌++◌, Option, Some, None, arith}
+use Rattle.std.proofs.Common.{◌≡◌, ◌∙◌, refl, sym, subst, ap, ℕ, ◌+◌, ◌<◌, Bool, false, inl, inr, List, [], ◌∷◌, ◌++◌, Option, Some, None, arith}
 use Rattle.std.specs.Prelude.{if◌then◌else◌}
 use Rattle.std.proofs.lemmas.Bool.{ne_eqb}
 use Rattle.step_memory.specs.declared.steps.Seen.{Seen}
-use Rattle.node_arena.specs.MemoryMap.{block_place}
+use Rattle.node_arena.specs.MemoryMap.{block_place, MayBeClients}
+use Rattle.node_arena.proofs.PlaceLemmas.{engines_out}
 use Rattle.normal_traits.specs.declared.lists.Entry.{Entry}
 use Rattle.normal_traits.specs.World.{Listed, Maker, Change, Won, World, is_word}
 use Rattle.normal_traits.specs.World.Maker.{By, Beside}
 use Rattle.normal_traits.specs.NormalForm.{NormalForm}
 use Rattle.normal_traits.specs.Laws.{Laws}
-use Rattle.normal_traits.specs.Steps.{IsStep, listed_if, put_word, with_change, object}
+use Rattle.normal_traits.specs.Steps.{IsStep, listed_if, put_word, with_change}
 use Rattle.normal_traits.specs.Steps.IsStep.{nothing, elsewhere}
 use Rattle.cas_executor.specs.SlowRuns.{SlowWalk}
 use Rattle.offered_blocks.specs.Blocks.{Offer}
@@ -28,7 +29,7 @@ use Rattle.move_kinds.specs.Kinds.Kind.{quiet, counts, fills, announces, publish
 module _ {S W : Type 0} (form : NormalForm S W) (world after : World) (offers : ℕ → Option (Offer S)) (hand : Option ℕ) where
   -- where the engine puts words: at its own first words, and in the block in hand
   pub data IsPlain (place : ℕ) : Type 0 where
-    engine : place < 32 → place ≢ 20 → place ≢ 21 → IsPlain place
+    engine : place < 32 → ¬ MayBeClients place → IsPlain place
     in_hand : (block field : ℕ) → hand ≡ Some block → IsSpare world offers block → field < 32 → place ≡ block_place block field → IsPlain place
 
   pub data Does : Type 0 where
@@ -38,19 +39,19 @@ module _ {S W : Type 0} (form : NormalForm S W) (world after : World) (offers : 
     exchanges : (maker : Maker) (list : Option Listed) (entry : Entry) → IsExchange form world after offers maker list entry → UsesHand world after hand → Does
 
   counter_plain : (place : ℕ) → IsCounter place → IsPlain place
-  counter_plain place (inl ticks) = engine (omega (arith, ticks)) (λ e. absurd (omega (arith, ticks, e))) (λ e. absurd (omega (arith, ticks, e)))
-  counter_plain place (inr claims) = engine (omega (arith, claims)) (λ e. absurd (omega (arith, claims, e))) (λ e. absurd (omega (arith, claims, e)))
+  counter_plain place (inl ticks) = engine (omega (arith, ticks)) (engines_out place (inl (omega (arith, ticks))))
+  counter_plain place (inr claims) = engine (omega (arith, claims)) (engines_out place (inl (omega (arith, claims))))
 
   own_plain : (seat place : ℕ) → seat < 8 → IsOwnWord seat place → IsPlain place
-  own_plain seat place small (inl value) = engine (omega (arith, small, value)) (λ e. absurd (omega (arith, value, e))) (λ e. absurd (omega (arith, value, e)))
-  own_plain seat place small (inr op) = engine (omega (arith, small, op)) (λ e. absurd (omega (arith, op, small, e))) (λ e. absurd (omega (arith, op, small, e)))
+  own_plain seat place small (inl value) = engine (omega (arith, small, value)) (engines_out place (inr (omega (arith, value), omega (arith, small, value))))
+  own_plain seat place small (inr op) = engine (omega (arith, small, op)) (engines_out place (inl (omega (arith, small, op))))
 
   record_plain : (head : ℕ) → head < 8 → IsPlain (12 + head)
-  record_plain head small = engine (omega (arith, small)) (λ e. absurd (omega (arith, small, e))) (λ e. absurd (omega (arith, small, e)))
+  record_plain head small = engine (omega (arith, small)) (engines_out (12 + head) (inl (omega (arith, small))))
 
-  pub plain_word : (place : ℕ) → IsPlain place → is_word world place ≡ false
-  plain_word place (engine low head tail) = engine_word world place low head tail
-  plain_word place (in_hand block field in_hand' spare small at) = subst (λ p. is_word world p ≡ false) (sym at) (spare_word world block field small spare.unused)
+  pub plain_word : (place : ℕ) → IsPlain place → is_word form.is_root world place ≡ false
+  plain_word place (engine low out) = engine_word form.is_root world place low out
+  plain_word place (in_hand block field in_hand' spare small at) = subst (λ p. is_word form.is_root world p ≡ false) (sym at) (spare_word form.is_root world block field small spare.unused)
 
   -- ---- an allowed step, by which what is known grows
 
@@ -60,7 +61,7 @@ module _ {S W : Type 0} (form : NormalForm S W) (world after : World) (offers : 
   does_step (helps block offer walk seen is) = is.step
   does_step (exchanges maker list entry is uses) = is.step
 
-  change_grows : (list : Option Listed) (changes : List Change) → (newer : List Change) × (with_change (object form) list changes ≡ newer ++ changes)
+  change_grows : (list : Option Listed) (changes : List Change) → (newer : List Change) × (with_change form.object list changes ≡ newer ++ changes)
   change_grows None changes = ([], refl)
   change_grows (Some list) changes = (_ ∷ [], refl)
 
@@ -98,7 +99,7 @@ module _ {S W : Type 0} (form : NormalForm S W) (world after : World) (offers : 
     does_of (fills block field word in_hand' spare small stored clear put offers_same) = puts (block_place block field) word (in_hand block field in_hand' spare small refl) put
     does_of (announces place word small own put offers_same) = puts place word (own_plain mover place small own) put
     does_of (publishes word small closed opens put offers_same) = puts (12 + mover) word (record_plain mover small) put
-    does_of (queues word put offers_same) = puts 1 word (engine (omega arith) (λ e. absurd (omega (arith, e))) (λ e. absurd (omega (arith, e)))) put
+    does_of (queues word put offers_same) = puts 1 word (engine (omega arith) (engines_out 1 (inl (omega arith)))) put
     does_of (names head word block offer phase in_hand' seat can won new) = puts (12 + head) _ (record_plain head won.small) won.after_is
     does_of (settles head word stop offer phase of known won offers_same) = puts (12 + head) _ (record_plain head won.small) won.after_is
     does_of (completes head word outcome phase won offers_same) = puts (12 + head) _ (record_plain head won.small) won.after_is

@@ -7,7 +7,7 @@ use Rattle.word_fields.specs.Records.{record_phase, record_payload}
 use Rattle.node_arena.specs.MemoryMap.{record_place}
 use Rattle.normal_traits.specs.World.{Among, Called, Change, Listed, World}
 use Rattle.normal_traits.specs.NormalForm.{NormalForm}
-use Rattle.normal_traits.specs.Steps.{listed_if, object, with_change}
+use Rattle.normal_traits.specs.Steps.{listed_if, with_change}
 use Rattle.cas_executor.specs.SlowRuns.{SlowWalk}
 use Rattle.cas_executor_laws.proofs.RunTurns.{same_entry}
 use Rattle.cas_executor_laws.proofs.SiteLemmas.{entry_at}
@@ -21,7 +21,7 @@ use Rattle.offered_blocks.proofs.Helpers.Executes.Tells.{no_win, wins}
 module _ {S W : Type 0} (form : NormalForm S W) (world after : World) (offers : ℕ → Option (Offer S)) (blocks : HasBlocks form world offers)
     (block : ℕ) (offer : Offer S) (walk : SlowWalk) (seen : Seen) (is : Executes form world after offers block offer walk seen) where
   -- a change is an old one, or that of this list
-  change_from : (adds : Bool) (change : Change) → Among change (with_change (object form) (listed_if adds offer.list) world.changes) → Among change world.changes ⊎ (change.list ≡ offer.list)
+  change_from : (adds : Bool) (change : Change) → Among change (with_change form.object (listed_if adds offer.list) world.changes) → Among change world.changes ⊎ (change.list ≡ offer.list)
   change_from false change among = inl among
   change_from true change (inl same) = inr (ap (λ (c : Change). c.list) same)
   change_from true change (inr old) = inl old

@@ -27,13 +27,13 @@ module _ {S W : Type 0} (form : NormalForm S W) (laws : Laws form) (world after 
 
   -- where the engine puts words there is no state of an offered block
   state_apart : (place block : ℕ) (offer : Offer S) (j : ℕ) → offers block ≡ Some offer → j < 2 → IsPlain form world after offers hand place → state_place offer.list.block j ≢ place
-  state_apart place block offer j stands few (engine low head tail) e = (let behind = block_place_behind offer.list.block (9 + j) in absurd (omega (arith, low, behind, e)))
+  state_apart place block offer j stands few (engine low out) e = (let behind = block_place_behind offer.list.block (9 + j) in absurd (omega (arith, low, behind, e)))
   state_apart place block offer j stands few (in_hand other at in_hand' spare within is) e =
       let mine = holds.blocks.offered block offer stands in
       spare.unnamed offer (ap offers (sym (same_block offer.list.block (9 + j) other at (omega (arith, few)) within (e ∙ is)) ∙ mine.block_is) ∙ stands)
 
   beside_all : (block : ℕ) (offer : Offer S) → offers block ≡ Some offer → ((j : ℕ) → j < 2 → after.words (state_place offer.list.block j) ≡ world.words (state_place offer.list.block j))
-      → ((place : ℕ) → is_word world place ≡ true → after.words place ≡ world.words place) → after.journal ≡ world.journal → DeedOf offer
+      → ((place : ℕ) → is_word form.is_root world place ≡ true → after.words place ≡ world.words place) → after.journal ≡ world.journal → DeedOf offer
   beside_all block offer stands states clients journal =
       let mine = holds.blocks.offered block offer stands in
       (beside_deed (site_of offer) mine.site world.words (has_taken world.journal offer.list) after.words (has_taken after.journal offer.list)
@@ -46,7 +46,7 @@ module _ {S W : Type 0} (form : NormalForm S W) (laws : Laws form) (world after 
   does_deed (puts place word plain put) block offer stands =
       beside_all block offer stands
       (λ j few. ap (λ (w : World). w.words (state_place offer.list.block j)) put ∙ word_beside place word world.words (state_place offer.list.block j) (state_apart place block offer j stands few plain))
-      (λ at here. ap (λ (w : World). w.words at) put ∙ word_beside place word world.words at (words_apart world at place here (plain_word form world after offers hand place plain)))
+      (λ at here. ap (λ (w : World). w.words at) put ∙ word_beside place word world.words at (words_apart form.is_root world at place here (plain_word form world after offers hand place plain)))
       (ap (λ (w : World). w.journal) put)
   does_deed (helps other mate walk seen is) block offer stands =
       elim (cases_eq other block) [

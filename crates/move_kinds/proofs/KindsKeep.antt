@@ -6,7 +6,8 @@ use Rattle.word_fields.specs.declared.records.RecordWord.{RecordWord}
 use Rattle.word_fields.specs.Payloads.{payload_block, wrapping_payload}
 use Rattle.word_fields.specs.Records.{record_of, record_phase, record_number, record_round}
 use Rattle.word_fields.proofs.RecordLemmas.{record_of-packed, phase-word}
-use Rattle.node_arena.specs.MemoryMap.{block_place, record_place}
+use Rattle.node_arena.specs.MemoryMap.{block_place, record_place, MayBeClients}
+use Rattle.node_arena.proofs.PlaceLemmas.{engines_out}
 use Rattle.help_queue.specs.Gathers.{is_open}
 use Rattle.normal_traits.specs.World.{World}
 use Rattle.normal_traits.specs.World.Maker.{By, Beside}
@@ -15,7 +16,7 @@ use Rattle.normal_traits.specs.Laws.{Laws}
 use Rattle.normal_traits.specs.Steps.{listed_if, put_word}
 use Rattle.op_record.specs.Outcomes.{outcome_payload}
 use Rattle.fast_slow_engine.specs.HelpWords.{again_word, executing_word, named_block, wrapping_word}
-use Rattle.offered_blocks.specs.Blocks.{Offer, IsExecuting, MayBeMarked}
+use Rattle.offered_blocks.specs.Blocks.{Offer, IsExecuting}
 use Rattle.offered_blocks.specs.Holds.{HasOffers}
 use Rattle.offered_blocks.specs.OtherSteps.{with_offer}
 use Rattle.offered_blocks.specs.OtherSteps.IsEngines.{first_word, in_spare}
@@ -34,28 +35,20 @@ module _ {S W : Type 0} (form : NormalForm S W) (laws : Laws form) (world : Worl
 
   -- ---- places of the engine that are no records
 
-  low : {A : Type 0} (place : ℕ) → place < 32 → place ≢ 20 → place ≢ 21 → MayBeMarked form place → A
-  low place small head tail may =
-      elim may.place_is [
-        | inl is ↦ absurd (head is)
-        | inr (inl is) ↦ absurd (tail is)
-        | inr (inr behind) ↦ absurd (omega (arith, small, behind))
-      ]
-
-  engine_kept : (place word : ℕ) → place < 32 → place ≢ 20 → place ≢ 21 → ((seat : ℕ) → seat < 8 → place ≢ record_place seat) → HasOffers form (put_word place word world) offers
-  engine_kept place word small head tail apart = store_kept form laws world offers holds place word (first_word small head tail apart) (λ may. low place small head tail may)
+  engine_kept : (place word : ℕ) → place < 32 → ¬ MayBeClients place → ((seat : ℕ) → seat < 8 → place ≢ record_place seat) → HasOffers form (put_word place word world) offers
+  engine_kept place word small out apart = store_kept form laws world offers holds place word (first_word small out apart) (λ may. absurd (out may.place_is))
 
   counter_kept : (place word : ℕ) → IsCounter place → HasOffers form (put_word place word world) offers
   counter_kept place word (inl is) =
-      engine_kept place word (omega (arith, is)) (λ e. absurd (omega (arith, is, e))) (λ e. absurd (omega (arith, is, e))) (λ seat few e. absurd (omega (arith, is, e)))
+      engine_kept place word (omega (arith, is)) (engines_out place (inl (omega (arith, is)))) (λ seat few e. absurd (omega (arith, is, e)))
   counter_kept place word (inr is) =
-      engine_kept place word (omega (arith, is)) (λ e. absurd (omega (arith, is, e))) (λ e. absurd (omega (arith, is, e))) (λ seat few e. absurd (omega (arith, is, e)))
+      engine_kept place word (omega (arith, is)) (engines_out place (inl (omega (arith, is)))) (λ seat few e. absurd (omega (arith, is, e)))
 
   own_kept : (mover place word : ℕ) → mover < 8 → IsOwnWord mover place → HasOffers form (put_word place word world) offers
   own_kept mover place word few (inl is) =
-      engine_kept place word (omega (arith, is, few)) (λ e. absurd (omega (arith, is, e))) (λ e. absurd (omega (arith, is, e))) (λ seat small e. absurd (omega (arith, is, e, small)))
+      engine_kept place word (omega (arith, is, few)) (engines_out place (inr (omega (arith, is), omega (arith, is, few)))) (λ seat small e. absurd (omega (arith, is, e, small)))
   own_kept mover place word few (inr is) =
-      engine_kept place word (omega (arith, is, few)) (λ e. absurd (omega (arith, is, few, e))) (λ e. absurd (omega (arith, is, few, e))) (λ seat small e. absurd (omega (arith, is, few, e)))
+      engine_kept place word (omega (arith, is, few)) (engines_out place (inl (omega (arith, is, few)))) (λ seat small e. absurd (omega (arith, is, few, e)))
 
   -- ---- records
 
@@ -104,7 +97,7 @@ module _ {S W : Type 0} (form : NormalForm S W) (laws : Laws form) (world : Worl
         (put_kept form laws world offers holds mover word few (closed_not (record_phase (world.words (record_place mover))) closed)
         (λ e. let both : Generate ≡ Executing = sym opens ∙ e in absurd cc))
     kind_kept (queues word w o) =
-        moved 1 word w o (engine_kept 1 word (omega arith) (λ e. absurd (omega (arith, e))) (λ e. absurd (omega (arith, e))) (λ seat few e. absurd (omega (arith, few, e))))
+        moved 1 word w o (engine_kept 1 word (omega arith) (engines_out 1 (inl (omega arith))) (λ seat few e. absurd (omega (arith, few, e))))
     kind_kept (names head word block offer phase in_hand' seat can won is) =
         subst (λ f. HasOffers form after f) (sym is)
         (subst (λ w. HasOffers form w (with_offer block offer offers)) (ap (λ s. put_word (record_place s) (executing_word word block) world) seat ∙ sym won.after_is)

@@ -11,7 +11,7 @@ use Rattle.normal_traits.specs.declared.lists.Entry.{Entry}
 use Rattle.normal_traits.specs.World.{Among, Called, Change, Listed, World}
 use Rattle.normal_traits.specs.NormalForm.{NormalForm}
 use Rattle.normal_traits.specs.Laws.{Laws}
-use Rattle.normal_traits.specs.Steps.{IsStep, change_of, listed_if, object, put_word, with_change}
+use Rattle.normal_traits.specs.Steps.{IsStep, change_of, listed_if, put_word, with_change}
 use Rattle.offered_blocks.specs.Blocks.{Offer}
 use Rattle.offered_blocks.specs.Holds.{HasOffers}
 use Rattle.offered_blocks.specs.HelperSteps.{Helps}
@@ -101,7 +101,7 @@ module _ {S W : Type 0} (form : NormalForm S W) (laws : Laws form) (world after 
 
   -- ---- a new change of a list
 
-  new_of : (list : Listed) → after.changes ≡ change_of (object form) list world.changes ∷ world.changes → ((change : Change) → change.list ≡ list → Among change after.changes → IsOf call change → OfNamed change) → Only
+  new_of : (list : Listed) → after.changes ≡ change_of form.object list world.changes ∷ world.changes → ((change : Change) → change.list ≡ list → Among change after.changes → IsOf call change → OfNamed change) → Only
   new_of list made gives change among of =
       elim (subst (Among change) made among) [ inl new ↦ inr (gives change (ap (λ (c : Change). c.list) new) among of) | inr old ↦ inl old ]
 
@@ -111,7 +111,7 @@ module _ {S W : Type 0} (form : NormalForm S W) (laws : Laws form) (world after 
       let number' : list.call.number ≡ call.number = ap (λ (l : Listed). l.call.number) (sym is) ∙ of.number in
       absurd (fast.1 (ap (λ s. record_number (world.words (record_place s))) seat ∙ number ∙ sym number'))
 
-  owned_only : (list : Listed) → IsStep form world after → after.changes ≡ change_of (object form) list world.changes ∷ world.changes → IsOwned form world offers list → Only
+  owned_only : (list : Listed) → IsStep form world after → after.changes ≡ change_of form.object list world.changes ∷ world.changes → IsOwned form world offers list → Only
   owned_only list step made (unannounced fast) = new_of list made (λ change is among of. not_announced list change is of fast)
   owned_only list step made (named now) = new_of list made (λ change is among of. named_of list change is of now)
   owned_only list step made (dead is_dead) =
@@ -119,14 +119,14 @@ module _ {S W : Type 0} (form : NormalForm S W) (laws : Laws form) (world after 
       absurd (laws.dead_unchanged after list change (laws.shape_kept world after holds.shape step) (laws.dead_kept world after list holds.shape is_dead step) among is))
   owned_only list step made (changed old among of) =
       let pairs = laws.one_change_a_list after (laws.shape_kept world after holds.shape step) in
-      let new = change_of (object form) list world.changes in
+      let new = change_of form.object list world.changes in
       absurd (first_differs new world.changes old (subst (AllPairs DifferentLists) made pairs) among (ap (λ (l : Listed). l.identity) (sym of)))
 
-  beside_only : (list : Option Listed) (entry : Entry) → form.adds_beside world entry ≡ list → IsStep form world after → after.changes ≡ with_change (object form) list world.changes → Only
+  beside_only : (list : Option Listed) (entry : Entry) → form.adds_beside world entry ≡ list → IsStep form world after → after.changes ≡ with_change form.object list world.changes → Only
   beside_only None entry adds step made = same_changes made
   beside_only (Some list) entry adds step made = owned_only list step made (owned list (laws.beside world list entry holds.shape adds).1)
 
-  enters_only : (adds : Bool) (list : Listed) → IsUnannounced world list → after.changes ≡ with_change (object form) (listed_if adds list) world.changes → Only
+  enters_only : (adds : Bool) (list : Listed) → IsUnannounced world list → after.changes ≡ with_change form.object (listed_if adds list) world.changes → Only
   enters_only false list fast made = same_changes made
   enters_only true list fast made = new_of list made (λ change is among of. not_announced list change is of fast)
 

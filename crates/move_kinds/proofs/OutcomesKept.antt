@@ -6,9 +6,9 @@ use Rattle.lin_report.specs.declared.calls.Outcome.{Outcome}
 use Rattle.lin_report.specs.declared.calls.Outcome.TheVariants.{Plain, ValueOf}
 use Rattle.lin_report.specs.declared.calls.Reply.{Reply}
 use Rattle.lin_report.specs.declared.calls.Reply.TheVariants as reply
-use Rattle.lin_report.specs.Object.{Object, object_of}
+use Rattle.lin_report.specs.Object.{Object}
 use Rattle.node_arena.specs.declared.places.TheConstants.{NODE_VALUE}
-use Rattle.node_arena.specs.MemoryMap.{block_at, field_at, node_place}
+use Rattle.node_arena.specs.MemoryMap.{block_at, field_at, node_place, is_root_place}
 use Rattle.node_arena.proofs.PlaceLemmas.{field_at-node_place, node_place_behind}
 use Rattle.normal_traits.specs.World.{Change, Listed, World, Among, ChangedBy, Observes, RightSince, StandsFor, first_changes, held_after, is_state, is_word}
 use Rattle.normal_traits.specs.NormalForm.{NormalForm}
@@ -30,23 +30,22 @@ first_after count (change ∷ newer) changes few =
     ap (λ n. drop n (change ∷ newer ++ changes)) more ∙ first_after count newer changes few
 
 -- a place of a used block that is no state is a word of the client
-word_used : (head tail behind used first state : Bool) → behind ≡ true → used ≡ true → state ≡ false → (head || tail || (behind && used && (first || not state))) ≡ true
-word_used true tail behind used first state b u s = refl
-word_used false true behind used first state b u s = refl
-word_used false false true true true state b u s = refl
-word_used false false true true false false b u s = refl
-word_used false false true true false true b u s = sym s
-word_used false false false used first state b u s = b
-word_used false false true false first state b u s = u
+word_used : (root behind used first state : Bool) → behind ≡ true → used ≡ true → state ≡ false → (root || (behind && used && (first || not state))) ≡ true
+word_used true behind used first state b u s = refl
+word_used false true true true state b u s = refl
+word_used false true true false false b u s = refl
+word_used false true true false true b u s = sym s
+word_used false false used first state b u s = b
+word_used false true false first state b u s = u
 
 -- so is the value of a node of a used block
-node_word : (world : World) (reference : ℕ) → world.used (block_at (node_place reference NODE_VALUE)) ≡ true → is_word world (node_place reference NODE_VALUE) ≡ true
-node_word world reference used =
+node_word : (is_root : ℕ → Bool) (world : World) (reference : ℕ) → world.used (block_at (node_place reference NODE_VALUE)) ≡ true → is_word is_root world (node_place reference NODE_VALUE) ≡ true
+node_word is_root world reference used =
     let place = node_place reference 1 in
     let behind : nat_le 32 place ≡ true = grind (arith, nat_tests, node_place_behind reference 1) in
     let at = field_at-node_place reference 1 (omega arith) in
     let state : is_state (field_at place) ≡ false = grind (arith, nat_tests, at) in
-    word_used (place == 20) (place == 21) (nat_le 32 place) (world.used (block_at place)) (block_at place == 0) (is_state (field_at place)) behind used state
+    word_used (is_root place && is_root_place place) (nat_le 32 place) (world.used (block_at place)) (block_at place == 0) (is_state (field_at place)) behind used state
 
 -- an observation is one after the same changes
 right_after : (object : Object) (world after : World) (op : Op) (since : ℕ) (outcome : Outcome) → Grows world after
@@ -81,10 +80,10 @@ module _ {S W : Type 0} (form : NormalForm S W) (laws : Laws form) (world after 
   stands_still (Plain reply') told fixed is = is
   stands_still (ValueOf reference) told fixed is =
       let place = node_place reference 1 in
-      (grows.used (block_at place) is.0, ap reply.Value (word_stays form laws world place fixed after shape (node_word world reference is.0) step) ∙ is.1)
+      (grows.used (block_at place) is.0, ap reply.Value (word_stays form laws world place fixed after shape (node_word form.is_root world reference is.0) step) ∙ is.1)
 
-  pub right_still : (op : Op) (since : ℕ) (outcome : Outcome) → IsFixed form outcome → RightSince (object_of form.client) world op since outcome → RightSince (object_of form.client) after op since outcome
-  right_still op since outcome fixed = right_after (object_of form.client) world after op since outcome grows (λ told. stands_still outcome told fixed)
+  pub right_still : (op : Op) (since : ℕ) (outcome : Outcome) → IsFixed form outcome → RightSince form.object world op since outcome → RightSince form.object after op since outcome
+  right_still op since outcome fixed = right_after form.object world after op since outcome grows (λ told. stands_still outcome told fixed)
 
   pub changed_still : (list : Listed) (outcome : Outcome) → IsFixed form outcome → ChangedBy world list outcome → ChangedBy after list outcome
   changed_still list outcome fixed = changed_after world after list outcome grows (λ told. stands_still outcome told fixed)

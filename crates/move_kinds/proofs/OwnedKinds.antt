@@ -86,11 +86,11 @@ module _ {S W : Type 0} (form : NormalForm S W) (laws : Laws form) (world after 
       let mine = holds.blocks.offered block offer is.stands in
       let at = entry_at offer.list.entries walk.next is.knows.within in
       helper_beside form laws world after offers holds block offer walk seen is (record_place seat) (λ e. let behind = block_place_behind offer.list.block (9 + walk.next) in absurd (omega (arith, few, behind, e)))
-      (record_apart world at.0.target seat few (mine.targets walk.next at.0 at.1).0)
+      (record_apart form.is_root world at.0.target seat few (mine.targets walk.next at.0 at.1).0)
 
   exchange_stays : (maker : Maker) (list : Option Listed) (entry : Entry) → IsExchange form world after offers maker list entry → RecordsStay
   exchange_stays maker list entry is seat few =
-      ap (λ (f : ℕ → ℕ). f (record_place seat)) is.words ∙ word_beside entry.target entry.to world.words (record_place seat) (record_apart world entry.target seat few is.word)
+      ap (λ (f : ℕ → ℕ). f (record_place seat)) is.words ∙ word_beside entry.target entry.to world.words (record_place seat) (record_apart form.is_root world entry.target seat few is.word)
 
   helps_stay : (block : ℕ) (offer : Offer S) → offers block ≡ Some offer → Helps form world offer after → RecordsStay
   helps_stay block offer stands helps seat few =

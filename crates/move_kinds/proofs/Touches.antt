@@ -33,7 +33,7 @@ module _ {S W : Type 0} (form : NormalForm S W) (laws : Laws form) (world after 
     own_few : walk.next < 2
     own_few = (let mine = holds.blocks.offered block offer is.stands in omega (arith, is.knows.within, mine.site.short))
 
-    own_target : (is_word world own.target ≡ true) × (form.is_versioned own.target ≡ true) × (form.is_listable own.target ≡ true)
+    own_target : (is_word form.is_root world own.target ≡ true) × (form.is_versioned own.target ≡ true) × (form.is_listable own.target ≡ true)
     own_target = (holds.blocks.offered block offer is.stands).targets walk.next own own_listed
 
   -- ---- the block in another hand
@@ -41,7 +41,7 @@ module _ {S W : Type 0} (form : NormalForm S W) (laws : Laws form) (world after 
   -- a spare block that isn't the mover's stays, whatever the mover does
   pub hand_kept : Does form world after offers hand → (block : ℕ) → IsSpare world offers block → hand ≢ Some block → BlockStays block world after
   hand_kept (leaves_all same) block spare apart field small = ap (λ (w : World). w.words (block_place block field)) same
-  hand_kept (puts place word (engine low head tail) put) block spare apart field small =
+  hand_kept (puts place word (engine low out) put) block spare apart field small =
       ap (λ (w : World). w.words (block_place block field)) put
       ∙ word_beside place word world.words (block_place block field) (λ e. let behind = block_place_behind block field in absurd (omega (arith, low, behind, e)))
   hand_kept (puts place word (in_hand other at in_hand' spare' within is) put) block spare apart field small =
@@ -52,10 +52,10 @@ module _ {S W : Type 0} (form : NormalForm S W) (laws : Laws form) (world after 
       let few = own_few other offer walk seen is in
       helper_beside form laws world after offers holds other offer walk seen is (block_place block field)
       (λ e. spare.unnamed offer (ap offers (same_block block field offer.list.block (9 + walk.next) small (omega (arith, few)) e ∙ mine.block_is) ∙ is.stands))
-      (spare_apart world block field (own other offer walk seen is).target small spare.unused (own_target other offer walk seen is).0)
+      (spare_apart form.is_root world block field (own other offer walk seen is).target small spare.unused (own_target other offer walk seen is).0)
   hand_kept (exchanges maker list entry is uses) block spare apart field small =
       ap (λ (f : ℕ → ℕ). f (block_place block field)) is.words
-      ∙ word_beside entry.target entry.to world.words (block_place block field) (spare_apart world block field entry.target small spare.unused is.word)
+      ∙ word_beside entry.target entry.to world.words (block_place block field) (spare_apart form.is_root world block field entry.target small spare.unused is.word)
 
   -- ---- the notes of an offered block
 
@@ -71,7 +71,7 @@ module _ {S W : Type 0} (form : NormalForm S W) (laws : Laws form) (world after 
 
   pub notes_kept : Does form world after offers hand → (block : ℕ) (offer : Offer S) → offers block ≡ Some offer → NotesStay block world after
   notes_kept (leaves_all same) block offer stands field small nine ten = ap (λ (w : World). w.words (block_place block field)) same
-  notes_kept (puts place word (engine low head tail) put) block offer stands field small nine ten =
+  notes_kept (puts place word (engine low out) put) block offer stands field small nine ten =
       ap (λ (w : World). w.words (block_place block field)) put
       ∙ word_beside place word world.words (block_place block field) (λ e. let behind = block_place_behind block field in absurd (omega (arith, low, behind, e)))
   notes_kept (puts place word (in_hand other at in_hand' spare within is) put) block offer stands field small nine ten =

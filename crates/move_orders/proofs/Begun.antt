@@ -5,7 +5,7 @@ use Rattle.std.proofs.lemmas.List.Elements.{All-push}
 use Rattle.std.proofs.lemmas.Option.{slice_get_within}
 use Rattle.std.specs.Option.{option_to_list}
 use Rattle.lin_report.specs.declared.calls.Op.{Op}
-use Rattle.lin_report.specs.Commands.{IsCommandOf}
+use Rattle.lin_report.specs.Object.{IsCommandOf}
 use Rattle.step_memory.specs.Step.{seen_of}
 use Rattle.normal_traits.specs.NormalForm.{NormalForm}
 use Rattle.fast_slow_engine.specs.declared.setup.Setup.{Setup}
@@ -28,7 +28,7 @@ other_begun move older seat apart = ap (λ (b : Bool). begun_at older seat ++ co
 pub record Counts {S W : Type 0} (form : NormalForm S W) (ops : List Op) (mech : Mech S W) : Type 0 where
   pub number : mech.number ≡ length ops
   pub few : mech.number ≤ 65535
-  pub commands : All (IsCommandOf form.client) ops
+  pub commands : All (IsCommandOf form.object) ops
 
 module _ {S W : Type 0} (form : NormalForm S W) where
   abbrev pub AllCount : List Move → List (Mech S W) → Type 0
@@ -39,7 +39,7 @@ module _ {S W : Type 0} (form : NormalForm S W) where
   one_more (Some op) mech ops can counts = record {
     number = ap (λ n. n + 1) counts.number ∙ sym (length-append ops (op ∷ []));
     few = (let fewer = can.1 in omega (arith, fewer));
-    commands = All-push (IsCommandOf form.client) ops op counts.commands can.2;
+    commands = All-push (IsCommandOf form.object) ops op counts.commands can.2;
   }
 
   fed_counts : (ops : List Op) (new mech : Mech S W) → new.number ≡ mech.number → Counts form ops mech → Counts form ops new

@@ -52,7 +52,7 @@ module _ {S W : Type 0} (form : NormalForm S W) where
       ap (λ ms. with_move (next_move files move.seat (run_of form setup ms)) ms) earlier ∙ ap (λ o. with_move o older) next
 
   -- what a seat has begun is a file that it can run
-  runnable : (setup : Setup) (moves : List Move) → AreMoves form setup moves → (seat : ℕ) → seat < setup.seats → IsCommandFile form.client (begun_at moves seat)
+  runnable : (setup : Setup) (moves : List Move) → AreMoves form setup moves → (seat : ℕ) → seat < setup.seats → IsCommandFile form.object (begun_at moves seat)
   runnable setup moves are seat low =
       let mechs = (run_of form setup moves).mechs in
       let count = (seats_stay form setup moves are).count in
@@ -70,7 +70,7 @@ module _ {S W : Type 0} (form : NormalForm S W) where
       record {
         fit = record {
           count = long;
-          runnable = λ k d inside. subst (IsCommandFile form.client) (sym (get_or-map-range_with_len make 0 setup.seats k k d (omega (arith, long, inside)) (omega arith))) (runnable setup moves are k (omega (arith, long, inside)));
+          runnable = λ k d inside. subst (IsCommandFile form.object) (sym (get_or-map-range_with_len make 0 setup.seats k k d (omega (arith, long, inside)) (omega arith))) (runnable setup moves are k (omega (arith, long, inside)));
         };
         same = over files setup moves (λ seat. []) are (λ seat low. at seat low ∙ ap Some (sym (append-nil (begun_at moves seat))));
       }

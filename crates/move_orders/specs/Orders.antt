@@ -23,7 +23,7 @@ begun_files setup moves = map (begun_at moves) (range_with_len 0 setup.seats)
 
 -- the moves are the run over these files in the order of their seats
 pub record AreOver {S W : Type 0} (form : NormalForm S W) (setup : Setup) (files : List (List Op)) (moves : List Move) : Type 0 where
-  pub fit : FilesFit form.client setup files
+  pub fit : FilesFit form.object setup files
   pub same : moves_over form setup files (seats_of moves) ≡ moves
 
 -- moves that can follow each other are the run over what they begin

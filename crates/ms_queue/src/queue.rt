@@ -4,17 +4,18 @@ use crate::offers::{add_stores_of, list_of};
 use crate::search::{asked, begun, fed};
 use crate::wrap::{wrap_asked, wrap_begun, wrap_fed};
 use lin_report::calls::PUT;
-use lin_report::{Client, Op};
+use lin_report::commands::is_command;
+use lin_report::{Client, NoMemory, Op};
 use ms_queue_form::{QueueSearch, QueueWrap};
+use node_arena::opening_words;
 use normal_traits::{Found, List, Normalized, Stores, Wrapped};
+use std::alloc::Global;
 use step_memory::{Request, Seen};
 
 /// The queue. Its head and its tail stand at places 20 and 21, and block 0 has the first dummy node.
 pub struct MsQueue;
 
 impl Normalized for MsQueue {
-    ghost use Rattle.std.specs.Prelude.{refl};
-    ghost use Rattle.lin_report.specs.declared.calls.Client.{Client};
     ghost use Rattle.ms_queue_form.specs.Form.{queue_form};
     ghost use Rattle.ms_queue.specs.ProvedLaws.{queue_laws};
 
@@ -22,11 +23,15 @@ impl Normalized for MsQueue {
 
     type Wrap = QueueWrap;
 
-    const CLIENT: Client = Client::Queue;
-
-    ghost CLIENT = { Client.Queue };
-
     ghost form = { queue_form };
+
+    fn opening(alloc: Global, cap: u32) -> Result<Vec<u64>, NoMemory> {
+        opening_words(alloc, cap, Client::Queue)
+    }
+
+    fn serves(op: Op) -> bool {
+        is_command(Client::Queue, op)
+    }
 
     fn needs_block(op: Op) -> bool {
         op.code == PUT
@@ -71,6 +76,4 @@ impl Normalized for MsQueue {
     }
 
     ghost laws = { queue_laws };
-
-    ghost named = { refl };
 }

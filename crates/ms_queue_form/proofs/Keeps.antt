@@ -21,7 +21,7 @@ use Rattle.ms_queue_form.specs.declared.states.QueueWrap.{QueueWrap}
 use Rattle.ms_queue_form.specs.declared.states.QueueWrap.TheVariants.{Over, Tail, Swing}
 use Rattle.ms_queue_form.specs.Search.{is_put, asked, IsReady, offered, put_offer, moved_word, next_place}
 use Rattle.ms_queue_form.specs.Wrap.{wrap_asked}
-use Rattle.ms_queue_form.specs.Chain.{is_versioned}
+use Rattle.ms_queue_form.specs.Chain.{is_versioned, is_root}
 use Rattle.ms_queue_form.specs.Shape.{IsQueue}
 use Rattle.ms_queue_form.specs.Knowledge.{WasTail, WasNext, Learnt, Knows, Follows}
 use Rattle.ms_queue_form.specs.Form.{queue_form}
@@ -141,10 +141,10 @@ one_alone world list searched since entry offer listed = by_search searched offe
 
 -- ---- a step on a word
 
-written_keeps : (world : World) (place word : ℕ) → IsQueue world → is_word world place ≡ false → Later world (put_word place word world) → IsQueue (put_word place word world)
+written_keeps : (world : World) (place word : ℕ) → IsQueue world → is_word is_root world place ≡ false → Later world (put_word place word world) → IsQueue (put_word place word world)
 written_keeps world place word queue none kept =
     still world (with_word place word world.words) queue kept
-    (λ at some versioned. let same = beside_word world place word none at some in (ap versioned_value same, ap versioned_version same)) (λ at some plain. beside_word world place word none at some)
+    (λ at some versioned. let same = beside_word is_root world place word none at some in (ap versioned_value same, ap versioned_version same)) (λ at some plain. beside_word is_root world place word none at some)
 
 cleared_keeps : (world : World) (place : ℕ) → IsQueue world → is_versioned place ≡ true → Later world (put_word place (cleared_word (world.words place)) world) → IsQueue (put_word place (cleared_word (world.words place)) world)
 cleared_keeps world place queue versioned kept =

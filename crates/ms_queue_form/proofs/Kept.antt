@@ -7,13 +7,13 @@ use Rattle.lin_report.specs.Object.{queue_object}
 use Rattle.word_fields.specs.Versioned.{versioned_version}
 use Rattle.node_arena.specs.declared.places.TheConstants.{HEAD, TAIL, NODE_NEXT}
 use Rattle.node_arena.specs.MemoryMap.{node_place}
-use Rattle.normal_traits.specs.World.{Listed, Change, World, is_word, held_after, StandsOrPassed}
+use Rattle.normal_traits.specs.World.{Listed, Change, World, held_after, StandsOrPassed, is_word}
 use Rattle.ms_queue_form.specs.declared.states.QueueSearch.{QueueSearch}
 use Rattle.ms_queue_form.specs.declared.states.QueueSearch.TheVariants.{PutTail, PutNext, PutHelp, PutReady, TakeHead, TakeTail, TakeNext, TakeHelp, TakeReady, PeekHead, PeekNext}
 use Rattle.ms_queue_form.specs.declared.states.QueueWrap.{QueueWrap}
 use Rattle.ms_queue_form.specs.declared.states.QueueWrap.TheVariants.{Over, Tail, Swing}
 use Rattle.ms_queue_form.specs.Search.{next_place}
-use Rattle.ms_queue_form.specs.Chain.{puts, takes, node_block, put_value, next_of, is_versioned}
+use Rattle.ms_queue_form.specs.Chain.{puts, takes, node_block, put_value, next_of, is_versioned, is_root}
 use Rattle.ms_queue_form.specs.Shape.{IsQueue}
 use Rattle.ms_queue_form.specs.Knowledge.{WasTail, WasHead, WasNext, WasFirst, WasPeeked, Learnt, Knows, WasLinked, LearntWrap, Follows}
 use Rattle.ms_queue_form.proofs.Places.{next_versioned}
@@ -29,10 +29,10 @@ use Rattle.client_lemmas.proofs.Places.{node_word}
 pub next_place_is : (world : World) (tail : ℕ) → WasTail world tail → next_place tail ≡ next_of world.changes (versioned_version tail)
 next_place_is world tail was = ap (λ reference. node_place reference NODE_NEXT) was.names
 
-pub next_place_word : (world : World) (tail : ℕ) → IsQueue world → WasTail world tail → is_word world (next_place tail) ≡ true
+pub next_place_word : (world : World) (tail : ℕ) → IsQueue world → WasTail world tail → is_word is_root world (next_place tail) ≡ true
 next_place_word world tail queue was =
-    ap (is_word world) (next_place_is world tail was)
-    ∙ node_word world (node_block world.changes (versioned_version tail)) NODE_NEXT (omega arith) (queue.chain.used (versioned_version tail) was.within)
+    ap (is_word is_root world) (next_place_is world tail was)
+    ∙ node_word is_root world (node_block world.changes (versioned_version tail)) NODE_NEXT (omega arith) (queue.chain.used (versioned_version tail) was.within)
 
 pub next_place_versioned : (world : World) (tail : ℕ) → WasTail world tail → is_versioned (next_place tail) ≡ true
 next_place_versioned world tail was = ap is_versioned (next_place_is world tail was) ∙ next_versioned (node_block world.changes (versioned_version tail))
@@ -53,13 +53,13 @@ first_now world since k queue began at some =
 -- ---- what was learnt
 
 module _ (world after : World) (queue : IsQueue world) (kept : Later world after) where
-  version_grows : (place : ℕ) → is_word world place ≡ true → is_versioned place ≡ true → versioned_version (world.words place) ≤ versioned_version (after.words place)
+  version_grows : (place : ℕ) → is_word is_root world place ≡ true → is_versioned place ≡ true → versioned_version (world.words place) ≤ versioned_version (after.words place)
   version_grows place some versioned = rises_version (world.words place) (after.words place) (kept.rises place some versioned)
 
   tail_grows : versioned_version (world.words TAIL) ≤ versioned_version (after.words TAIL)
   tail_grows = version_grows TAIL refl refl
 
-  seen_kept : (place word : ℕ) → is_word world place ≡ true → is_versioned place ≡ true → StandsOrPassed world place word → StandsOrPassed after place word
+  seen_kept : (place word : ℕ) → is_word is_root world place ≡ true → is_versioned place ≡ true → StandsOrPassed world place word → StandsOrPassed after place word
   seen_kept place word some versioned seen = λ clear. rises_seen (world.words place) (after.words place) word (kept.rises place some versioned) clear (seen clear)
 
   tail_kept : (tail : ℕ) → WasTail world tail → WasTail after tail

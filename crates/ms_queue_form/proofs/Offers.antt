@@ -6,9 +6,9 @@ use Rattle.std.proofs.lemmas.List.Elements.{All-nil, All-cons}
 use Rattle.lin_report.specs.declared.calls.Op.{Op}
 use Rattle.lin_report.specs.declared.calls.Reply.TheVariants.{Empty}
 use Rattle.lin_report.specs.declared.calls.Outcome.TheVariants.{Plain}
-use Rattle.lin_report.specs.declared.calls.Client.TheVariants.{Queue}
 use Rattle.lin_report.specs.declared.calls.TheConstants.{PUT, TAKE}
-use Rattle.lin_report.specs.Commands.{IsCommandOf, may_exhaust}
+use Rattle.lin_report.specs.Commands.{may_exhaust}
+use Rattle.lin_report.specs.Object.{IsCommandOf, queue_object}
 use Rattle.step_memory.specs.declared.steps.Seen.{Seen}
 use Rattle.word_fields.specs.Versioned.{versioned_value, versioned_bit, versioned_version, is_modified, value_below, changed_word}
 use Rattle.node_arena.specs.declared.places.TheConstants.{HEAD, TAIL, NODE_VALUE, NODE_NEXT}
@@ -114,7 +114,7 @@ put_offers world tail next value block queue l fits small =
     (All-nil (IsGoodStore queue_form block))))
     (two_apart (node_place (reference_to block 1) NODE_VALUE, value) (node_place (reference_to block 1) NODE_NEXT, 0) (apart_fields block block NODE_VALUE NODE_NEXT (omega arith) (omega arith) (λ e. omega (arith, e)))) (omega arith)
 
-pub offers : (world : World) (searched : QueueSearch) (op : Op) (since block : ℕ) → IsCommandOf Queue op → IsQueue world → Serves searched op → Learnt searched world since → IsReady searched → block < 2 ^ 17 → IsGoodOffer queue_form world block (offered searched op block)
+pub offers : (world : World) (searched : QueueSearch) (op : Op) (since block : ℕ) → IsCommandOf queue_object op → IsQueue world → Serves searched op → Learnt searched world since → IsReady searched → block < 2 ^ 17 → IsGoodOffer queue_form world block (offered searched op block)
 offers world (PutReady tail next) op since block command queue serves l ready small =
     subst (IsGoodOffer queue_form world block) (sym (ap (put_offer tail next op.value) (cond-true (is_put op) block 0 (puts_is op serves))))
     (put_offers world tail next op.value block queue l (omega (arith, command.value)) small)

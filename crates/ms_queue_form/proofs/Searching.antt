@@ -5,10 +5,9 @@ use Rattle.lin_report.specs.declared.calls.Op.{Op}
 use Rattle.lin_report.specs.declared.calls.Reply.{Reply}
 use Rattle.lin_report.specs.declared.calls.Reply.TheVariants.{Value, Empty}
 use Rattle.lin_report.specs.declared.calls.Outcome.TheVariants.{Plain, ValueOf}
-use Rattle.lin_report.specs.declared.calls.Client.TheVariants.{Queue}
 use Rattle.lin_report.specs.declared.calls.TheConstants.{PUT, TAKE, PEEK}
-use Rattle.lin_report.specs.Commands.{IsCommandOf, takes_nothing}
-use Rattle.lin_report.specs.Object.{queue_object, queue_apply, value_or_empty}
+use Rattle.lin_report.specs.Commands.{takes_nothing}
+use Rattle.lin_report.specs.Object.{IsCommandOf, queue_object, queue_apply, value_or_empty}
 use Rattle.step_memory.specs.declared.steps.Seen.{Seen}
 use Rattle.word_fields.specs.Versioned.{versioned_value, versioned_bit, versioned_version, is_modified, value_below}
 use Rattle.node_arena.specs.declared.places.TheConstants.{HEAD, TAIL, NODE_VALUE}
@@ -50,7 +49,7 @@ takes_else false true peek key rest other nor e = refl
 takes_else false false true key rest other nor e = absurd (true≢false nor)
 takes_else false false false key rest other nor e = absurd (false≢true e)
 
-pub begins_knowing : (world : World) (op : Op) → IsCommandOf Queue op → Knows (begun op) op world (length world.changes)
+pub begins_knowing : (world : World) (op : Op) → IsCommandOf queue_object op → Knows (begun op) op world (length world.changes)
 begins_knowing world op command = by_tests (is_put op) (is_peek op) refl refl
   where
     by_tests : (put peek : Bool) → is_put op ≡ put → is_peek op ≡ peek → Knows (cond put PutTail (cond peek PeekHead TakeHead)) op world (length world.changes)

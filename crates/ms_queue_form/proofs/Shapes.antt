@@ -6,7 +6,7 @@ use Rattle.node_arena.proofs.PlaceLemmas.{block-reference_to}
 use Rattle.normal_traits.specs.World.{Maker, Change, World, is_word}
 use Rattle.normal_traits.specs.World.Maker.{Beside}
 use Rattle.normal_traits.specs.Steps.{with_word}
-use Rattle.ms_queue_form.specs.Chain.{puts, node_block, node_at, next_of, value_of, is_versioned}
+use Rattle.ms_queue_form.specs.Chain.{puts, node_block, node_at, next_of, value_of, is_versioned, is_root}
 use Rattle.ms_queue_form.specs.Shape.{kind_of, cause_of, IsQueue}
 use Rattle.ms_queue_form.proofs.Places.{next_versioned, value_not_versioned}
 use Rattle.ms_queue_form.proofs.Chains.{SameChain, chain_stays}
@@ -27,9 +27,9 @@ abbrev pub with_words : (ℕ → ℕ) → World → World
 with_words words world = record { words = words; changes = world.changes; used = world.used; journal = world.journal }
 
 module _ (world : World) (words : ℕ → ℕ) (queue : IsQueue world) (kept : Later world (with_words words world))
-    (versioned : (place : ℕ) → is_word world place ≡ true → is_versioned place ≡ true
+    (versioned : (place : ℕ) → is_word is_root world place ≡ true → is_versioned place ≡ true
     → (versioned_value (words place) ≡ versioned_value (world.words place)) × (versioned_version (words place) ≡ versioned_version (world.words place)))
-    (plain : (place : ℕ) → is_word world place ≡ true → is_versioned place ≡ false → words place ≡ world.words place) where
+    (plain : (place : ℕ) → is_word is_root world place ≡ true → is_versioned place ≡ false → words place ≡ world.words place) where
   pub still : IsQueue (with_words words world)
   still =
       let head = versioned HEAD refl refl in
@@ -37,8 +37,8 @@ module _ (world : World) (words : ℕ → ℕ) (queue : IsQueue world) (kept : L
       let ends = queue.ends in
       record {
         chain = chain_stays world (with_words words world) queue.chain (same_chain world.changes) (λ block u. u)
-            (λ k low. (versioned (next_of world.changes k) (node_word world (node_block world.changes k) NODE_NEXT (omega arith) (queue.chain.used k low)) (next_versioned (node_block world.changes k))).0)
-            (λ k low. plain (value_of world.changes (k + 1)) (node_word world (node_block world.changes (k + 1)) NODE_VALUE (omega arith) (queue.chain.used (k + 1) (omega arith))) (value_not_versioned (node_block world.changes (k + 1))));
+            (λ k low. (versioned (next_of world.changes k) (node_word is_root world (node_block world.changes k) NODE_NEXT (omega arith) (queue.chain.used k low)) (next_versioned (node_block world.changes k))).0)
+            (λ k low. plain (value_of world.changes (k + 1)) (node_word is_root world (node_block world.changes (k + 1)) NODE_VALUE (omega arith) (queue.chain.used (k + 1) (omega arith))) (value_not_versioned (node_block world.changes (k + 1))));
         ends = record {
           taken = head.1 ∙ ends.taken;
           head = head.0 ∙ ends.head;

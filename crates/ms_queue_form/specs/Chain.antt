@@ -45,6 +45,10 @@ value_of changes k = node_place (node_at changes k) NODE_VALUE
 abbrev pub is_next : ℕ → Bool
 is_next place = nat_le FIRST_WORDS place && field_at place == NODE_FIELD + NODE_NEXT
 
+-- the roots: head and tail
+abbrev pub is_root : ℕ → Bool
+is_root place = place == HEAD || place == TAIL
+
 -- head, tail and next words are versioned; lists have entries at the head and at next words alone
 abbrev pub is_versioned : ℕ → Bool
 is_versioned place = place == HEAD || place == TAIL || is_next place

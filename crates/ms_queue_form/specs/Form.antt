@@ -1,12 +1,16 @@
 -- The queue as a structure in normalized form.
 use Rattle.std.specs.Prelude.{true, None}
 use Rattle.lin_report.specs.declared.calls.Client.TheVariants.{Queue}
+use Rattle.lin_report.specs.Object.{queue_object}
+use Rattle.node_arena.specs.Opening.{opening_word}
+use Rattle.lin_report.proofs.Tellable.{objects_are_tellable}
+use Rattle.node_arena.proofs.Openings.{clients_open}
 use Rattle.normal_traits.specs.NormalForm.{NormalForm}
 use Rattle.ms_queue_form.specs.declared.states.QueueSearch.{QueueSearch}
 use Rattle.ms_queue_form.specs.declared.states.QueueWrap.{QueueWrap}
 use Rattle.ms_queue_form.specs.Search.{is_put, begun, asked, fed, Asks, IsReady, offered}
 use Rattle.ms_queue_form.specs.Wrap.{wrap_begun, wrap_asked, wrap_fed, Wraps}
-use Rattle.ms_queue_form.specs.Chain.{is_versioned, is_listable}
+use Rattle.ms_queue_form.specs.Chain.{is_root, is_versioned, is_listable}
 use Rattle.ms_queue_form.specs.Shape.{cause_of, IsQueue}
 use Rattle.ms_queue_form.specs.Knowledge.{Knows, Keeps, Follows}
 use Rattle.client_lemmas.specs.Lost.{IsLost}
@@ -16,7 +20,11 @@ use Rattle.client_lemmas.specs.Lost.{IsLost}
 abbrev pub queue_form : NormalForm QueueSearch QueueWrap
 queue_form =
     record {
-      client = Queue;
+      object = queue_object;
+      tellable = objects_are_tellable Queue;
+      is_root = is_root;
+      opening = opening_word Queue;
+      opens = clients_open Queue;
       needs_block = is_put;
       begin_of = begun;
       request_of = asked;
@@ -42,5 +50,5 @@ queue_form =
       cause_of = cause_of;
       knows = Knows;
       follows = Follows;
-      dead = IsLost is_versioned;
+      dead = IsLost is_root is_versioned;
     }

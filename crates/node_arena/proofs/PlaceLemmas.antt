@@ -1,7 +1,7 @@
 -- Places of different blocks, fields and nodes differ, for proofs that leave the memory map closed.
-use Rattle.std.proofs.Common.{◌≡◌, ℕ, ◌+◌, ◌-◌, ◌*◌, ◌/◌, ◌%◌, ◌<◌, ◌≤◌, refl, arith}
+use Rattle.std.proofs.Common.{◌≡◌, ℕ, ◌+◌, ◌-◌, ◌*◌, ◌/◌, ◌%◌, ◌<◌, ◌≤◌, ◌⊎◌, inl, inr, refl, arith}
 use Rattle.std.proofs.lemmas.Bool.Decides.{nat_tests}
-use Rattle.node_arena.specs.MemoryMap.{words_of, block_place, node_place, reference_to, NamesNode, node_named, block_at, field_at}
+use Rattle.node_arena.specs.MemoryMap.{words_of, block_place, node_place, reference_to, NamesNode, node_named, block_at, field_at, MayBeClients}
 
 -- ---- blocks
 
@@ -98,3 +98,12 @@ pub node_place_inside : (cap reference field : ℕ) → reference / 4 ≤ cap �
 unfolding node_place
 node_place_inside cap reference field within small =
     block_place_inside cap (reference / 4) (12 + 5 * (node_named reference - 1) + field) within (omega (arith, node_field_below reference field small))
+
+-- ---- the first words
+
+-- the words of the engine, before the roots and behind them, are at no place of a structure
+pub engines_out : (place : ℕ) → (place < 20) ⊎ ((24 ≤ place) × (place < 32)) → ¬ MayBeClients place
+engines_out place (inl low) (inl root) = omega (arith, low, root.0)
+engines_out place (inl low) (inr behind) = omega (arith, low, behind)
+engines_out place (inr high) (inl root) = omega (arith, high.0, root.1)
+engines_out place (inr high) (inr behind) = omega (arith, high.1, behind)

@@ -1,5 +1,6 @@
 -- The memory of a run: 32 first words, then blocks 0 to cap of 32 words each.
-use Rattle.std.specs.Prelude.{◌≢◌, ℕ, ◌+◌, ◌-◌, ◌*◌, ◌/◌, ◌%◌, ◌==◌, if◌then◌else◌}
+use Rattle.std.specs.Prelude.{◌<◌, ◌≤◌, ◌≢◌, ◌⊎◌, ◌&&◌, nat_le, nat_lt, Bool, ℕ, ◌+◌, ◌-◌, ◌*◌, ◌/◌, ◌%◌, ◌==◌, if◌then◌else◌}
+use Rattle.node_arena.specs.declared.places.TheConstants.{ROOTS, VALUES, FIRST_WORDS}
 
 -- how many words there are
 abbrev pub words_of : ℕ → ℕ
@@ -16,6 +17,14 @@ record_place seat = 12 + seat
 -- the value word of a seat
 abbrev pub value_place : ℕ → ℕ
 value_place seat = 24 + seat
+
+-- one of the four first words that are left to a structure for its roots
+abbrev pub is_root_place : ℕ → Bool
+is_root_place place = nat_le ROOTS place && nat_lt place VALUES
+
+-- a place at which a structure may have a word: one for a root, or one in a block
+abbrev pub MayBeClients : ℕ → Type 0
+MayBeClients place = ((ROOTS ≤ place) × (place < VALUES)) ⊎ (FIRST_WORDS ≤ place)
 
 -- a field of a block, below 32
 unfoldable pub block_place : ℕ → ℕ → ℕ

@@ -1,7 +1,7 @@
 //! The words with which a run opens.
 ghost use Rattle.std.specs.Prelude.{◌≡◌, ℕ, ◌<◌, ◌≤◌, IfOk, slice_index, replicate, vec_len};
 ghost use Rattle.node_arena.specs.MemoryMap.{words_of};
-ghost use Rattle.node_arena.specs.Opening.{IsLaidOut, opening_word, opening_words};
+ghost use Rattle.node_arena.specs.Opening.{ClientsOpen, opening_word, opening_words};
 
 use crate::places::{BLOCK_WORDS, FIRST_WORDS, HEAD, TAIL};
 use lin_report::{Client, NoMemory};
@@ -34,8 +34,8 @@ const ROOT_RIGHT_PLACE: usize = 52;
 
 const RIGHT_KEY_PLACE: usize = 54;
 
-/// Words that are all 0: the first words and blocks 0 to CAP.
-fn zeros(alloc: Global, cap: u32) -> Result<Vec<u64>, NoMemory>
+/// Words that are all 0: the first words and blocks 0 to CAP. A structure that opens with others sets them there.
+pub fn zeros(alloc: Global, cap: u32) -> Result<Vec<u64>, NoMemory>
     requires { cap ≤ 65536 }
     ensures { IfOk result (λ words. words.items ≡ replicate (words_of cap) 0) }
 {
@@ -43,13 +43,12 @@ fn zeros(alloc: Global, cap: u32) -> Result<Vec<u64>, NoMemory>
     vec![in alloc; 0; length].map_err(|_| NoMemory)
 }
 
-/// The words with which a run opens: the first words and blocks 0 to CAP.
+/// The words with which a client's run opens: the first words and blocks 0 to CAP.
 #[tactic(auto, using(crate::proofs::OpeningLemmas::opening))]
 pub fn opening_words(alloc: Global, cap: u32, client: Client) -> Result<Vec<u64>, NoMemory>
-    requires client { IsLaidOut client }
     requires some_blocks { 1 ≤ cap }
     requires cap_in_range { cap ≤ 65536 }
-    ensures words { IfOk result (λ words. words.items ≡ opening_words client cap) }
+    ensures words { IfOk result (λ words. words.items ≡ opening_words (opening_word client) cap) }
     ensures length { IfOk result (λ words. vec_len words ≡ words_of cap) }
     ensures each { IfOk result (λ words. (place : ℕ) → place < words_of cap →
         slice_index words.items place ≡ opening_word client place) }
@@ -76,3 +75,8 @@ pub fn opening_words(alloc: Global, cap: u32, client: Client) -> Result<Vec<u64>
     }
     Ok(words)
 }
+
+/// The opening words of each client of the program are such as a form has to bring them.
+pub fn clients_open()
+    ensures { ClientsOpen }
+{}

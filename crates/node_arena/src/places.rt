@@ -9,9 +9,11 @@ pub const TICKS: u32 = 0;
 pub const QUEUE: u32 = 1;
 /// The place of the claim counter.
 pub const CLAIMS: u32 = 2;
-/// The place of the queue client's head.
+/// The first of the four places that are left to a structure for its roots: words of its own beside the blocks.
+pub const ROOTS: u32 = 20;
+/// The place of the queue's head, a root.
 pub const HEAD: u32 = 20;
-/// The place of the queue client's tail.
+/// The place of the queue's tail, a root.
 pub const TAIL: u32 = 21;
 
 /// The place of seat 0's op word. Those of the other seats follow.

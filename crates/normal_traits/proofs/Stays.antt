@@ -1,6 +1,6 @@
 -- From the laws of any structure: a word that is never exchanged stays, and a version never falls, whatever
 -- anyone does.
-use Rattle.std.proofs.Common.{◌≡◌, ◌≢◌, ◌∙◌, refl, sym, ap, subst, ℕ, zero, suc, ◌≤◌, if◌then◌else◌, true, false, List, [], ◌∷◌, Option, slice_get, Some, None, All, inl, inr, arith}
+use Rattle.std.proofs.Common.{◌≡◌, ◌≢◌, ◌∙◌, refl, sym, ap, subst, ℕ, zero, suc, ◌≤◌, if◌then◌else◌, Bool, true, false, List, [], ◌∷◌, Option, slice_get, Some, None, All, inl, inr, arith}
 use Rattle.std.proofs.lemmas.Bool.{cases_eq, eq-eqb, ne_eqb}
 use Rattle.std.proofs.lemmas.List.Elements.{All-head, All-tail}
 use Rattle.step_memory.specs.declared.steps.Request.{Request}
@@ -34,8 +34,8 @@ pub word_beside : (place word : ℕ) (words : ℕ → ℕ) (at : ℕ) → at ≢
 word_beside place word words at apart = ap (λ b. if b then word else words at) (ne_eqb at place apart)
 
 -- a place that is a word isn't one that is none
-words_apart : (world : World) (place at : ℕ) → is_word world place ≡ true → is_word world at ≡ false → place ≢ at
-words_apart world place at here is e = let is' : is_word world place ≡ false = subst (λ p. is_word world p ≡ false) (sym e) is in absurd cc
+words_apart : (is_root : ℕ → Bool) (world : World) (place at : ℕ) → is_word is_root world place ≡ true → is_word is_root world at ≡ false → place ≢ at
+words_apart is_root world place at here is e = let is' : is_word is_root world place ≡ false = subst (λ p. is_word is_root world p ≡ false) (sym e) is in absurd cc
 
 -- ---- versions
 
@@ -60,9 +60,9 @@ module _ {S W : Type 0} (form : NormalForm S W) where
   request_rises request world after seen place (won at from to same raised) = version_put at to world.words place (omega (arith, ap versioned_version same, raised))
 
   -- the version of a client's word never falls
-  pub passed_stays : (world after : World) (place : ℕ) → is_word world place ≡ true → IsStep form world after → versioned_version (world.words place) ≤ versioned_version (after.words place)
+  pub passed_stays : (world after : World) (place : ℕ) → is_word form.is_root world place ≡ true → IsStep form world after → versioned_version (world.words place) ≤ versioned_version (after.words place)
   passed_stays world after place here nothing = omega arith
-  passed_stays world after place here (elsewhere at word is) = omega (arith, ap versioned_version (word_beside at word world.words place (words_apart world place at here is)))
+  passed_stays world after place here (elsewhere at word is) = omega (arith, ap versioned_version (word_beside at word world.words place (words_apart form.is_root world place at here is)))
   passed_stays world after place here (clears at is versioned listable) = version_put at (cleared_word (world.words at)) world.words place (omega (arith, version-cleared (world.words at)))
   passed_stays world after place here (searches {seen = seen} search op since command asking knows r) = request_rises (form.request_of search) world after seen place r
   passed_stays world after place here (wraps {seen = seen} wrap list stop command asking follows r) = request_rises (form.wrap_request_of wrap) world after seen place r
@@ -102,9 +102,9 @@ module _ {S W : Type 0} (form : NormalForm S W) (laws : Laws form) where
         word_beside entry.target word world.words place (apart entry.target (entry_good world list search since j entry shape offered listed).versioned)
 
     -- a client's word at such a place stays
-    pub word_stays : (after : World) → form.shape world → is_word world place ≡ true → IsStep form world after → after.words place ≡ world.words place
+    pub word_stays : (after : World) → form.shape world → is_word form.is_root world place ≡ true → IsStep form world after → after.words place ≡ world.words place
     word_stays after shape here nothing = refl
-    word_stays after shape here (elsewhere at word is) = word_beside at word world.words place (words_apart world place at here is)
+    word_stays after shape here (elsewhere at word is) = word_beside at word world.words place (words_apart form.is_root world place at here is)
     word_stays after shape here (clears at is versioned listable) = word_beside at _ world.words place (apart at versioned)
     word_stays after shape here (searches {seen = seen} search op since command asking knows r) = request_stays (form.request_of search) after seen (laws.search_asks_well world search op since command shape asking knows) r
     word_stays after shape here (wraps {seen = seen} wrap list stop command asking follows r) = request_stays (form.wrap_request_of wrap) after seen (laws.wrap_asks_well world wrap list stop shape asking follows) r

@@ -3,41 +3,40 @@ use Rattle.std.specs.Prelude.{◌≡◌, ◌≢◌, ℕ, ◌^◌, ◌<◌, ◌�
 use Rattle.lin_report.specs.declared.calls.Op.{Op}
 use Rattle.lin_report.specs.declared.calls.Outcome.{Outcome}
 use Rattle.lin_report.specs.declared.calls.Outcome.TheVariants.{Plain, ValueOf}
-use Rattle.lin_report.specs.Object.{object_of}
-use Rattle.lin_report.specs.Commands.{IsCommandOf, may_exhaust, told_value}
+use Rattle.lin_report.specs.Object.{IsCommandOf}
+use Rattle.lin_report.specs.Commands.{may_exhaust, told_value}
 use Rattle.step_memory.specs.declared.steps.Request.{Request}
 use Rattle.step_memory.specs.declared.steps.Request.TheVariants.{Load, Store, Exchange, Add}
 use Rattle.step_memory.specs.declared.steps.Seen.{Seen}
 use Rattle.word_fields.specs.Versioned.{versioned_bit, changed_word}
 use Rattle.node_arena.specs.declared.places.TheConstants.{NODE_VALUE}
 use Rattle.node_arena.specs.MemoryMap.{block_place, node_place}
-use Rattle.node_arena.specs.Opening.{opening_word}
 use Rattle.normal_traits.specs.declared.form.Found.{Found}
 use Rattle.normal_traits.specs.declared.form.Found.TheVariants as found
 use Rattle.normal_traits.specs.declared.form.Wrapped.{Wrapped}
 use Rattle.normal_traits.specs.declared.form.Wrapped.TheVariants as wrapped
 use Rattle.normal_traits.specs.declared.lists.Entry.{Entry}
-use Rattle.normal_traits.specs.World.{Listed, Won, Change, World, Among, held_after, is_word, StandsOrPassed, Took, Stopped, ChangedBy, RightSince, Observes}
+use Rattle.normal_traits.specs.World.{Listed, Won, Change, World, Among, held_after, StandsOrPassed, Took, Stopped, ChangedBy, RightSince, Observes, is_word}
 use Rattle.normal_traits.specs.NormalForm.{NormalForm, Offered}
 use Rattle.normal_traits.specs.Steps.{IsStep, IsFresh, IsOffered, Requested}
 
 -- nothing was changed yet, and block 0 alone is used
 abbrev pub opening_world : {S W : Type 0} → NormalForm S W → World
-opening_world form = record { words = opening_word form.client; changes = []; used = λ block. block == 0; journal = [] }
+opening_world form = record { words = form.opening; changes = []; used = λ block. block == 0; journal = [] }
 
 -- a request of a search or a wrap-up: a load of a client's word, or an exchange of a versioned one from a
--- word to that word changed; its bit is clear unless no list has an entry there
+-- word to that word changed; the bit of the first is clear where a list may have an entry
 abbrev pub AsksWell : {S W : Type 0} → NormalForm S W → World → Request → Type 0
-AsksWell form world (Load at) = is_word world at ≡ true
+AsksWell form world (Load at) = is_word form.is_root world at ≡ true
 AsksWell form world (Exchange at from to) =
-    (is_word world at ≡ true) × (form.is_versioned at ≡ true) × (form.is_listable at ≡ true → versioned_bit from ≡ 0)
+    (is_word form.is_root world at ≡ true) × (form.is_versioned at ≡ true) × (form.is_listable at ≡ true → versioned_bit from ≡ 0)
     × ((value : ℕ) × (value < 2 ^ 24) × (to ≡ changed_word from value))
 AsksWell form world (Store at value) = ⊥
 AsksWell form world (Add at by) = ⊥
 
 -- an entry of an offer
 pub record IsGoodEntry {S W : Type 0} (form : NormalForm S W) (world : World) (entry : Entry) : Type 0 where
-  pub word : is_word world entry.target ≡ true
+  pub word : is_word form.is_root world entry.target ≡ true
   pub versioned : form.is_versioned entry.target ≡ true
   pub listable : form.is_listable entry.target ≡ true
   pub clear : versioned_bit entry.from ≡ 0
@@ -69,8 +68,8 @@ abbrev pub IsFixed : {S W : Type 0} → NormalForm S W → Outcome → Type 0
 IsFixed form (Plain reply) = Unit {0}
 IsFixed form (ValueOf reference) = form.is_versioned (node_place reference NODE_VALUE) ≡ false
 
--- an outcome fits the record of a call: a plain reply has a value below 2^20, or none. One that names a node has but
--- its reference, which is that of a used block
+-- an outcome fits the record of a call: a plain reply has a value below 2^20, or none. One that names a node always
+-- fits: the record has its reference alone, and `StandsFor` says that its block is used
 abbrev pub FitsRecord : Outcome → Type 0
 FitsRecord (Plain reply) = told_value reply < 2 ^ 20
 FitsRecord (ValueOf reference) = Unit {0}
@@ -88,7 +87,7 @@ WrappedFits _ = Unit {0}
 abbrev pub FoundWell : {S W : Type 0} → NormalForm S W → World → Op → ℕ → S → Found → Type 0
 FoundWell form world op since search found.Going = form.asks search
 FoundWell form world op since search found.Ready = form.is_ready search
-FoundWell form world op since search (found.Answer outcome) = RightSince (object_of form.client) world op since outcome × IsFixed form outcome
+FoundWell form world op since search (found.Answer outcome) = RightSince form.object world op since outcome × IsFixed form outcome
 FoundWell form world op since search found.Contended = Unit {0}
 
 -- what has come of a wrap-up, by what it says
@@ -110,35 +109,35 @@ pub record Laws {S W : Type 0} (form : NormalForm S W) : Type 0 where
   pub shape_kept : (world after : World) → form.shape world → IsStep form world after → form.shape after
   -- of a shape: each change really changed the object; no two changes are of lists with one identity, or
   -- with one block; causes in the journal differ, each of a used block and of one of eight kinds
-  pub effective : (world : World) (newer older : List Change) (change : Change) → form.shape world → world.changes ≡ newer ++ change ∷ older → ¬ Observes (object_of form.client) change.list.call.op (held_after (object_of form.client) older)
+  pub effective : (world : World) (newer older : List Change) (change : Change) → form.shape world → world.changes ≡ newer ++ change ∷ older → ¬ Observes form.object change.list.call.op (held_after form.object older)
   pub one_change_a_list : (world : World) → form.shape world → AllPairs (λ (a b : Change). a.list.identity ≢ b.list.identity) world.changes
   pub one_change_a_block : (world : World) → form.shape world → AllPairs (λ (a b : Change). 0 < a.list.block → a.list.block ≢ b.list.block) world.changes
   pub causes_differ : (world : World) → form.shape world → AllPairs (λ (a b : Won). a.cause ≢ b.cause) world.journal
   pub causes_bounded : (world : World) → form.shape world → All (λ (won : Won). (world.used won.cause.block ≡ true) × (won.cause.kind < 8)) world.journal
   -- a search that begins asks, and knows what holds now
-  pub begins_asking : (op : Op) → IsCommandOf form.client op → form.asks (form.begin_of op)
-  pub begins_knowing : (world : World) (op : Op) → IsCommandOf form.client op → form.shape world → form.knows (form.begin_of op) op world (length world.changes)
+  pub begins_asking : (op : Op) → IsCommandOf form.object op → form.asks (form.begin_of op)
+  pub begins_knowing : (world : World) (op : Op) → IsCommandOf form.object op → form.shape world → form.knows (form.begin_of op) op world (length world.changes)
   -- the notes of a block other than 0, which the engine stores, are no versioned words
   pub notes_plain : (block field : ℕ) → 0 < block → field < 12 → form.is_versioned (block_place block field) ≡ false
   -- what a search knows and a wrap-up follows stays true, and a dead list stays dead, whatever anyone does
-  pub knows_kept : (world after : World) (search : S) (op : Op) (since : ℕ) → IsCommandOf form.client op → form.shape world → form.knows search op world since → IsStep form world after → form.knows search op after since
+  pub knows_kept : (world after : World) (search : S) (op : Op) (since : ℕ) → IsCommandOf form.object op → form.shape world → form.knows search op world since → IsStep form world after → form.knows search op after since
   pub follows_kept : (world after : World) (wrap : W) (list : Listed) (stop : ℕ) → form.shape world → form.follows wrap list stop world → IsStep form world after → form.follows wrap list stop after
   pub dead_kept : (world after : World) (list : Listed) → form.shape world → form.dead list world → IsStep form world after → form.dead list after
   -- a search asks for loads and exchanges of its own words, and what it is fed it knows
-  pub search_asks_well : (world : World) (search : S) (op : Op) (since : ℕ) → IsCommandOf form.client op → form.shape world → form.asks search → form.knows search op world since → AsksWell form world (form.request_of search)
-  pub search_fed : (world after : World) (seen : Seen) (search : S) (op : Op) (since : ℕ) → IsCommandOf form.client op → form.shape world → form.asks search → form.knows search op world since → Requested form (form.request_of search) world after seen
+  pub search_asks_well : (world : World) (search : S) (op : Op) (since : ℕ) → IsCommandOf form.object op → form.shape world → form.asks search → form.knows search op world since → AsksWell form world (form.request_of search)
+  pub search_fed : (world after : World) (seen : Seen) (search : S) (op : Op) (since : ℕ) → IsCommandOf form.object op → form.shape world → form.asks search → form.knows search op world since → Requested form (form.request_of search) world after seen
       → form.knows (form.feed_of search seen) op after since × FoundWell form after op since (form.feed_of search seen) (form.found_of search seen)
   pub contends : (search : S) (seen : Seen) → form.asks search → form.found_of search seen ≡ found.Contended → MayContend form search seen
   -- a ready search is of an operation that may change the object, and its offer is good
-  pub lists : (world : World) (search : S) (op : Op) (since : ℕ) → IsCommandOf form.client op → form.knows search op world since → form.is_ready search → IsTrue (form.may_list op) × IsTrue (may_exhaust op)
-  pub offers : (world : World) (search : S) (op : Op) (since block : ℕ) → IsCommandOf form.client op → form.shape world → form.knows search op world since → form.is_ready search → block < 2 ^ 17 → IsGoodOffer form world block (form.offer_of search op block)
+  pub lists : (world : World) (search : S) (op : Op) (since : ℕ) → IsCommandOf form.object op → form.knows search op world since → form.is_ready search → IsTrue (form.may_list op) × IsTrue (may_exhaust op)
+  pub offers : (world : World) (search : S) (op : Op) (since block : ℕ) → IsCommandOf form.object op → form.shape world → form.knows search op world since → form.is_ready search → block < 2 ^ 17 → IsGoodOffer form world block (form.offer_of search op block)
   -- where the operation needs no block, its list is the same for every block
   pub same_entries : (search : S) (op : Op) (block other : ℕ) → form.needs_block op ≡ false → (form.offer_of search op block).entries ≡ (form.offer_of search op other).entries
   -- a wrap-up asks for loads and exchanges of its own words, and its end is right
   pub wrap_asks_well : (world : World) (wrap : W) (list : Listed) (stop : ℕ) → form.shape world → form.wraps wrap → form.follows wrap list stop world → AsksWell form world (form.wrap_request_of wrap)
   pub wrap_begun : (world : World) (list : Listed) (search : S) (since stop : ℕ) → form.shape world → IsOffered form world list search since → Stopped world list stop
       → WrappedWell form world list stop (form.begin_wrap_of list.call.op list.entries stop) (form.wrap_begun_of list.call.op list.entries stop)
-  pub wrap_fed : (world after : World) (seen : Seen) (wrap : W) (list : Listed) (stop : ℕ) → IsCommandOf form.client list.call.op → form.shape world → form.wraps wrap → form.follows wrap list stop world → Requested form (form.wrap_request_of wrap) world after seen
+  pub wrap_fed : (world after : World) (seen : Seen) (wrap : W) (list : Listed) (stop : ℕ) → IsCommandOf form.object list.call.op → form.shape world → form.wraps wrap → form.follows wrap list stop world → Requested form (form.wrap_request_of wrap) world after seen
       → WrappedWell form after list stop (form.feed_wrap_of wrap seen) (form.wrap_found_of wrap seen)
   -- a dead list has made no change, and its first entry can't win any more
   pub dead_unchanged : (world : World) (list : Listed) (change : Change) → form.shape world → form.dead list world → Among change world.changes → change.list ≢ list
@@ -146,8 +145,8 @@ pub record Laws {S W : Type 0} (form : NormalForm S W) : Type 0 where
   -- a change beside the lists is that of a list with a block, whose first entry took effect
   pub beside : (world : World) (list : Listed) (entry : Entry) → form.shape world → form.adds_beside world entry ≡ Some list → (0 < list.block) × Took world list 0
   -- a plain outcome fits the record of its call, through which a helper tells it
-  pub answers_fit : (world after : World) (seen : Seen) (search : S) (op : Op) (since : ℕ) → IsCommandOf form.client op → form.shape world → form.asks search → form.knows search op world since → Requested form (form.request_of search) world after seen
+  pub answers_fit : (world after : World) (seen : Seen) (search : S) (op : Op) (since : ℕ) → IsCommandOf form.object op → form.shape world → form.asks search → form.knows search op world since → Requested form (form.request_of search) world after seen
       → FoundFits (form.found_of search seen)
   pub begun_fits : (world : World) (list : Listed) (search : S) (since stop : ℕ) → form.shape world → IsOffered form world list search since → Stopped world list stop → WrappedFits (form.wrap_begun_of list.call.op list.entries stop)
-  pub wraps_fit : (world after : World) (seen : Seen) (wrap : W) (list : Listed) (stop : ℕ) → IsCommandOf form.client list.call.op → form.shape world → form.wraps wrap → form.follows wrap list stop world → Requested form (form.wrap_request_of wrap) world after seen
+  pub wraps_fit : (world after : World) (seen : Seen) (wrap : W) (list : Listed) (stop : ℕ) → IsCommandOf form.object list.call.op → form.shape world → form.wraps wrap → form.follows wrap list stop world → Requested form (form.wrap_request_of wrap) world after seen
       → WrappedFits (form.wrap_found_of wrap seen)

@@ -1,7 +1,9 @@
 -- A structure in normalized form, as definitions: what its functions answer, and what their states mean.
 use Rattle.std.specs.Prelude.{ℕ, Bool, List, Option}
-use Rattle.lin_report.specs.declared.calls.Client.{Client}
 use Rattle.lin_report.specs.declared.calls.Op.{Op}
+use Rattle.lin_report.specs.Object.{Object}
+use Rattle.lin_report.specs.Tellable.{IsTellable}
+use Rattle.node_arena.specs.Opening.{IsOpening}
 use Rattle.step_memory.specs.declared.steps.Request.{Request}
 use Rattle.step_memory.specs.declared.steps.Seen.{Seen}
 use Rattle.normal_traits.specs.declared.form.Found.{Found}
@@ -16,8 +18,15 @@ pub record Offered : Type 0 where
 
 -- S is the state of a search and W that of a wrap-up
 pub record NormalForm (S W : Type 0) : Type 1 where
-  -- which structure it is
-  pub client : Client
+  -- the sequential object that it answers as, which says what it serves; a report can tell its calls
+  pub object : Object
+  pub tellable : IsTellable object
+  -- its roots: words of its own at the places for them, beside the blocks
+  pub is_root : ℕ → Bool
+  -- the word at each place with which a run opens
+  pub opening : ℕ → ℕ
+  pub opens : IsOpening opening
+  -- a call of the operation uses a block
   pub needs_block : Op → Bool
   -- what the functions answer and leave
   pub begin_of : Op → S

@@ -1,8 +1,7 @@
 -- What anyone may do to the world of a client: the allowed steps, and what each leaves.
 use Rattle.std.specs.Prelude.{◌≡◌, ◌≢◌, ℕ, ◌+◌, ◌^◌, ◌<◌, ◌==◌, ◌||◌, if◌then◌else◌, Bool, true, false, List, ◌∷◌, slice_get, Option, Some, None, All}
 use Rattle.lin_report.specs.declared.calls.Op.{Op}
-use Rattle.lin_report.specs.Object.{Object, object_of}
-use Rattle.lin_report.specs.Commands.{IsCommandOf}
+use Rattle.lin_report.specs.Object.{Object, IsCommandOf}
 use Rattle.step_memory.specs.declared.steps.Request.{Request}
 use Rattle.step_memory.specs.declared.steps.Request.TheVariants.{Load, Exchange}
 use Rattle.step_memory.specs.declared.steps.Seen.{Seen}
@@ -12,7 +11,7 @@ use Rattle.word_fields.specs.Owners.{owner_word}
 use Rattle.node_arena.specs.declared.places.TheConstants.{OWNER_FIELD, OP_FIELD, VALUE_FIELD}
 use Rattle.node_arena.specs.MemoryMap.{block_place}
 use Rattle.normal_traits.specs.declared.lists.Entry.{Entry}
-use Rattle.normal_traits.specs.World.{Listed, Maker, Change, World, held_after, is_word, Took}
+use Rattle.normal_traits.specs.World.{Listed, Maker, Change, World, held_after, Took, is_word}
 use Rattle.normal_traits.specs.World.Maker.{By, Beside}
 use Rattle.normal_traits.specs.NormalForm.{NormalForm}
 
@@ -57,22 +56,19 @@ pub record IsExchanged (entry : Entry) (word : ℕ) : Type 0 where
   pub raised : versioned_version entry.to ≡ versioned_version entry.from + 1
 
 module _ {S W : Type 0} (form : NormalForm S W) where
-  abbrev pub object : Object
-  object = object_of form.client
-
   -- after a won exchange: the word stands there, the journal and maybe the changes have it
   abbrev pub exchanged : Maker → Option Listed → Entry → ℕ → World → World
   exchanged maker list entry word world =
       record {
         words = with_word entry.target word world.words;
-        changes = with_change object list world.changes;
+        changes = with_change form.object list world.changes;
         used = world.used;
         journal = record { place = entry.target; before = entry.from; after = entry.to; maker = maker; cause = form.cause_of world maker entry } ∷ world.journal;
       }
 
   -- a list of an offer that a ready search made for its call, whose block, if any, is one of the arena
   pub record IsOffered (world : World) (list : Listed) (search : S) (since : ℕ) : Type 0 where
-    pub command : IsCommandOf form.client list.call.op
+    pub command : IsCommandOf form.object list.call.op
     pub knows : form.knows search list.call.op world since
     pub ready : form.is_ready search
     pub small : list.block < 2 ^ 17
@@ -90,14 +86,14 @@ module _ {S W : Type 0} (form : NormalForm S W) where
     -- a load, or a lost exchange
     nothing : {world : World} → IsStep world world
     -- a step on a word that is none of the client's: of the engine, or of a block that isn't used yet
-    elsewhere : {world : World} (place word : ℕ) → is_word world place ≡ false → IsStep world (put_word place word world)
+    elsewhere : {world : World} (place word : ℕ) → is_word form.is_root world place ≡ false → IsStep world (put_word place word world)
     -- the clearing of a bit, where a list may have set it
-    clears : {world : World} (place : ℕ) → is_word world place ≡ true → form.is_versioned place ≡ true → form.is_listable place ≡ true → IsStep world (put_word place (cleared_word (world.words place)) world)
+    clears : {world : World} (place : ℕ) → is_word form.is_root world place ≡ true → form.is_versioned place ≡ true → form.is_listable place ≡ true → IsStep world (put_word place (cleared_word (world.words place)) world)
     -- a request of a search
-    searches : {world after : World} {seen : Seen} (search : S) (op : Op) (since : ℕ) → IsCommandOf form.client op → form.asks search → form.knows search op world since
+    searches : {world after : World} {seen : Seen} (search : S) (op : Op) (since : ℕ) → IsCommandOf form.object op → form.asks search → form.knows search op world since
         → Requested (form.request_of search) world after seen → IsStep world after
     -- a request of a wrap-up
-    wraps : {world after : World} {seen : Seen} (wrap : W) (list : Listed) (stop : ℕ) → IsCommandOf form.client list.call.op → form.wraps wrap → form.follows wrap list stop world
+    wraps : {world after : World} {seen : Seen} (wrap : W) (list : Listed) (stop : ℕ) → IsCommandOf form.object list.call.op → form.wraps wrap → form.follows wrap list stop world
         → Requested (form.wrap_request_of wrap) world after seen → IsStep world after
     -- the first entry of a list without a block wins; its operation needs none
     first : {world : World} (list : Listed) (search : S) (since : ℕ) (entry : Entry) (word : ℕ) → IsOffered world list search since → IsFresh world list → list.block ≡ 0 → form.needs_block list.call.op ≡ false

@@ -1,5 +1,5 @@
 -- The world of a client: what there is of a run for a structure that knows nothing of the engine.
-use Rattle.std.specs.Prelude.{◌≡◌, ℕ, ◌+◌, ◌-◌, ◌<◌, ◌≤◌, ◌==◌, ◌||◌, ◌&&◌, not, nat_le, Bool, true, ◌⊎◌, List, [], ◌∷◌, length, drop, slice_get, Some}
+use Rattle.std.specs.Prelude.{◌≡◌, ℕ, ◌+◌, ◌-◌, ◌<◌, ◌≤◌, ◌==◌, ◌||◌, ◌&&◌, not, nat_le, Bool, true, false, ◌⊎◌, List, [], ◌∷◌, length, drop, slice_get, Some}
 use Rattle.lin_report.specs.declared.calls.Op.{Op}
 use Rattle.lin_report.specs.declared.calls.Reply.{Reply}
 use Rattle.lin_report.specs.declared.calls.Reply.TheVariants.{Value}
@@ -7,8 +7,8 @@ use Rattle.lin_report.specs.declared.calls.Outcome.{Outcome}
 use Rattle.lin_report.specs.declared.calls.Outcome.TheVariants.{Plain, ValueOf}
 use Rattle.lin_report.specs.Object.{Object}
 use Rattle.word_fields.specs.Versioned.{versioned_bit, versioned_version}
-use Rattle.node_arena.specs.declared.places.TheConstants.{HEAD, TAIL, FIRST_WORDS, NODE_VALUE, STATE_FIELD}
-use Rattle.node_arena.specs.MemoryMap.{block_at, field_at, node_place}
+use Rattle.node_arena.specs.declared.places.TheConstants.{FIRST_WORDS, NODE_VALUE, STATE_FIELD}
+use Rattle.node_arena.specs.MemoryMap.{block_at, field_at, node_place, is_root_place}
 use Rattle.normal_traits.specs.declared.lists.Entry.{Entry}
 
 -- a call: the NUMBER-th of its seat
@@ -17,8 +17,8 @@ pub record Called : Type 0 where
   pub number : ℕ
   pub op : Op
 
--- A list that a generator named, with a number that no other list has, the call that it serves, and the
--- block that its offer filled, 0 where it uses none.
+-- A list that a generator named, with a number that no other list has which took effect, the call that it serves, and
+-- the block that its offer filled, 0 where it uses none.
 pub record Listed : Type 0 where
   pub identity : ℕ
   pub call : Called
@@ -74,12 +74,16 @@ first_changes count changes = drop (length changes - count) changes
 abbrev pub is_state : ℕ → Bool
 is_state field = field == STATE_FIELD || field == STATE_FIELD + 1
 
--- the words that a client may speak of: head and tail of the queue, and those of the used blocks, but for
--- the states of their entries; block 0 has no entry
-abbrev pub is_word : World → ℕ → Bool
-is_word world place =
-    place == HEAD || place == TAIL
+-- the words that a structure may speak of: its roots, as far as they are at places for roots, and the words of the used
+-- blocks, but for the states of their entries; block 0 has no entry
+abbrev pub is_word : (ℕ → Bool) → World → ℕ → Bool
+is_word is_root world place =
+    (is_root place && is_root_place place)
     || (nat_le FIRST_WORDS place && world.used (block_at place) && (block_at place == 0 || not (is_state (field_at place))))
+
+-- the roots of a structure that has all of its words in blocks
+abbrev pub no_root : ℕ → Bool
+no_root place = false
 
 -- a word with its bit clear was seen at a place: it still stands there, or the place is past it
 abbrev pub StandsOrPassed : World → ℕ → ℕ → Type 0

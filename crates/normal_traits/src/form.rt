@@ -1,7 +1,8 @@
 //! A structure in normalized form.
 
 use crate::lists::{List, Stores};
-use lin_report::{Client, Op, Outcome};
+use lin_report::{NoMemory, Op, Outcome};
+use std::alloc::Global;
 use step_memory::{Request, Seen};
 
 /// What a step of a search has found.
@@ -32,9 +33,8 @@ pub enum Wrapped {
 /// A structure as a generator and a wrap-up. Each function's answer is a definition of its arguments
 /// alone, and the laws say what the steps amount to (`specs/Laws.antt`).
 pub trait Normalized {
-    ghost use Rattle.std.specs.Prelude.{◌≡◌, ◌+◌, ◌<◌, ◌≤◌, ◌^◌, ◌++◌, IsTrue, length};
-    ghost use Rattle.lin_report.specs.Commands.{is_command};
-    ghost use Rattle.lin_report.specs.declared.calls.Client.{Client};
+    ghost use Rattle.std.specs.Prelude.{◌≡◌, ◌+◌, ◌<◌, ◌≤◌, ◌^◌, ◌++◌, IsTrue, IfOk, length};
+    ghost use Rattle.node_arena.specs.Opening.{opening_words};
     ghost use Rattle.normal_traits.specs.NormalForm.{NormalForm};
     ghost use Rattle.normal_traits.specs.declared.form.Found.TheVariants as found;
     ghost use Rattle.normal_traits.specs.declared.form.Wrapped.TheVariants as wrapped;
@@ -45,14 +45,18 @@ pub trait Normalized {
     /// The state of a wrap-up between two of its steps.
     type Wrap: Drop + Send;
 
-    /// The client word that names the structure.
-    const CLIENT: Client;
-
-    /// The same, for contracts.
-    ghost CLIENT: { Client };
-
     /// The functions below as definitions, and what their states mean.
     ghost form: { NormalForm Self.Search Self.Wrap };
+
+    /// The words with which a run opens, with blocks 0 to CAP.
+    fn opening(alloc: Global, cap: u32) -> Result<Vec<u64>, NoMemory>
+        requires some_blocks { 1 ≤ cap }
+        requires cap_in_range { cap ≤ 65536 }
+        ensures words { IfOk result (λ words. words.items ≡ opening_words form.opening cap) };
+
+    /// Whether the operation is one of its object.
+    fn serves(op: Op) -> bool
+        ensures { result ≡ form.object.serves op };
 
     /// Whether a fast call of this operation uses a block.
     fn needs_block(op: Op) -> bool
@@ -60,7 +64,7 @@ pub trait Normalized {
 
     /// Starts a generator.
     fn begin(op: Op) -> Self::Search
-        requires command { IsTrue (is_command form.client op) }
+        requires command { IsTrue (form.object.serves op) }
         ensures search { result ≡ form.begin_of op }
         ensures asks { form.asks result };
 
@@ -80,7 +84,7 @@ pub trait Normalized {
     /// The list that a ready generator names.
     fn list(search: &Self::Search, op: Op, block: u32) -> List
         requires ready { form.is_ready search.now }
-        requires command { IsTrue (is_command form.client op) }
+        requires command { IsTrue (form.object.serves op) }
         requires block { block < 2 ^ 17 }
         ensures list { result.items ≡ (form.offer_of search.now op block).entries }
         ensures some { 0 < length result.items };
@@ -88,7 +92,7 @@ pub trait Normalized {
     /// Adds the stores into the block that come before that list, at most twenty.
     fn stores(search: &Self::Search, op: Op, block: u32, stores: &mut Stores)
         requires ready { form.is_ready search.now }
-        requires command { IsTrue (is_command form.client op) }
+        requires command { IsTrue (form.object.serves op) }
         requires block { block < 2 ^ 17 }
         requires room { length stores.old.items ≤ 10 }
         ensures stores { stores.new.items ≡ stores.old.items ++ (form.offer_of search.now op block).stores }
@@ -96,7 +100,7 @@ pub trait Normalized {
 
     /// Starts the wrap-up of a list that stopped at this entry.
     fn begin_wrap(op: Op, list: &List, stop: u32) -> (Self::Wrap, Wrapped)
-        requires { IsTrue (is_command form.client op) }
+        requires { IsTrue (form.object.serves op) }
         ensures wrap { result.0 ≡ form.begin_wrap_of op list.now.items stop }
         ensures begun { result.1 ≡ form.wrap_begun_of op list.now.items stop }
         ensures goes { result.1 ≡ wrapped.Going → form.wraps result.0 };
@@ -117,7 +121,4 @@ pub trait Normalized {
 
     /// What the steps amount to.
     ghost laws: { Laws form };
-
-    /// The form is that of the named structure.
-    ghost named: { CLIENT ≡ form.client };
 }

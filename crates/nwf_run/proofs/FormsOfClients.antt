@@ -1,5 +1,5 @@
 -- The clients and their forms.
-use Rattle.std.proofs.Common.{◌≡◌, [], refl}
+use Rattle.std.proofs.Common.{[], refl}
 use Rattle.lin_report.specs.declared.calls.Client.{Client}
 use Rattle.lin_report.specs.declared.calls.Client.TheVariants as client
 use Rattle.normal_traits.specs.World.{Listed}
@@ -7,14 +7,7 @@ use Rattle.ms_queue_form.proofs.AtOnce.{queue_changes_at_once}
 use Rattle.harris_list_form.specs.Lists.{the_list}
 use Rattle.harris_list_form.proofs.AtOnce.{list_changes_at_once}
 use Rattle.bucket_set.specs.Buckets.{buckets}
-use Rattle.nwf_run.specs.Forms.{AtOnceButTheTree, BUCKETS, form_of}
-
--- the form of a client is of its commands
-pub of_its_commands : (c : Client) → (form_of c).client ≡ c
-of_its_commands client.Queue = refl
-of_its_commands client.List = refl
-of_its_commands client.Tree = refl
-of_its_commands client.Buckets = refl
+use Rattle.nwf_run.specs.Forms.{AtOnceButTheTree, BUCKETS}
 
 a_list : Listed
 a_list = record { identity = 0; call = record { seat = 0; number = 0; op = record { code = 0; key = 0; value = 0 } }; block = 0; entries = [] }

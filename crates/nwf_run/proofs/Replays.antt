@@ -4,7 +4,6 @@ use Rattle.lin_report.specs.declared.calls.Client.{Client}
 use Rattle.lin_report.specs.declared.calls.Op.{Op}
 use Rattle.lin_report.specs.Text.{report_text, summary_text}
 use Rattle.script_reader.specs.declared.schedules.ScheduleEntry.{ScheduleEntry}
-use Rattle.generated_files.specs.Generated.{generated_files}
 use Rattle.nwf_run.specs.declared.load_words.LoadWords.{LoadWords}
 use Rattle.nwf_run.specs.Forms.{form_of}
 use Rattle.nwf_run.specs.Words.{Replay}
@@ -15,7 +14,7 @@ use Rattle.nwf_run.specs.Runs.{IsDriven, MakesReplayOfBytes}
 use Rattle.nwf_run.specs.Replaying.{Makes}
 use Rattle.nwf_run.specs.Loads.{IsLoaded}
 use Rattle.nwf_run.proofs.OneRun.{one_made}
-use Rattle.nwf_run.proofs.FormsOfClients.{at_once_but_the_tree, of_its_commands}
+use Rattle.nwf_run.proofs.FormsOfClients.{at_once_but_the_tree}
 
 -- the commands of a run are the accepted ones
 accepted_too : (client : Client) (seats : ℕ) (files : ℕ → Option (List ℕ)) (entries : List ScheduleEntry) (commands run_commands : List (List Op)) → run_commands ≡ commands
@@ -57,7 +56,7 @@ pub load_made : (tells : Bool) (held : List ℕ → Option (List ℕ)) (load : L
 load_made tells held load text exhausted m =
     one_made tells held (a_load load) m.run (summary_text m.run.report (Some m.run.overtaken)) text exhausted
     (record {
-      generated = m.generated ∙ ap (λ (client : Client). generated_files client load.seed load.threads load.calls) (of_its_commands load.client);
+      generated = m.generated;
       in_rounds = m.in_rounds;
       runs = m.is;
     })

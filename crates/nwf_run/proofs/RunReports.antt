@@ -1,5 +1,5 @@
 -- The report of a run, written from its lines put in order.
-use Rattle.std.proofs.Common.{◌≡◌, ℕ, zero, suc, ◌+◌, ◌≤◌, ◌↔◌, Bool, true, false, List, length, map, Option, Some, Vec, All, IsPermutation, refl, sym, ap, ◌∙◌, subst, arith, rules}
+use Rattle.std.proofs.Common.{◌≡◌, ℕ, zero, suc, ◌+◌, ◌≤◌, ◌↔◌, Bool, true, List, length, map, Option, Vec, All, IsPermutation, refl, sym, ap, ◌∙◌, subst, arith, rules}
 use Rattle.std.specs.List.{Any, list_any}
 use Rattle.std.specs.Prelude.{sum_by, IfSome}
 use Rattle.std.specs.Global.{Global}
@@ -15,9 +15,9 @@ use Rattle.lin_report.specs.declared.calls.Reply.TheVariants.{Yes, No, Done, Val
 use Rattle.lin_report.specs.Calls.{Call, calls_of, report_of}
 use Rattle.lin_report.specs.Text.{reply_is_exhausted, report_text, summary_text}
 use Rattle.lin_report.specs.Writing.{CanWrite, IsPrintable}
-use Rattle.lin_report.specs.declared.calls.Client.{Client}
 use Rattle.lin_report.specs.declared.calls.Op.{Op}
 use Rattle.lin_report.specs.CommandFiles.{IsCommandFile}
+use Rattle.lin_report.specs.Object.{Object}
 use Rattle.script_reader.specs.declared.schedules.ScheduleEntry.{ScheduleEntry}
 use Rattle.normal_traits.specs.NormalForm.{NormalForm}
 use Rattle.fast_slow_engine.specs.declared.setup.Setup.{Setup}
@@ -95,10 +95,10 @@ count_is core after count kept is = is ∙ ap (λ (v : CoreView _ _). greatest_o
 abbrev pub files_of : List (Vec Op Global) → List (List Op)
 files_of commands = map (λ (ops : Vec Op Global). ops.items) commands
 
-pub files_fit : (client : Client) (setup : Setup) (commands : List (Vec Op Global)) → length commands ≡ setup.seats → All (λ (ops : Vec Op Global). IsCommandFile client ops.items) commands → FilesFit client setup (files_of commands)
-files_fit client setup commands count each = record {
+pub files_fit : (object : Object) (setup : Setup) (commands : List (Vec Op Global)) → length commands ≡ setup.seats → All (λ (ops : Vec Op Global). IsCommandFile object ops.items) commands → FilesFit object setup (files_of commands)
+files_fit object setup commands count each = record {
   count = omega (arith, count, length-map commands (λ (ops : Vec Op Global). ops.items));
-  runnable = All-map (IsCommandFile client) (λ (ops : Vec Op Global). ops.items) commands each;
+  runnable = All-map (IsCommandFile object) (λ (ops : Vec Op Global). ops.items) commands each;
 }
 
 module _ {S W : Type 0} where
@@ -130,7 +130,7 @@ module _ {S W : Type 0} where
         subst (λ s. Follows form s (core_new form setup (files_of commands)) core) same (subst (λ v. Follows form schedule v core) is follows)
 
     -- a core that is the run of the commands in an order
-    pub can_be_written : (setup : Setup) (commands : List (Vec Op Global)) (order : List ℕ) (core : CoreView S W) → RunsCanBeWritten form → length commands ≡ setup.seats → All (λ (ops : Vec Op Global). IsCommandFile form.client ops.items) commands
+    pub can_be_written : (setup : Setup) (commands : List (Vec Op Global)) (order : List ℕ) (core : CoreView S W) → RunsCanBeWritten form → length commands ≡ setup.seats → All (λ (ops : Vec Op Global). IsCommandFile form.object ops.items) commands
         → core ≡ core_in form setup (files_of commands) order → CanBeWritten core.state (sum_by length (files_of commands))
     can_be_written setup commands order core writable count each is =
-        subst (λ (v : CoreView S W). CanBeWritten v.state (sum_by length (files_of commands))) (sym is) (writable setup (files_of commands) order (files_fit form.client setup commands count each))
+        subst (λ (v : CoreView S W). CanBeWritten v.state (sum_by length (files_of commands))) (sym is) (writable setup (files_of commands) order (files_fit form.object setup commands count each))

@@ -130,7 +130,7 @@ module _ {S W : Type 0} (form : NormalForm S W) where
         }
 
     -- all lines
-    pub all_swept : (cap limit most count : ℕ) (core : CoreView S W) (text : List ℕ) (mark : Bool) → FilesMeetHeadline form → FilesFit form.client setup (files_of commands)
+    pub all_swept : (cap limit most count : ℕ) (core : CoreView S W) (text : List ℕ) (mark : Bool) → FilesMeetHeadline form → FilesFit form.object setup (files_of commands)
         → setup.seats ≡ length commands → setup.cap ≡ cap → setup.limit ≡ limit → rounds ≡ longest (files_of commands) * ROUNDS_OF_A_CALL → count ≡ most + 1
         → Sweeping commands setup core rounds count text mark → IsSwept form cap limit most (files_of commands) text mark
     all_swept cap limit most count core text mark meets fit seats same_cap same_limit many whole s =
@@ -160,6 +160,6 @@ module _ {S W : Type 0} (form : NormalForm S W) (setup : Setup) (files : List (L
       ∙ in_order setup files (stop_order seats 0 steps rounds)
       ∙ ap (λ n. core_in form setup files (stop_order n 0 steps rounds)) (sym same)
 
-  pub stop_can : StepsRunInOrder form → RunsCanBeWritten form → FilesFit form.client setup files → CanBeWritten core.state (sum_by length files)
+  pub stop_can : StepsRunInOrder form → RunsCanBeWritten form → FilesFit form.object setup files → CanBeWritten core.state (sum_by length files)
   stop_can in_order writable fit =
       subst (λ (v : CoreView S W). CanBeWritten v.state (sum_by length files)) (sym (stop_ran in_order)) (writable setup files (stop_order setup.seats 0 steps rounds) fit)

@@ -1,24 +1,23 @@
 -- Every run over command files can be written, where the tick counter is kept and each reply fits its
 -- command.
-use Rattle.std.proofs.Common.{◌≡◌, ℕ, suc, ◌+◌, ◌-◌, ◌*◌, ◌<◌, ◌≤◌, ◌==◌, nat_lt, cond, false, IsTrue, List, [], ◌∷◌, ◌++◌, length, length-append, map, get_or, slice_index, count_by, All, refl, sym, ap, ◌∙◌, subst, arith, inl, inr}
+use Rattle.std.proofs.Common.{◌≡◌, ℕ, suc, ◌+◌, ◌-◌, ◌*◌, ◌<◌, ◌≤◌, ◌==◌, nat_lt, cond, List, [], ◌∷◌, ◌++◌, length, length-append, map, get_or, slice_index, count_by, All, refl, sym, ap, ◌∙◌, subst, arith, inl, inr}
 use Rattle.std.specs.Prelude.{sum_by, IfSome}
 use Rattle.std.specs.Option.{option_to_list}
 use Rattle.std.proofs.lemmas.Bool.{cases_lt, cases_eq, lt-ltb, le-ltb}
-use Rattle.std.proofs.lemmas.Bool.Decides.{nat_tests}
 use Rattle.std.proofs.lemmas.List.{length-map, get_or-map, get_or_past, get_or_append_left, get_or-append-add}
 use Rattle.std.proofs.lemmas.List.Elements.{All-append, All-map}
 use Rattle.std.proofs.lemmas.List.Sums.{sum_by-append, sum_by-cons, sum_by-le}
 use Rattle.std.proofs.lemmas.Option.{slice_get_within, get_or_from_slice_get}
-use Rattle.lin_report.specs.declared.calls.Client.{Client}
-use Rattle.lin_report.specs.declared.calls.Client.TheVariants as client
 use Rattle.lin_report.specs.declared.calls.Op.{Op}
 use Rattle.lin_report.specs.declared.calls.Receipt.{Receipt}
 use Rattle.lin_report.specs.declared.calls.PendingCall.{PendingCall}
 use Rattle.lin_report.specs.Calls.{Call, Report, answered_call, calls_of}
 use Rattle.lin_report.specs.Calls as calls
-use Rattle.lin_report.specs.Commands.{is_command, is_some_command, IsCommandOf, IsReplyTo}
+use Rattle.lin_report.specs.Commands.{IsReplyTo}
+use Rattle.lin_report.specs.Object.{IsCommandOf, Object}
 use Rattle.lin_report.specs.Report.{IsCommand, file_of, ticks_of}
 use Rattle.lin_report.specs.Writing.{IsPrintable, IsPrintableAnswer, TICK_LIMIT}
+use Rattle.lin_report.specs.Tellable.{IsTellable}
 use Rattle.normal_traits.specs.NormalForm.{NormalForm}
 use Rattle.fast_slow_engine.specs.declared.setup.Setup.{Setup}
 use Rattle.fast_slow_engine.specs.Mechs.{Mech}
@@ -35,12 +34,6 @@ use Rattle.run_laws.proofs.FileLemmas.{files_run}
 use Rattle.run_laws.proofs.ReportLemmas.{runs_report, ticks_once}
 use Rattle.nwf_run.specs.Writable.{CanBeWritten, RunsCanBeWritten}
 use Rattle.nwf_run.proofs.SameOrder.{counted_at}
-
-is_some_command-from : (c : Client) (op : Op) → IsTrue (is_command c op) → IsTrue (is_some_command op)
-is_some_command-from client.Queue op command = grind (arith, nat_tests)
-is_some_command-from client.List op command = grind (arith, nat_tests)
-is_some_command-from client.Tree op command = grind (arith, nat_tests)
-is_some_command-from client.Buckets op command = grind (arith, nat_tests)
 
 -- 1 where the tick is t, and else 0
 abbrev hits : ℕ → ℕ → ℕ
@@ -76,7 +69,7 @@ at_most t most =
 
 -- ---- a call of a report over files
 
-module _ (c : Client) (setup : Setup) (files : List (List Op)) (fit : FilesFit c setup files) where
+module _ (object : Object) (tells : IsTellable object) (setup : Setup) (files : List (List Op)) (fit : FilesFit object setup files) where
   -- the file of a seat that makes a call
   record IsOf (call : Call) : Type 0 where
     seat : call.seat < length files
@@ -101,12 +94,12 @@ module _ (c : Client) (setup : Setup) (files : List (List Op)) (fit : FilesFit c
   printable call is begin answer =
       let of = is_of call is in
       let short : length (file_of files call.seat) ≤ 65535 = (fit.runnable call.seat [] of.seat).few in
-      let command : IsCommandOf c call.op = subst (IsCommandOf c) of.command ((fit.runnable call.seat [] of.seat).commands (call.number - 1) call.op of.number) in
+      let command : IsCommandOf object call.op = subst (IsCommandOf object) of.command ((fit.runnable call.seat [] of.seat).commands (call.number - 1) call.op of.number) in
       record {
         seat = omega (arith, of.seat, fit.count, setup.few_seats);
         counted = is.counted;
         number = omega (arith, of.number, short, is.counted);
-        command = is_some_command-from c call.op command.command;
+        command = tells.named call.op command.command;
         value = command.value;
         begin = begin;
         answer = answer;
@@ -152,7 +145,7 @@ module _ {X : Type 0} (P : X → Type 0) where
 
 -- ---- the run
 
-module _ {S W : Type 0} (form : NormalForm S W) (setup : Setup) (files : List (List Op)) (order : List ℕ) (fit : FilesFit form.client setup files) where
+module _ {S W : Type 0} (form : NormalForm S W) (setup : Setup) (files : List (List Op)) (order : List ℕ) (fit : FilesFit form.object setup files) where
   -- the run of the files in this order
   abbrev pub ran : RunState S W
   ran = run_of form setup (moves_over form setup files order)
@@ -239,7 +232,7 @@ module _ {S W : Type 0} (form : NormalForm S W) (setup : Setup) (files : List (L
             printable = λ k d within.
                 let call = get_or (calls_of (report_of_run ran)) k d in
                 let range = in_range k d within in
-                printable form.client setup files fit call (report.commands k d within) range.0 range.1;
+                printable form.object form.tellable setup files fit call (report.commands k d within) range.0 range.1;
             apart = apart;
             few = few;
           }
@@ -249,12 +242,12 @@ module _ {S W : Type 0} (form : NormalForm S W) (setup : Setup) (files : List (L
 module _ {S W : Type 0} (form : NormalForm S W) where
   -- no move but those that draw ticks writes the tick counter, in any order of the seats
   abbrev pub OrdersKeepTicks : Type 0
-  OrdersKeepTicks = (setup : Setup) (files : List (List Op)) (order : List ℕ) → FilesFit form.client setup files → KeepsTicks form setup (moves_over form setup files order)
+  OrdersKeepTicks = (setup : Setup) (files : List (List Op)) (order : List ℕ) → FilesFit form.object setup files → KeepsTicks form setup (moves_over form setup files order)
 
   -- each reply is one that its command may be given
   abbrev pub RepliesFit : Type 0
   RepliesFit =
-      (setup : Setup) (files : List (List Op)) (order : List ℕ) → FilesFit form.client setup files
+      (setup : Setup) (files : List (List Op)) (order : List ℕ) → FilesFit form.object setup files
       → All (λ (r : Receipt). IsReplyTo r.op r.reply) (run_of form setup (moves_over form setup files order)).receipts
 
   pub runs_can_be_written : OrdersKeepTicks → RepliesFit → RunsCanBeWritten form

@@ -23,7 +23,7 @@ pub record IsLoadOf (load : LoadWords) (run : FilesRun) : Type 0 where
 -- the text is the summary of the run of a load of this structure, which meets the headline
 pub record IsLoaded {S W : Type 0} (form : NormalForm S W) (load : LoadWords) (text : List ℕ) (exhausted : Bool) : Type 0 where
   pub run : FilesRun
-  pub generated : run.commands ≡ generated_files form.client load.seed load.threads load.calls
+  pub generated : run.commands ≡ generated_files load.client load.seed load.threads load.calls
   pub in_rounds : run.order ≡ rounds load.threads (load.calls * ROUNDS_OF_A_CALL)
   pub is : IsRun form load.cap load.limit run
   pub headline : MeetsHeadline form run.setup run.commands run.order

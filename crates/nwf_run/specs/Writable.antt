@@ -1,5 +1,5 @@
 -- What the writer of a report asks of it, of every run.
-use Rattle.std.specs.Prelude.{◌≡◌, ℕ, ◌+◌, ◌≤◌, ◌==◌, false, List, length, sum_by, count_by, All}
+use Rattle.std.specs.Prelude.{ℕ, ◌+◌, ◌≤◌, ◌==◌, List, length, sum_by, count_by, All}
 use Rattle.lin_report.specs.declared.calls.Op.{Op}
 use Rattle.lin_report.specs.Calls.{calls_of}
 use Rattle.lin_report.specs.Writing.{IsPrintable}
@@ -20,4 +20,4 @@ pub record CanBeWritten {S W : Type 0} (state : RunState S W) (calls : ℕ) : Ty
 -- each command
 abbrev pub RunsCanBeWritten : {S W : Type 0} → NormalForm S W → Type 0
 RunsCanBeWritten form =
-    (setup : Setup) (files : List (List Op)) (order : List ℕ) → FilesFit form.client setup files → CanBeWritten (run_of form setup (moves_over form setup files order)) (sum_by length files)
+    (setup : Setup) (files : List (List Op)) (order : List ℕ) → FilesFit form.object setup files → CanBeWritten (run_of form setup (moves_over form setup files order)) (sum_by length files)

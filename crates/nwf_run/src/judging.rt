@@ -1,6 +1,7 @@
 //! Judges the bytes of the files of a replay.
 ghost use Rattle.std.specs.Prelude.{◌≡◌, ◌<◌, ◌≤◌, ◌+◌, ℕ, List, map, length, IfOk, IfErr, All};
 ghost use Rattle.lin_report.specs.CommandFiles.{IsCommandFile};
+ghost use Rattle.lin_report.specs.Object.{object_of};
 ghost use Rattle.script_reader.specs.Schedules.{schedule_outcome};
 ghost use Rattle.script_reader.specs.Scripts.{script_outcome};
 ghost use Rattle.nwf_run.specs.Judging.{Accepts, IsJudged, IsReason, files_of_bytes};
@@ -43,7 +44,7 @@ pub fn judge_commands(
     file: u32,
 ) -> Result<Vec<Op>, NoReport>
     ensures judged { IsJudged (script_outcome client bytes.now) file result }
-    ensures commands { IfOk result (λ ops. IsCommandFile client ops.items) }
+    ensures commands { IfOk result (λ ops. IsCommandFile (object_of client) ops.items) }
 {
     match read_script(alloc, bytes, client) {
         Ok(ops) => Ok(ops),
@@ -64,7 +65,7 @@ pub fn judge_files(
     ensures accepts { IfOk result (λ s. Accepts client (length files.now) (files_of_bytes schedule.now (map (λ file. file.now) files.now)) s.schedule.items (map (λ ops. ops.items) s.commands.items)) }
     ensures count { IfOk result (λ s. length s.commands.items ≡ length files.now) }
     ensures seats { IfOk result (λ s. All (λ entry. entry.seat < length files.now) s.schedule.items) }
-    ensures commands { IfOk result (λ s. All (λ ops. IsCommandFile client ops.items) s.commands.items) }
+    ensures commands { IfOk result (λ s. All (λ ops. IsCommandFile (object_of client) ops.items) s.commands.items) }
     ensures refused { IfErr result (IsReason client (length files.now) (files_of_bytes schedule.now (map (λ file. file.now) files.now))) }
 {
     let entries = judge_schedule(alloc, schedule, files.len() as u32)?;

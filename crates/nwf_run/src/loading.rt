@@ -1,6 +1,7 @@
 //! Runs generated files in rounds and makes the text of the summary.
+ghost use Rattle.lin_report.specs.declared.calls.Op.{Op};
+ghost use Rattle.lin_report.specs.Object.{is_command};
 ghost use Rattle.std.specs.Prelude.{◌≡◌, ◌≤◌, IfOk};
-ghost use Rattle.node_arena.specs.Opening.{IsLaidOut};
 ghost use Rattle.nwf_run.specs.Forms.{form_of};
 ghost use Rattle.nwf_run.specs.Loads.{IsLoaded};
 
@@ -23,7 +24,7 @@ pub const ROUNDS_OF_A_CALL: u32 = 16_384;
 
 /// The summary of a structure's run. All memory of the run and of the text is taken before the run is made.
 fn summary_of<C: Normalized>(alloc: Global, load: LoadWords) -> Result<Replayed, NoMemory>
-    requires client { IsLaidOut C.form.client }
+    requires serves { (op : Op) → C.form.object.serves op ≡ is_command load.client op }
     requires cap { (1 ≤ load.cap) × (load.cap ≤ 65536) }
     requires limit { load.limit ≤ 255 }
     requires threads { (1 ≤ load.threads) × (load.threads ≤ 8) }
@@ -37,7 +38,7 @@ fn summary_of<C: Normalized>(alloc: Global, load: LoadWords) -> Result<Replayed,
     };
     let mut text = report_room(alloc, 0)?;
     each_runs();
-    let files = generate(alloc, C::CLIENT, load.seed, load.threads, load.calls)?;
+    let files = generate(alloc, load.client, load.seed, load.threads, load.calls)?;
     let mut core = Core::<C>::new(alloc, setup, files)?;
     take_rounds(&mut core, load.threads, load.calls * ROUNDS_OF_A_CALL);
     core.sort_by_begin();

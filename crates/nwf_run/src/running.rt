@@ -1,10 +1,10 @@
 //! Runs the command files of a replay by its schedule and makes the text of the report.
 ghost use Rattle.std.specs.Prelude.{◌≡◌, ◌<◌, ◌≤◌, All, IfOk, length, map, sum_by};
 ghost use Rattle.std.specs.List.{list_any};
-ghost use Rattle.node_arena.specs.Opening.{IsLaidOut};
 ghost use Rattle.lin_report.specs.declared.calls.Op.{Op};
 ghost use Rattle.lin_report.specs.Text.{reply_is_exhausted};
 ghost use Rattle.lin_report.specs.CommandFiles.{IsCommandFile};
+ghost use Rattle.lin_report.specs.Object.{object_of};
 ghost use Rattle.nwf_run.specs.Writable.{RunsCanBeWritten};
 ghost use Rattle.nwf_run.specs.Forms.{form_of};
 ghost use Rattle.nwf_run.specs.Runs.{IsDriven};
@@ -62,13 +62,12 @@ pub fn report_of<C: Normalized>(
     limit: u32,
     scripts: Scripts,
 ) -> Result<Replayed, NoMemory>
-    requires client { IsLaidOut C.form.client }
     requires cap { (1 ≤ cap) × (cap ≤ 65536) }
     requires limit { limit ≤ 255 }
     requires some { 1 ≤ length scripts.commands.items }
     requires few { length scripts.commands.items ≤ 8 }
     requires seats { All (λ entry. entry.seat < length scripts.commands.items) scripts.schedule.items }
-    requires commands { All (λ ops. IsCommandFile C.form.client ops.items) scripts.commands.items }
+    requires commands { All (λ ops. IsCommandFile C.form.object ops.items) scripts.commands.items }
     ensures { IfOk result (λ made. IsDriven C.form cap limit scripts.schedule.items (map (λ ops. ops.items) scripts.commands.items) made.text.items made.exhausted) }
 {
     let setup = Setup {
@@ -108,7 +107,7 @@ pub fn make_report(
     requires some { 1 ≤ length scripts.commands.items }
     requires few { length scripts.commands.items ≤ 8 }
     requires seats { All (λ entry. entry.seat < length scripts.commands.items) scripts.schedule.items }
-    requires commands { All (λ ops. IsCommandFile client ops.items) scripts.commands.items }
+    requires commands { All (λ ops. IsCommandFile (object_of client) ops.items) scripts.commands.items }
     ensures { IfOk result (λ made. IsDriven (form_of client) cap limit scripts.schedule.items (map (λ ops. ops.items) scripts.commands.items) made.text.items made.exhausted) }
 {
     at_client!(client, report_of[](alloc, cap, limit, scripts))

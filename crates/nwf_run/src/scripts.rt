@@ -1,6 +1,7 @@
 //! Reads the files of a replay or of a run in order and judges each before the next one is opened.
 ghost use Rattle.std.specs.Prelude.{◌≡◌, ◌<◌, ◌≤◌, ◌+◌, ◌∷◌, ◌⊎◌, ℕ, List, IsTrue, IfOk, IfErr, IsSomeAnd, All, length, map, take};
 ghost use Rattle.lin_report.specs.CommandFiles.{IsCommandFile};
+ghost use Rattle.lin_report.specs.Object.{object_of};
 ghost use Rattle.script_reader.specs.Schedules.{schedule_outcome};
 ghost use Rattle.script_reader.specs.Scripts.{script_outcome};
 ghost use Rattle.nwf_run.specs.Said.{said, said_run};
@@ -72,7 +73,7 @@ fn read_commands<F: Files>(
     file: u32,
 ) -> Result<Vec<Op>, Stop>
     ensures reads { FileReads (F.tells files.old) (script_outcome client) file (F.held files.old name.now) result }
-    ensures commands { IfOk result (λ ops. IsCommandFile client ops.items) }
+    ensures commands { IfOk result (λ ops. IsCommandFile (object_of client) ops.items) }
     ensures faults { FaultsAsTold (F.faults files.old) (F.faults files.new) result }
     ensures tells { F.tells files.new ≡ F.tells files.old }
     ensures held { (n : List ℕ) → F.held files.new n ≡ F.held files.old n }
@@ -94,7 +95,7 @@ pub fn read_command_files<F: Files>(
     requires few { length words.now.files.now ≤ 8 }
     ensures says { IfOk result (λ read. IsTrue (F.tells files.old) → SayFirst words.now.client (length (said_run words.now).files) (files_by_name (F.held files.old) (said_run words.now)) (map (λ ops. ops.items) read.items)) }
     ensures count { IfOk result (λ read. length read.items ≡ length words.now.files.now) }
-    ensures commands { IfOk result (λ read. All (λ ops. IsCommandFile words.now.client ops.items) read.items) }
+    ensures commands { IfOk result (λ read. All (λ ops. IsCommandFile (object_of words.now.client) ops.items) read.items) }
     ensures stops { IfErr result (StopsAt (F.tells files.old) (F.held files.old) (said_run words.now)) }
     ensures faults { FaultsAsTold (F.faults files.old) (F.faults files.new) result }
     ensures opened { OpensUntil (said_run words.now) (F.faults files.old) (F.opened files.old) (F.opened files.new) result }
@@ -122,7 +123,7 @@ pub fn read_scripts<F: Files>(
     ensures accepts { IfOk result (λ s. IsTrue (F.tells files.old) → Accepts words.now.client (length (said words.now).files) (files_by_name (F.held files.old) (said words.now)) s.schedule.items (map (λ ops. ops.items) s.commands.items)) }
     ensures count { IfOk result (λ s. length s.commands.items ≡ length words.now.files.now) }
     ensures seats { IfOk result (λ s. All (λ entry. entry.seat < length words.now.files.now) s.schedule.items) }
-    ensures commands { IfOk result (λ s. All (λ ops. IsCommandFile words.now.client ops.items) s.commands.items) }
+    ensures commands { IfOk result (λ s. All (λ ops. IsCommandFile (object_of words.now.client) ops.items) s.commands.items) }
     ensures stops { IfErr result (StopsAt (F.tells files.old) (F.held files.old) (said words.now)) }
     ensures faults { FaultsAsTold (F.faults files.old) (F.faults files.new) result }
     ensures opened { OpensUntil (said words.now) (F.faults files.old) (F.opened files.old) (F.opened files.new) result }

@@ -2,8 +2,8 @@
 //! lines.
 ghost use Rattle.std.specs.Prelude.{◌≡◌, ◌+◌, ◌≤◌, ◌++◌, max, All, IfOk, length, map, vec_len, vec_capacity};
 ghost use Rattle.std.specs.List.{list_any};
-ghost use Rattle.node_arena.specs.Opening.{IsLaidOut};
 ghost use Rattle.lin_report.specs.CommandFiles.{IsCommandFile};
+ghost use Rattle.lin_report.specs.Object.{object_of};
 ghost use Rattle.lin_report.specs.Room.{Appends, HasRoom};
 ghost use Rattle.lin_report.specs.Text.{reply_is_exhausted};
 ghost use Rattle.run_laws.specs.Files.{FilesFit};
@@ -80,7 +80,7 @@ fn add_stop<C: Normalized>(
     steps: u32,
 ) -> bool
     requires seats { core.old.setup.seats ≡ seats }
-    requires files { FilesFit C.form.client core.old.setup core.old.files }
+    requires files { FilesFit C.form.object core.old.setup core.old.files }
     requires room { HasRoom text.old 192 }
     ensures setup { core.new.setup ≡ core.old.setup }
     ensures files { core.new.files ≡ core.old.files }
@@ -110,13 +110,12 @@ fn lines_of<C: Normalized>(
     most: u32,
     commands: Vec<Vec<Op>>,
 ) -> Result<Replayed, NoMemory>
-    requires client { IsLaidOut C.form.client }
     requires cap { (1 ≤ cap) × (cap ≤ 65536) }
     requires limit { limit ≤ 255 }
     requires most { most ≤ 255 }
     requires some { 1 ≤ length commands.items }
     requires few { length commands.items ≤ 8 }
-    requires commands { All (λ ops. IsCommandFile C.form.client ops.items) commands.items }
+    requires commands { All (λ ops. IsCommandFile C.form.object ops.items) commands.items }
     ensures { IfOk result (λ made. IsSwept C.form cap limit most (map (λ ops. ops.items) commands.items) made.text.items made.exhausted) }
 {
     let setup = Setup {
@@ -149,7 +148,7 @@ pub fn make_lines(
     requires most { most ≤ 255 }
     requires some { 1 ≤ length commands.items }
     requires few { length commands.items ≤ 8 }
-    requires commands { All (λ ops. IsCommandFile client ops.items) commands.items }
+    requires commands { All (λ ops. IsCommandFile (object_of client) ops.items) commands.items }
     ensures { IfOk result (λ made. IsSwept (form_of client) cap limit most (map (λ ops. ops.items) commands.items) made.text.items made.exhausted) }
 {
     at_client!(client, lines_of[](alloc, cap, limit, most, commands))

@@ -1,7 +1,7 @@
 //! Runs command files, each in a thread of its own, and makes the text of the report.
 ghost use Rattle.std.specs.Prelude.{◌≤◌, All, IfOk, length, map};
-ghost use Rattle.node_arena.specs.Opening.{IsLaidOut};
 ghost use Rattle.lin_report.specs.CommandFiles.{IsCommandFile};
+ghost use Rattle.lin_report.specs.Object.{object_of};
 ghost use Rattle.nwf_run.specs.Forms.{form_of};
 ghost use Rattle.nwf_run.specs.Running.{IsThreaded};
 
@@ -33,12 +33,11 @@ fn threaded<
     commands: Vec<Vec<Op>>,
     gate: &G,
 ) -> Result<Replayed, NoMemory>
-    requires client { IsLaidOut C.form.client }
     requires cap { (1 ≤ cap) × (cap ≤ 65536) }
     requires limit { limit ≤ 255 }
     requires some { 1 ≤ length commands.items }
     requires few { length commands.items ≤ 8 }
-    requires commands { All (λ ops. IsCommandFile C.form.client ops.items) commands.items }
+    requires commands { All (λ ops. IsCommandFile C.form.object ops.items) commands.items }
     ensures { IfOk result (λ made. IsThreaded C.form cap limit (map (λ ops. ops.items) commands.items) made.text.items made.exhausted) }
 {
     let setup = Setup {
@@ -70,7 +69,7 @@ pub fn make_thread_report<R: Threads + Wait + Sync, G: Gate + Sync>(
     requires limit { limit ≤ 255 }
     requires some { 1 ≤ length commands.items }
     requires few { length commands.items ≤ 8 }
-    requires commands { All (λ ops. IsCommandFile client ops.items) commands.items }
+    requires commands { All (λ ops. IsCommandFile (object_of client) ops.items) commands.items }
     ensures { IfOk result (λ made. IsThreaded (form_of client) cap limit (map (λ ops. ops.items) commands.items) made.text.items made.exhausted) }
 {
     at_client!(client, threaded[Whole, R, G](rt, alloc, cap, limit, commands, gate))

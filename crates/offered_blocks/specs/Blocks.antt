@@ -1,12 +1,11 @@
 -- Blocks that records have named, in the world of a client, and what holds of them.
-use Rattle.std.specs.Prelude.{◌≡◌, ℕ, ◌+◌, ◌<◌, ◌≤◌, ◌==◌, ◌&&◌, Bool, true, false, ◌⊎◌, List, Option, Some}
+use Rattle.std.specs.Prelude.{◌≡◌, ℕ, ◌+◌, ◌<◌, ◌==◌, ◌&&◌, Bool, true, false, ◌⊎◌, List, Option, Some}
 use Rattle.std.specs.List.{list_any}
 use Rattle.word_fields.specs.declared.records.Phase.TheVariants.{Executing}
 use Rattle.word_fields.specs.Payloads.{payload_block}
 use Rattle.word_fields.specs.Records.{record_phase, record_number, record_payload}
 use Rattle.word_fields.specs.Versioned.{versioned_bit, versioned_version, marked_word}
-use Rattle.node_arena.specs.declared.places.TheConstants.{HEAD, TAIL, FIRST_WORDS}
-use Rattle.node_arena.specs.MemoryMap.{record_place}
+use Rattle.node_arena.specs.MemoryMap.{record_place, MayBeClients}
 use Rattle.normal_traits.specs.declared.lists.Entry.{Entry}
 use Rattle.normal_traits.specs.World.{Listed, Maker, Won, World, Among, Took, is_word}
 use Rattle.normal_traits.specs.World.Maker.{By, Beside}
@@ -58,7 +57,7 @@ module _ {S W : Type 0} (form : NormalForm S W) where
     pub some : 0 < block
     pub offered : IsOffered form world offer.list offer.offering offer.since
     pub site : IsSite (site_of offer)
-    pub targets : (j : ℕ) (entry : Entry) → IsEntry offer.list.entries j entry → (is_word world entry.target ≡ true) × (form.is_versioned entry.target ≡ true) × (form.is_listable entry.target ≡ true)
+    pub targets : (j : ℕ) (entry : Entry) → IsEntry offer.list.entries j entry → (is_word form.is_root world entry.target ≡ true) × (form.is_versioned entry.target ≡ true) × (form.is_listable entry.target ≡ true)
     pub taken : (j : ℕ) → has_taken world.journal offer.list j ≡ true → Took world offer.list j
     pub parts : Offered (site_of offer) world.words (has_taken world.journal offer.list)
     -- the list has stopped unless its call's record names the block
@@ -79,7 +78,7 @@ module _ {S W : Type 0} (form : NormalForm S W) where
 
   -- the place is one where a list may set the bit, now or once its block is used
   pub record MayBeMarked (place : ℕ) : Type 0 where
-    pub place_is : (place ≡ HEAD) ⊎ ((place ≡ TAIL) ⊎ (FIRST_WORDS ≤ place))
+    pub place_is : MayBeClients place
     pub versioned : form.is_versioned place ≡ true
     pub listable : form.is_listable place ≡ true
 

@@ -1,6 +1,6 @@
 -- What holds of all blocks at every moment: of those that records have named, of those that none has, and of the
 -- client's world besides.
-use Rattle.std.specs.Prelude.{◌≡◌, ◌≢◌, ℕ, ◌<◌, true, false, Option, Some, None}
+use Rattle.std.specs.Prelude.{◌≡◌, ◌≢◌, ℕ, ◌<◌, true, false, Option, Some, None, Bool}
 use Rattle.normal_traits.specs.World.{Among, Won, World, is_word}
 use Rattle.normal_traits.specs.NormalForm.{NormalForm}
 use Rattle.normal_traits.specs.Steps.{IsFilled}
@@ -18,9 +18,9 @@ no_offers block = None
 abbrev pub StatesPending : {S : Type 0} → World → (ℕ → Option (Offer S)) → Type 0
 StatesPending world offers = (block j : ℕ) → 0 < block → j < 2 → IsUnnamed offers block → world.words (state_place block j) ≡ 0
 
--- each won exchange was made at a word of the client
-abbrev pub JournalWords : World → Type 0
-JournalWords world = (won : Won) → Among won world.journal → is_word world won.place ≡ true
+-- each won exchange was made at a word of the structure, by its roots
+abbrev pub JournalWords : (ℕ → Bool) → World → Type 0
+JournalWords is_root world = (won : Won) → Among won world.journal → is_word is_root world won.place ≡ true
 
 module _ {S W : Type 0} (form : NormalForm S W) where
   -- the block holds what was stored for its list
@@ -37,4 +37,4 @@ module _ {S W : Type 0} (form : NormalForm S W) where
     pub blocks : HasBlocks form world offers
     pub waits : (block : ℕ) (offer : Offer S) → offers block ≡ Some offer → Waits world offer
     pub pending : StatesPending world offers
-    pub journal : JournalWords world
+    pub journal : JournalWords form.is_root world

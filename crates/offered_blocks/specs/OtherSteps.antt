@@ -5,12 +5,12 @@ use Rattle.word_fields.specs.declared.records.Phase.TheVariants.{Executing}
 use Rattle.word_fields.specs.Payloads.{payload_block}
 use Rattle.word_fields.specs.Records.{record_phase, record_number, record_payload}
 use Rattle.word_fields.specs.Versioned.{versioned_bit, versioned_version}
-use Rattle.node_arena.specs.declared.places.TheConstants.{HEAD, TAIL, FIRST_WORDS, STATE_FIELD}
-use Rattle.node_arena.specs.MemoryMap.{block_place, record_place}
+use Rattle.node_arena.specs.declared.places.TheConstants.{FIRST_WORDS, STATE_FIELD}
+use Rattle.node_arena.specs.MemoryMap.{block_place, record_place, MayBeClients}
 use Rattle.normal_traits.specs.declared.lists.Entry.{Entry}
 use Rattle.normal_traits.specs.World.{Listed, Maker, World, is_word}
 use Rattle.normal_traits.specs.NormalForm.{NormalForm}
-use Rattle.normal_traits.specs.Steps.{IsOffered, IsStep, object, with_change, with_word}
+use Rattle.normal_traits.specs.Steps.{IsOffered, IsStep, with_change, with_word}
 use Rattle.offered_blocks.specs.Blocks.{Offer, IsExecuting, has_taken, is_of}
 use Rattle.offered_blocks.specs.Holds.{IsUnnamed, FilledFor}
 
@@ -30,7 +30,7 @@ IsStored field = (field < STATE_FIELD) ⊎ (STATE_FIELD + 2 ≤ field)
 
 -- where the engine stores: at its own first words but the records, and in spare blocks
 pub data IsEngines {S : Type 0} (world : World) (offers : ℕ → Option (Offer S)) (place : ℕ) : Type 0 where
-  first_word : place < FIRST_WORDS → place ≢ HEAD → place ≢ TAIL → ((seat : ℕ) → seat < 8 → place ≢ record_place seat) → IsEngines world offers place
+  first_word : place < FIRST_WORDS → ¬ MayBeClients place → ((seat : ℕ) → seat < 8 → place ≢ record_place seat) → IsEngines world offers place
   in_spare : (block field : ℕ) → IsSpare world offers block → field < 32 → IsStored field → place ≡ block_place block field → IsEngines world offers place
 
 module _ {S W : Type 0} (form : NormalForm S W) where
@@ -38,14 +38,14 @@ module _ {S W : Type 0} (form : NormalForm S W) where
   -- is an allowed step, starts from a word with its bit clear where lists may have entries, and leaves no bit
   pub record IsExchange (world after : World) (offers : ℕ → Option (Offer S)) (maker : Maker) (list : Option Listed) (entry : Entry) : Type 0 where
     pub step : IsStep form world after
-    pub word : is_word world entry.target ≡ true
+    pub word : is_word form.is_root world entry.target ≡ true
     pub versioned : form.is_versioned entry.target ≡ true
     pub clear : form.is_listable entry.target ≡ true → versioned_bit entry.from ≡ 0
     pub to_clear : versioned_bit entry.to ≡ 0
     pub stood : world.words entry.target ≡ entry.from
     pub raised : versioned_version entry.to ≡ versioned_version entry.from + 1
     pub words : after.words ≡ with_word entry.target entry.to world.words
-    pub changes : after.changes ≡ with_change (object form) list world.changes
+    pub changes : after.changes ≡ with_change form.object list world.changes
     pub journal : after.journal ≡ record { place = entry.target; before = entry.from; after = entry.to; maker = maker; cause = form.cause_of world maker entry } ∷ world.journal
     -- it is of no offered list, and no block becomes used that a record has named
     pub beside : (block : ℕ) (offer : Offer S) → offers block ≡ Some offer → (j : ℕ) → is_of offer.list j maker ≡ false
@@ -63,7 +63,7 @@ module _ {S W : Type 0} (form : NormalForm S W) where
     pub identity : (other : ℕ) (mate : Offer S) → offers other ≡ Some mate → mate.list.identity ≢ offer.list.identity
     pub fresh : (j : ℕ) → has_taken world.journal offer.list j ≡ false
     -- no version comes to the end of its bits
-    pub room : (place : ℕ) → is_word world place ≡ true → form.is_versioned place ≡ true → versioned_version (world.words place) + 1 < 2 ^ 39
+    pub room : (place : ℕ) → is_word form.is_root world place ≡ true → form.is_versioned place ≡ true → versioned_version (world.words place) + 1 < 2 ^ 39
     pub none : (list : Listed) → ¬ IsExecuting world list
     pub phase : record_phase word ≡ Executing
     pub number : record_number word ≡ offer.list.call.number

@@ -1,7 +1,6 @@
 -- What a won exchange of a record makes of what it tells, of any structure in normalized form.
 use Rattle.std.specs.Prelude.{◌≡◌, ℕ, ◌^◌, ◌<◌, ◌≤◌, Option, Some}
 use Rattle.lin_report.specs.declared.calls.Outcome.{Outcome}
-use Rattle.lin_report.specs.Object.{object_of}
 use Rattle.word_fields.specs.declared.records.Phase.TheVariants.{Executing}
 use Rattle.word_fields.specs.declared.records.RecordWord.{RecordWord}
 use Rattle.word_fields.specs.Records.{record_of, record_word}
@@ -23,7 +22,7 @@ module _ {S W : Type 0} (form : NormalForm S W) where
   abbrev pub AnswersTell : Type 0
   AnswersTell =
       (world : World) (offers : ℕ → Option (Offer S)) (call : Called) (begun since : ℕ) (from : RecordWord) (outcome : Outcome) → FitsPayload outcome → begun ≤ since
-      → RightSince (object_of form.client) world call.op since outcome → IsFixed form outcome → MadeNone world call
+      → RightSince form.object world call.op since outcome → IsFixed form outcome → MadeNone world call
       → RecordIsRight form world offers call begun (record_of (completed_word from outcome))
 
   -- the list that a record names made the change

@@ -3,7 +3,6 @@ use Rattle.std.specs.Prelude.{◌≡◌, ℕ, Option, Some}
 use Rattle.lin_report.specs.declared.calls.Outcome.{Outcome}
 use Rattle.lin_report.specs.declared.calls.Outcome.TheVariants.{Plain}
 use Rattle.lin_report.specs.declared.calls.Reply.TheVariants.{Exhausted}
-use Rattle.lin_report.specs.Object.{object_of}
 use Rattle.word_fields.specs.declared.records.Phase.{Phase}
 use Rattle.word_fields.specs.declared.records.Phase.TheVariants as phase
 use Rattle.word_fields.specs.declared.records.RecordWord.{RecordWord}
@@ -29,7 +28,7 @@ MadeBy world call list = (change : Change) → Among change world.changes → Is
 
 -- the outcome is right: the call observed since its begin and made no change, or its change was made by one list
 pub data TellsRight {S W : Type 0} (form : NormalForm S W) (world : World) (call : Called) (begun : ℕ) (outcome : Outcome) : Type 0 where
-  observed : RightSince (object_of form.client) world call.op begun outcome → IsFixed form outcome → MadeNone world call → TellsRight form world call begun outcome
+  observed : RightSince form.object world call.op begun outcome → IsFixed form outcome → MadeNone world call → TellsRight form world call begun outcome
   changed : (list : Listed) → list.call ≡ call → ChangedBy world list outcome → IsFixed form outcome → MadeBy world call list → TellsRight form world call begun outcome
   refused : outcome ≡ Plain Exhausted → MadeNone world call → TellsRight form world call begun outcome
 

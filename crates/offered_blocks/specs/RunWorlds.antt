@@ -6,7 +6,7 @@ use Rattle.normal_traits.specs.declared.lists.Entry.{Entry}
 use Rattle.normal_traits.specs.World.{World}
 use Rattle.normal_traits.specs.World.Maker.{By}
 use Rattle.normal_traits.specs.NormalForm.{NormalForm}
-use Rattle.normal_traits.specs.Steps.{listed_if, object, using_block, with_change}
+use Rattle.normal_traits.specs.Steps.{listed_if, using_block, with_change}
 use Rattle.cas_executor.specs.SlowRuns.{SlowWalk, installs}
 use Rattle.offered_blocks.specs.Blocks.{Offer}
 
@@ -26,7 +26,7 @@ module _ {S W : Type 0} (form : NormalForm S W) (world : World) (offer : Offer S
   ran_by j words true (Some entry) =
       record {
         words = words;
-        changes = with_change (object form) (listed_if (form.adds offer.list j) offer.list) world.changes;
+        changes = with_change form.object (listed_if (form.adds offer.list j) offer.list) world.changes;
         used = used_by j offer.list.block world.used;
         journal = record { place = entry.target; before = entry.from; after = entry.to; maker = By offer.list j; cause = form.cause_of world (By offer.list j) entry } ∷ world.journal;
       }

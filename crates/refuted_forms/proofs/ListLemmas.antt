@@ -2,8 +2,7 @@
 use Rattle.std.proofs.Common.{◌≡◌, ℕ, true, false, Some, refl, inl, inr, ap, arith}
 use Rattle.lin_report.specs.declared.calls.Op.{Op}
 use Rattle.lin_report.specs.declared.calls.TheConstants.{ADD, DEL}
-use Rattle.lin_report.specs.declared.calls.Client.TheVariants as client
-use Rattle.lin_report.specs.Commands.{IsCommandOf}
+use Rattle.lin_report.specs.Object.{IsCommandOf, list_object}
 use Rattle.step_memory.specs.declared.steps.Seen.{Seen}
 use Rattle.word_fields.specs.Versioned.{versioned_value, versioned_bit, versioned_version, versioned_word, changed_word, cleared_word, marked_word}
 use Rattle.node_arena.specs.MemoryMap.{block_place, node_place, node_named}
@@ -30,7 +29,7 @@ use Rattle.refuted_forms.proofs.ListWorlds.{at_start, the_entry, linked, linked_
 abbrev lower : Op
 lower = record { code = ADD; key = 3; value = 0 }
 
-lower_command : IsCommandOf client.List lower
+lower_command : IsCommandOf list_object lower
 lower_command = record { command = refl; value = omega arith }
 
 abbrev set_word : ℕ
@@ -74,13 +73,13 @@ is_plain = record { to = refl; raised = refl }
 abbrev higher : Op
 higher = record { code = ADD; key = 7; value = 0 }
 
-higher_command : IsCommandOf client.List higher
+higher_command : IsCommandOf list_object higher
 higher_command = record { command = refl; value = omega arith }
 
 abbrev the_del : Op
 the_del = record { code = DEL; key = 5; value = 0 }
 
-del_command : IsCommandOf client.List the_del
+del_command : IsCommandOf list_object the_del
 del_command = record { command = refl; value = omega arith }
 
 abbrev del_search : ListSearch

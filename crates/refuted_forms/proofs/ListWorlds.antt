@@ -12,7 +12,7 @@ use Rattle.node_arena.specs.MemoryMap.{block_place, node_place, node_named, bloc
 use Rattle.node_arena.specs.Opening.{opening_word}
 use Rattle.normal_traits.specs.declared.form.Found.{Found}
 use Rattle.normal_traits.specs.declared.lists.Entry.{Entry}
-use Rattle.normal_traits.specs.World.{Listed, World, is_word}
+use Rattle.normal_traits.specs.World.{Listed, World, is_word, no_root}
 use Rattle.normal_traits.specs.World.Maker.{By}
 use Rattle.normal_traits.specs.Steps.{IsStep, IsOffered, IsFilled, IsExchanged, exchanged, put_word, using_block}
 use Rattle.normal_traits.specs.Steps.IsStep.{elsewhere, first_of_block}
@@ -100,7 +100,7 @@ module _ (met : ListSearch → Seen → ListSearch × Found) where
   offered_in : IsOffered (list_with met) filled the_adding the_search 0
   offered_in = record { command = record { command = refl; value = omega arith }; knows = knows_filled; ready = omega arith; small = omega arith; entries = refl }
 
-  elsewhere_kept : Laws (list_with met) → (world : World) (place word : ℕ) → is_word world place ≡ false → AreSorted the_list world → AreSorted the_list (put_word place word world)
+  elsewhere_kept : Laws (list_with met) → (world : World) (place word : ℕ) → is_word no_root world place ≡ false → AreSorted the_list world → AreSorted the_list (put_word place word world)
   elsewhere_kept laws world place word outside sorted = laws.shape_kept world (put_word place word world) sorted (elsewhere place word outside)
 
   filled_shape : Laws (list_with met) → AreSorted the_list filled

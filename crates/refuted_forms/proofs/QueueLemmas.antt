@@ -6,8 +6,7 @@ use Rattle.lin_report.specs.declared.calls.Reply.{Reply}
 use Rattle.lin_report.specs.declared.calls.Reply.TheVariants.{Empty}
 use Rattle.lin_report.specs.declared.calls.Outcome.TheVariants.{Plain}
 use Rattle.lin_report.specs.declared.calls.TheConstants.{TAKE}
-use Rattle.lin_report.specs.Object.{object_of}
-use Rattle.lin_report.specs.Commands.{IsCommandOf}
+use Rattle.lin_report.specs.Object.{IsCommandOf}
 use Rattle.word_fields.specs.Versioned.{versioned_value, versioned_bit, versioned_version, versioned_word, changed_word}
 use Rattle.node_arena.specs.declared.places.TheConstants.{TAIL}
 use Rattle.node_arena.specs.MemoryMap.{block_place, node_place, node_named}
@@ -35,7 +34,7 @@ put_world = linked queue_form.cause_of
 abbrev the_take : Op
 the_take = record { code = TAKE; key = 0; value = 0 }
 
-take_command : IsCommandOf queue_form.client the_take
+take_command : IsCommandOf queue_form.object the_take
 take_command = record { command = refl; value = omega arith }
 
 knows_head : Knows (TakeTail dummy_word) the_take put_world 1
@@ -56,11 +55,11 @@ says_empty Empty = true
 says_empty reply = false
 
 -- it would be told that the queue was empty, since the put
-never_empty : ¬ RightSince (object_of queue_form.client) put_world the_take 1 (Plain Empty)
+never_empty : ¬ RightSince queue_form.object put_world the_take 1 (Plain Empty)
 never_empty right = true≢false (ap says_empty (subst told one right.told))
   where
     told : ℕ → Type 0
-    told count = Empty ≡ ((object_of queue_form.client).apply the_take (held_after (object_of queue_form.client) (first_changes count put_world.changes))).1
+    told count = Empty ≡ (queue_form.object.apply the_take (held_after queue_form.object (first_changes count put_world.changes))).1
 
     one : right.count ≡ 1
     one = omega (arith, right.not_before, right.made)
@@ -69,7 +68,7 @@ pub no_laws_without_a_look : ¬ Laws queue_without_a_look
 unfolding versioned_value versioned_word changed_word block_place node_place node_named opening_word
 no_laws_without_a_look laws =
     let shape = linked_shape found_at_the_tail queue_form.wrap_begun_of queue_form.cause_of laws in
-    let told : RightSince (object_of queue_form.client) put_world the_take 1 (Plain Empty) × IsFixed queue_form (Plain Empty) = (laws.search_fed put_world put_world (record { before = put_world.words TAIL; won = true }) (TakeTail dummy_word) the_take 1 take_command shape tt knows_head (loaded TAIL)).1 in
+    let told : RightSince queue_form.object put_world the_take 1 (Plain Empty) × IsFixed queue_form (Plain Empty) = (laws.search_fed put_world put_world (record { before = put_world.words TAIL; won = true }) (TakeTail dummy_word) the_take 1 take_command shape tt knows_head (loaded TAIL)).1 in
     never_empty told.0
 
 -- ---- the wrap-up of the put

@@ -3,7 +3,7 @@ use Rattle.std.proofs.Common.{◌≡◌, ℕ, false, List, [], ◌∷◌, Some, 
 use Rattle.std.proofs.lemmas.List.Elements.{All-nil, All-cons}
 use Rattle.lin_report.specs.declared.calls.Op.{Op}
 use Rattle.lin_report.specs.declared.calls.TheConstants.{PUT}
-use Rattle.lin_report.specs.Commands.{IsCommandOf}
+use Rattle.lin_report.specs.Object.{IsCommandOf}
 use Rattle.step_memory.specs.declared.steps.Seen.{Seen}
 use Rattle.word_fields.specs.Versioned.{versioned_value, versioned_bit, versioned_version, versioned_word, changed_word, cleared_word}
 use Rattle.word_fields.specs.Announced.{op_word, value_word}
@@ -27,6 +27,7 @@ use Rattle.ms_queue_form.specs.Search.{offered, next_place}
 use Rattle.ms_queue_form.specs.Shape.{IsQueue}
 use Rattle.ms_queue_form.specs.Knowledge.{Knows}
 use Rattle.ms_queue_form.specs.Form.{queue_form}
+use Rattle.ms_queue_form.specs.Chain.{is_root}
 
 -- ---- put 7 of seat 0
 
@@ -66,7 +67,7 @@ linked cause =
     let after = exchanged (record queue_form { cause_of = cause }) (By the_list 0) (Some the_list) the_entry the_entry.to filled in
     record { words = after.words; changes = after.changes; used = using_block 1 after.used; journal = after.journal }
 
-pub the_command : IsCommandOf queue_form.client the_put
+pub the_command : IsCommandOf queue_form.object the_put
 the_command = record { command = refl; value = omega arith }
 
 -- the dummy node was seen at the tail, before and after
@@ -110,7 +111,7 @@ module _ (found : QueueSearch → Seen → Found) (begun : Op → List Entry →
   pub offered_in : (world : World) → Knows the_search the_put world 0 → IsOffered form world the_list the_search 0
   offered_in world knows = record { command = the_command; knows = knows; ready = tt; small = omega arith; entries = refl }
 
-  pub elsewhere_kept : Laws form → (world : World) (place word : ℕ) → is_word world place ≡ false → IsQueue world → IsQueue (put_word place word world)
+  pub elsewhere_kept : Laws form → (world : World) (place word : ℕ) → is_word is_root world place ≡ false → IsQueue world → IsQueue (put_word place word world)
   elsewhere_kept laws world place word outside queue = laws.shape_kept world (put_word place word world) queue (elsewhere place word outside)
 
   pub filled_shape : Laws form → IsQueue filled

@@ -6,7 +6,7 @@ use Rattle.std.proofs.lemmas.List.{map-append, append-nil}
 use Rattle.std.proofs.lemmas.Grind.{flat_map-append}
 use Rattle.lin_report.specs.declared.calls.Client.{Client}
 use Rattle.lin_report.specs.Calls.{Call}
-use Rattle.lin_report.specs.Commands.{is_command}
+use Rattle.lin_report.specs.Object.{is_command}
 use Rattle.lin_report.specs.Text.{NEWLINE, call_line, lines}
 use Rattle.lin_report.specs.Writing.{IsPrintable}
 use Rattle.report_check.specs.declared.call_lines.CallLine.{CallLine}

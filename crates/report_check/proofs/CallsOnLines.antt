@@ -13,7 +13,8 @@ use Rattle.lin_report.specs.declared.calls.Client.TheVariants as client
 use Rattle.lin_report.specs.declared.calls.Op.{Op}
 use Rattle.lin_report.specs.declared.calls.Reply.{Reply}
 use Rattle.lin_report.specs.declared.calls.Path.{Path}
-use Rattle.lin_report.specs.Commands.{VALUE_LIMIT, is_command, is_some_command, told_value}
+use Rattle.lin_report.specs.Commands.{VALUE_LIMIT, is_some_command, told_value}
+use Rattle.lin_report.specs.Object.{is_command}
 use Rattle.lin_report.specs.Calls.{Call}
 use Rattle.lin_report.specs.Text.{SPACE, NEWLINE, line, command_words, answer_words, end_word, path_word, call_line}
 use Rattle.lin_report.specs.Writing.{TICK_LIMIT, IsPrintable, IsPrintableAnswer}

@@ -12,7 +12,8 @@ use Rattle.lin_report.specs.declared.calls.Reply.TheVariants.{Yes, No, Done, Val
 use Rattle.lin_report.specs.declared.calls.Path.{Path}
 use Rattle.lin_report.specs.declared.calls.Path.TheVariants.{Fast, Slow}
 use Rattle.lin_report.specs.declared.calls.TheConstants.{PUT, TAKE, ADD, DEL, HAS, SET, REM, GET, PEEK}
-use Rattle.lin_report.specs.Commands.{VALUE_LIMIT, KEY_LIMIT, is_command, told_value}
+use Rattle.lin_report.specs.Commands.{VALUE_LIMIT, KEY_LIMIT, told_value}
+use Rattle.lin_report.specs.Object.{is_command}
 use Rattle.lin_report.specs.Calls.{Call}
 use Rattle.lin_report.specs.Text.{SPACE, NEWLINE, command_words, reply_words, end_word, path_word, call_line}
 use Rattle.lin_report.specs.Writing.{TICK_LIMIT, IsPrintable}

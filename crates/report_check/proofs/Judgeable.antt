@@ -7,8 +7,7 @@ use Rattle.std.proofs.lemmas.List.Elements.{All-from_recursion}
 use Rattle.lin_report.specs.declared.calls.Client.{Client}
 use Rattle.lin_report.specs.declared.calls.Client.TheVariants as client
 use Rattle.lin_report.specs.declared.calls.Op.{Op}
-use Rattle.lin_report.specs.Commands.{is_command}
-use Rattle.lin_report.specs.Object.{object_of}
+use Rattle.lin_report.specs.Object.{is_command, object_of}
 use Rattle.lin_report.specs.Calls.{Call, Report, calls_of, IsSameCall}
 use Rattle.lin_report.specs.Writing.{IsPrintable}
 use Rattle.report_check.specs.Orders.{IsName}

@@ -10,7 +10,8 @@ use Rattle.lin_report.specs.declared.calls.Client.{Client}
 use Rattle.lin_report.specs.declared.calls.Client.TheVariants as client
 use Rattle.lin_report.specs.declared.calls.Op.{Op}
 use Rattle.lin_report.specs.declared.calls.TheConstants.{PUT, TAKE, ADD, DEL, HAS, SET, REM, GET, PEEK, MIN}
-use Rattle.lin_report.specs.Commands.{VALUE_LIMIT, is_command, is_set_command, takes_nothing, takes_key}
+use Rattle.lin_report.specs.Commands.{VALUE_LIMIT, is_set_command, takes_nothing, takes_key}
+use Rattle.lin_report.specs.Object.{is_command}
 use Rattle.lin_report.specs.Text.{SPACE, command_words}
 use Rattle.script_reader.specs.declared.scripts.Numbers.{Numbers}
 use Rattle.script_reader.specs.declared.scripts.Numbers.TheVariants.{NoNumber, OneValue, OneKey, KeyAndValue}

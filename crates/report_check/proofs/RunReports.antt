@@ -11,7 +11,7 @@ use Rattle.lin_report.specs.declared.calls.Client.{Client}
 use Rattle.lin_report.specs.declared.calls.Op.{Op}
 use Rattle.lin_report.specs.declared.calls.Receipt.{Receipt}
 use Rattle.lin_report.specs.declared.calls.PendingCall.{PendingCall}
-use Rattle.lin_report.specs.Commands.{is_command}
+use Rattle.lin_report.specs.Object.{is_command, object_of}
 use Rattle.lin_report.specs.CommandFiles.{IsCommandFile}
 use Rattle.lin_report.specs.Calls.{Call, Report, answered_call, pending_call, calls_of}
 use Rattle.lin_report.specs.Report.{file_of, ticks_of, IsCommand, IsReport}
@@ -92,7 +92,7 @@ both : (P Q : Call → Type 0) (calls : List Call) → AllByRecursion P calls �
 both P Q [] first second = tt
 both P Q (c ∷ calls) first second = ((first.0, second.0), both P Q calls first.1 second.1)
 
-module _ (client : Client) (files : List (List Op)) (report : Report) (overtaken : Option ℕ) (commands : All (IsCommandFile client) files) (is : IsReport files report) (can : CanWrite report overtaken) where
+module _ (client : Client) (files : List (List Op)) (report : Report) (overtaken : Option ℕ) (commands : All (IsCommandFile (object_of client)) files) (is : IsReport files report) (can : CanWrite report overtaken) where
   abbrev own : List Call
   own = by_begin (calls_of report)
 

@@ -4,7 +4,7 @@ use Rattle.std.specs.Option.{option_map}
 use Rattle.std.specs.List.{list_any}
 use Rattle.lin_report.specs.declared.calls.Client.{Client}
 use Rattle.lin_report.specs.declared.calls.Reply.{Reply}
-use Rattle.lin_report.specs.Commands.{is_command}
+use Rattle.lin_report.specs.Object.{is_command}
 use Rattle.lin_report.specs.Calls.{Call}
 use Rattle.lin_report.specs.Text.{call_line, lines}
 use Rattle.lin_report.specs.Writing.{IsPrintable}

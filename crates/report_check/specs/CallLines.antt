@@ -8,7 +8,8 @@ use Rattle.lin_report.specs.declared.calls.Reply.{Reply}
 use Rattle.lin_report.specs.declared.calls.Reply.TheVariants.{Yes, No, Done, Value, Empty, Absent, Exhausted}
 use Rattle.lin_report.specs.declared.calls.Path.{Path}
 use Rattle.lin_report.specs.declared.calls.Path.TheVariants.{Fast, Slow}
-use Rattle.lin_report.specs.Commands.{is_command, may_answer}
+use Rattle.lin_report.specs.Commands.{may_answer}
+use Rattle.lin_report.specs.Object.{is_command}
 use Rattle.lin_report.specs.Calls.{Call}
 use Rattle.lin_report.specs.Text.{NEWLINE, call_line}
 use Rattle.lin_report.specs.Writing.{IsPrintable}

@@ -12,6 +12,7 @@ use Rattle.lin_report.specs.CommandFiles.{IsCommandFile}
 use Rattle.lin_report.specs.Report.{IsReport}
 use Rattle.lin_report.specs.Text.{by_begin, summary_text, report_text}
 use Rattle.lin_report.specs.Writing.{CanWrite}
+use Rattle.lin_report.specs.Object.{object_of}
 use Rattle.report_check.specs.declared.parting.ReadReport.{ReadReport}
 use Rattle.report_check.specs.declared.reports.ReportFault.{ReportFault}
 use Rattle.report_check.specs.declared.reports.ReportFault.TheVariants.{TooLong, AtFault, NoMemory}
@@ -94,7 +95,7 @@ pub record IsTextOf (client : Client) (bytes : List ℕ) (report : Report) : Typ
 -- count that a summary may tell, and with no more calls than the files of eight seats may have
 abbrev pub RunReportsAreTexts : Type 0
 RunReportsAreTexts =
-    (client : Client) (files : List (List Op)) (report : Report) (overtaken : Option ℕ) → All (IsCommandFile client) files → IsReport files report → CanWrite report overtaken → MayTell overtaken
+    (client : Client) (files : List (List Op)) (report : Report) (overtaken : Option ℕ) → All (IsCommandFile (object_of client)) files → IsReport files report → CanWrite report overtaken → MayTell overtaken
     → length (calls_of report) ≤ 524280 → IsReportText client (report_text report overtaken) report overtaken
 
 -- behind the summary line stands more

@@ -5,7 +5,8 @@ use Rattle.step_memory.specs.declared.steps.Request.{Request}
 use Rattle.step_memory.specs.declared.steps.Request.TheVariants.{Exchange}
 use Rattle.step_memory.specs.Step.{seen_of}
 use Rattle.word_fields.specs.Versioned.{cleared_word, marked_word, versioned_bit, versioned_version}
-use Rattle.node_arena.specs.declared.places.TheConstants.{HEAD, TAIL, FIRST_WORDS}
+use Rattle.node_arena.specs.declared.places.TheConstants.{FIRST_WORDS}
+use Rattle.node_arena.specs.MemoryMap.{is_root_place}
 use Rattle.normal_traits.specs.World.{Listed, Won, Among}
 use Rattle.normal_traits.specs.World.Maker.{By}
 use Rattle.normal_traits.specs.NormalForm.{NormalForm}
@@ -34,7 +35,7 @@ pub record WonExchange : Type 0 where
 
 -- whether a client may have words at the place: at head and tail, and behind the first words, which are the engine's
 abbrev pub is_clients_place : ℕ → Bool
-is_clients_place place = place == HEAD || place == TAIL || nat_le FIRST_WORDS place
+is_clients_place place = is_root_place place || nat_le FIRST_WORDS place
 
 -- whether a word is exchanged for one of another version: the clearing of a bit that a helper has set is none, it leaves
 -- the version

@@ -44,7 +44,7 @@ pub fn blocks_agreed<C: Normalized>()
     ensures { BlocksAgreed C.form }
 {}
 
-/// A record's outcome is fixed once the record is completed: it is that one word until the next call of its seat.
+/// A record's outcome is fixed once the record is completed: it is that one word while the record has this number.
 pub fn outcomes_fixed<C: Normalized>()
     ensures { OutcomesFixed C.form }
 {}

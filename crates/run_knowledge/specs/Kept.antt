@@ -1,9 +1,10 @@
 -- What holds of every run of the whole phase table, for any client with its laws: of the client's world and the blocks that
 -- records have named, and of what each machine knows and tells. And the laws of one move and of all.
-use Rattle.std.specs.Prelude.{◌≡◌, ℕ, ◌≤◌, true, ◌⊎◌, List, ◌∷◌, length, slice_get, Option, Some, None}
-use Rattle.lin_report.specs.Commands.{IsCommandOf}
+use Rattle.std.specs.Prelude.{◌≡◌, ℕ, ◌≤◌, true, List, ◌∷◌, length, slice_get, Option, Some, None}
+use Rattle.lin_report.specs.Object.{IsCommandOf}
 use Rattle.word_fields.specs.Versioned.{versioned_version}
-use Rattle.node_arena.specs.declared.places.TheConstants.{TICKS, CLAIMS, HEAD, TAIL, FIRST_WORDS}
+use Rattle.node_arena.specs.declared.places.TheConstants.{TICKS, CLAIMS}
+use Rattle.node_arena.specs.MemoryMap.{MayBeClients}
 use Rattle.normal_traits.specs.World.{World}
 use Rattle.normal_traits.specs.NormalForm.{NormalForm}
 use Rattle.fast_slow_engine.specs.declared.setup.Setup.{Setup}
@@ -22,10 +23,6 @@ use Rattle.run_world.specs.Ghosts.{Ghost, Held, SeatGhost}
 use Rattle.run_world.specs.RunGhosts.{ghost_of, world_of}
 use Rattle.step_knowledge.specs.Known.{KnowsIn}
 use Rattle.run_knowledge.specs.Tells.{AllFollowed, ChangesBelow, CountsIn, IsAnnounced, TellsIn}
-
--- the place is one of those at which a client may have words: head, tail, or behind the first words
-abbrev pub MayBeClients : ℕ → Type 0
-MayBeClients place = (place ≡ HEAD) ⊎ (place ≡ TAIL) ⊎ (FIRST_WORDS ≤ place)
 
 -- the call that a seat makes; of a seat that there isn't, none
 abbrev pub caller_at : {S W : Type 0} → Option (Mech S W) → ℕ → Caller
@@ -52,7 +49,7 @@ module _ {S W : Type 0} (form : NormalForm S W) where
   -- what holds of a seat
   pub record KnowsWell (mech : Mech S W) (own : SeatGhost S) (world : World) (offers : ℕ → Option (Offer S)) (callers : ℕ → Caller) : Type 0 where
     -- the operation of its call is a command, also once that is over
-    pub command : 1 ≤ mech.number → IsCommandOf form.client mech.op
+    pub command : 1 ≤ mech.number → IsCommandOf form.object mech.op
     pub knows : KnowsIn form mech.phase mech own world offers callers
     pub tells : TellsIn form mech.phase mech own world
     pub counts : CountsIn mech.phase own

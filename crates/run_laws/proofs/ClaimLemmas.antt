@@ -5,12 +5,10 @@ use Rattle.std.proofs.lemmas.Bool.{cases_eq}
 use Rattle.std.proofs.lemmas.List.Elements.{All-append, All-cons, All-nil, All-weaker, Contains-append_left, Contains-append_right}
 use Rattle.std.proofs.lemmas.List.Sums.{sum_by-le}
 use Rattle.std.proofs.lemmas.Option.{slice_get_within}
-use Rattle.lin_report.specs.declared.calls.Client.{Client}
-use Rattle.lin_report.specs.declared.calls.Client.TheVariants as client
 use Rattle.lin_report.specs.declared.calls.Op.{Op}
 use Rattle.step_memory.specs.Step.{seen_of, words_after}
 use Rattle.step_memory.proofs.Words.{length-words_after}
-use Rattle.node_arena.specs.Opening.{opening_word}
+use Rattle.node_arena.proofs.Openings.{opens_zero_at}
 use Rattle.node_arena.proofs.OpeningLemmas.{length-opening_words, opening_each}
 use Rattle.normal_traits.specs.NormalForm.{NormalForm}
 use Rattle.fast_slow_engine.specs.declared.phases.Phase.{Phase}
@@ -27,14 +25,6 @@ use Rattle.run_laws.proofs.SeatLemmas.{new_mech, seats_stay}
 use Rattle.run_laws.proofs.TickLemmas.{each_all, set_sum}
 use Rattle.run_laws.proofs.ClaimKinds.{ClaimKind, claims, finds_none, keeps, at_claim, claim_kind}
 use Rattle.run_laws.proofs.Summaries.{each_moved}
-
--- no block is claimed when a run opens
-no_claim : (c : Client) → opening_word c 2 ≡ 0
-unfolding opening_word
-no_claim client.Queue = refl
-no_claim client.List = refl
-no_claim client.Tree = refl
-no_claim client.Buckets = refl
 
 contained : {X : Type 0} (P : X → Type 0) (xs : List X) (x : X) → All P xs → Contains xs x → P x
 contained P xs x each has = subst P has.2 (each has.0 x has.1)
@@ -236,11 +226,11 @@ module _ {S W : Type 0} where
     kept_open : (setup : Setup) → ClaimsKept setup (run_of form setup []) []
     kept_open setup =
         let state = run_of form setup [] in
-        let none : counter_of state ≡ 0 = opening_each form.client setup.cap 2 (omega arith) ∙ no_claim form.client in
+        let none : counter_of state ≡ 0 = opening_each form.opening setup.cap 2 (omega arith) ∙ opens_zero_at form.opening form.opens 2 (inl (omega arith)) in
         let empty = λ (seat : ℕ) (mech : Mech S W) (at : slice_get state.mechs seat ≡ Some mech). ap (λ (m : Mech S W). m.hand) (new_mech form setup seat mech at) in
         let few = sum_by-le claiming 0 state.mechs (each_all (λ mech. claiming mech ≤ 0) state.mechs (λ seat mech at. subst (λ (m : Mech S W). claiming m ≤ 0) (sym (new_mech form setup seat mech at)) (omega arith))) in
         record {
-          inside = omega (arith, length-opening_words form.client setup.cap);
+          inside = omega (arith, length-opening_words form.opening setup.cap);
           count = (seats_stay form setup [] tt).count;
           counter = omega (arith, none, few, setup.some_block);
           claimed = All-nil (IsClaimed setup (counter_of state));

@@ -2,7 +2,7 @@
 use Rattle.std.proofs.Common.{rules, arith, ◌≡◌, ◌∙◌, refl, sym, subst, ap, ℕ, ◌+◌, ◌-◌, ◌<◌, ◌≤◌, Bool, true, false, List, [], ◌∷◌, length, slice_get, slice_index_or, Option, Some, None, option_map}
 use Rattle.std.proofs.lemmas.Option.{get_or_from_slice_get, slice_get_within}
 use Rattle.lin_report.specs.declared.calls.Op.{Op}
-use Rattle.lin_report.specs.Commands.{IsCommandOf}
+use Rattle.lin_report.specs.Object.{IsCommandOf}
 use Rattle.lin_report.specs.CommandFiles.{IsCommandFile}
 use Rattle.lin_report.specs.Report.{file_of}
 use Rattle.step_memory.specs.Step.{seen_of}
@@ -77,20 +77,20 @@ module _ {S W : Type 0} where
   }
 
   module _ (form : NormalForm S W) where
-    can_move : (file : List Op) (begins : Option Op) (mech : Mech S W) → IsCommandFile form.client file → IsNext begins file mech → CanMove form begins mech
+    can_move : (file : List Op) (begins : Option Op) (mech : Mech S W) → IsCommandFile form.object file → IsNext begins file mech → CanMove form begins mech
     can_move file None mech runnable next = next
     can_move file (Some op) mech runnable next =
         let inside = slice_get_within file mech.number op next.1 in
-        (next.0, omega (arith, inside, runnable.few), subst (λ o. IsCommandOf form.client o) (get_or_from_slice_get file mech.number op op next.1) (runnable.commands mech.number op inside))
+        (next.0, omega (arith, inside, runnable.few), subst (λ o. IsCommandOf form.object o) (get_or_from_slice_get file mech.number op op next.1) (runnable.commands mech.number op inside))
 
-    run_more : (setup : Setup) (files : List (List Op)) (moves : List Move) (move : Move) → FilesFit form.client setup files → IsFileRun form setup files moves
+    run_more : (setup : Setup) (files : List (List Op)) (moves : List Move) (move : Move) → FilesFit form.object setup files → IsFileRun form setup files moves
         → IsNextOf files (run_of form setup moves).mechs move → IsFileRun form setup files (move ∷ moves)
     run_more setup files moves move fit run next =
         let state = run_of form setup moves in
         let inside = slice_get_within files move.seat next.file next.filed in
         let own : slice_index_or files move.seat next.file ≡ next.file = get_or_from_slice_get files move.seat next.file next.file next.filed in
         let file : file_of files move.seat ≡ next.file = get_or_from_slice_get files move.seat next.file [] next.filed in
-        let runnable = subst (IsCommandFile form.client) own (fit.runnable move.seat next.file inside) in
+        let runnable = subst (IsCommandFile form.object) own (fit.runnable move.seat next.file inside) in
         let mech = begun move.begins next.mech in
         let seen = seen_of (mech_request form mech) state.words in
         let old = subst (λ f. RunsFile f next.mech) file (run.runs move.seat next.mech next.seated) in
@@ -103,7 +103,7 @@ module _ {S W : Type 0} where
               (subst (λ f. RunsFile f (mech_fed form mech seen)) (sym file) new));
         }
 
-    with_next : (setup : Setup) (files : List (List Op)) (moves : List Move) (seat : ℕ) (o : Option Move) → FilesFit form.client setup files → IsFileRun form setup files moves
+    with_next : (setup : Setup) (files : List (List Op)) (moves : List Move) (seat : ℕ) (o : Option Move) → FilesFit form.object setup files → IsFileRun form setup files moves
         → next_move files seat (run_of form setup moves) ≡ o → IsFileRun form setup files (with_move o moves)
     with_next setup files moves seat None fit run e = run
     with_next setup files moves seat (Some move) fit run e =

@@ -115,7 +115,7 @@ module _ {S W : Type 0} where
     over_with setup files moves None over runs = over
     over_with setup files moves (Some move) over runs = (over, runs)
 
-    over_files : (setup : Setup) (files : List (List Op)) (order : List ℕ) → FilesFit form.client setup files → OverFiles setup files (moves_over form setup files order)
+    over_files : (setup : Setup) (files : List (List Op)) (order : List ℕ) → FilesFit form.object setup files → OverFiles setup files (moves_over form setup files order)
     over_files setup files [] fit = tt
     over_files setup files (seat ∷ older) fit =
         let moves = moves_over form setup files older in

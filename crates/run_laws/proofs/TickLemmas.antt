@@ -1,18 +1,16 @@
 -- The tick counter counts the ticks that were drawn.
-use Rattle.std.proofs.Common.{arith, ◌≡◌, ◌∙◌, refl, sym, subst, ℕ, ◌+◌, ◌-◌, ◌*◌, ◌<◌, ◌≤◌, ◌^◌, false, List, [], ◌∷◌, length, length-append, length-set, get_or, slice_get, slice_set, Option, Some, None, All, ap}
+use Rattle.std.proofs.Common.{arith, ◌≡◌, ◌∙◌, refl, sym, subst, ℕ, ◌+◌, ◌-◌, ◌*◌, ◌<◌, ◌≤◌, ◌^◌, false, List, [], ◌∷◌, length, length-append, length-set, get_or, slice_get, slice_set, Option, Some, None, All, ap, inl}
 use Rattle.std.specs.Prelude.{sum_by}
 use Rattle.std.specs.Option.{option_to_list}
 use Rattle.std.proofs.lemmas.List.Elements.{filter-append}
 use Rattle.std.proofs.lemmas.List.Sums.{sum_by-le, sum_by-set}
 use Rattle.std.proofs.lemmas.Option.{get_or_from_slice_get, slice_get-get_or, slice_get_within}
-use Rattle.lin_report.specs.declared.calls.Client.{Client}
-use Rattle.lin_report.specs.declared.calls.Client.TheVariants as client
 use Rattle.lin_report.specs.declared.calls.Op.{Op}
 use Rattle.lin_report.specs.declared.calls.Receipt.{Receipt}
 use Rattle.lin_report.specs.declared.events.Event.{Event}
 use Rattle.step_memory.specs.Step.{seen_of, words_after}
 use Rattle.step_memory.proofs.Words.{length-words_after}
-use Rattle.node_arena.specs.Opening.{opening_word}
+use Rattle.node_arena.proofs.Openings.{opens_zero_at}
 use Rattle.node_arena.proofs.OpeningLemmas.{length-opening_words, opening_each}
 use Rattle.normal_traits.specs.NormalForm.{NormalForm}
 use Rattle.fast_slow_engine.specs.declared.setup.Setup.{Setup}
@@ -27,14 +25,6 @@ use Rattle.run_laws.specs.Ticks.{MoveKeepsTicks, KeepsTicks, TicksCount}
 use Rattle.run_laws.proofs.Steps.{each_set, move_steps}
 use Rattle.run_laws.proofs.SeatLemmas.{new_mech, seats_stay}
 use Rattle.run_laws.proofs.StepKinds.{StepKind, begins, returns, goes, kind_of, rests_none}
-
--- no tick is drawn when a run opens
-no_tick : (c : Client) → opening_word c 0 ≡ 0
-unfolding opening_word
-no_tick client.Queue = refl
-no_tick client.List = refl
-no_tick client.Tree = refl
-no_tick client.Buckets = refl
 
 module _ {S W : Type 0} where
   -- how many ticks a seat has drawn
@@ -128,14 +118,14 @@ module _ {S W : Type 0} where
         })
 
     pub opening_word_at : (setup : Setup) → get_or (opening_run form setup).words 0 0 ≡ 0
-    opening_word_at setup = opening_each form.client setup.cap 0 (omega arith) ∙ no_tick form.client
+    opening_word_at setup = opening_each form.opening setup.cap 0 (omega arith) ∙ opens_zero_at form.opening form.opens 0 (inl (omega arith))
 
     counts_open : (setup : Setup) → CountsTicks (opening_run form setup)
     counts_open setup =
         let state = opening_run form setup in
         let none = sum_by-le ticks_had 0 state.mechs (each_all (λ mech. ticks_had mech ≤ 0) state.mechs (λ seat mech at. subst (λ (m : Mech S W). ticks_had m ≤ 0) (sym (new_mech form setup seat mech at)) (omega arith))) in
         record {
-          inside = omega (arith, length-opening_words form.client setup.cap);
+          inside = omega (arith, length-opening_words form.opening setup.cap);
           few = λ seat mech at. subst IsFew (sym (new_mech form setup seat mech at)) (record { number = omega arith; left = omega arith });
           seats = omega (arith, (seats_stay form setup [] tt).count, setup.few_seats);
           word = omega (arith, opening_word_at setup, none);

@@ -1,7 +1,7 @@
 -- A run over command files makes their commands.
 use Rattle.std.specs.Prelude.{◌≡◌, ℕ, ◌-◌, ◌<◌, ◌≤◌, false, List, length, slice_get, Some, All}
-use Rattle.lin_report.specs.declared.calls.Client.{Client}
 use Rattle.lin_report.specs.declared.calls.Op.{Op}
+use Rattle.lin_report.specs.Object.{Object}
 use Rattle.lin_report.specs.CommandFiles.{IsCommandFile}
 use Rattle.lin_report.specs.Report.{file_of}
 use Rattle.normal_traits.specs.NormalForm.{NormalForm}
@@ -12,9 +12,9 @@ use Rattle.fast_slow_engine.specs.Runs.{Move, AreMoves, run_of, moves_over}
 use Rattle.run_laws.specs.Seats.{EachMech}
 
 -- the files can be run: one for each seat
-pub record FilesFit (client : Client) (setup : Setup) (files : List (List Op)) : Type 0 where
+pub record FilesFit (object : Object) (setup : Setup) (files : List (List Op)) : Type 0 where
   pub count : length files ≡ setup.seats
-  pub runnable : All (IsCommandFile client) files
+  pub runnable : All (IsCommandFile object) files
 
 -- the call of the machine is the command of the file with its number, counted from 1, and as many calls
 -- have begun as its number says; a report names its commands by this
@@ -31,4 +31,4 @@ module _ {S W : Type 0} (form : NormalForm S W) where
 
   -- every order of the seats runs the files
   abbrev pub FilesRun : Type 0
-  FilesRun = (setup : Setup) (files : List (List Op)) (order : List ℕ) → FilesFit form.client setup files → IsFileRun setup files (moves_over form setup files order)
+  FilesRun = (setup : Setup) (files : List (List Op)) (order : List ℕ) → FilesFit form.object setup files → IsFileRun setup files (moves_over form setup files order)

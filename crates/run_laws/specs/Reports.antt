@@ -13,5 +13,5 @@ module _ {S W : Type 0} (form : NormalForm S W) where
   -- every order of the seats makes a report over the files; linearizability is a property of such a report
   abbrev pub RunsReport : Type 0
   RunsReport =
-      (setup : Setup) (files : List (List Op)) (order : List ℕ) → FilesFit form.client setup files → KeepsTicks form setup (moves_over form setup files order)
+      (setup : Setup) (files : List (List Op)) (order : List ℕ) → FilesFit form.object setup files → KeepsTicks form setup (moves_over form setup files order)
       → IsReport files (report_of_run (run_of form setup (moves_over form setup files order)))

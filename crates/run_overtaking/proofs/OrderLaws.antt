@@ -138,7 +138,7 @@ module _ {S W : Type 0} where
       queue = record {
         published' = λ t n c. absurd (in_none _ c);
         completed' = λ t n c. absurd (in_none _ c);
-        waits = λ t in' opened. absurd (not_both in' (opens_out form.client setup.cap t));
+        waits = λ t in' opened. absurd (not_both in' (opens_out form.opening form.opens setup.cap t));
       };
       calls = λ i mech found. record { begun' = λ n c. absurd (in_none _ c); returned' = λ n c. absurd (in_none _ c) };
     }

@@ -3,7 +3,6 @@ use Rattle.std.specs.Prelude.{◌≡◌, ◌≢◌, ℕ, ◌<◌, ◌≤◌, fal
 use Rattle.lin_report.specs.declared.calls.Receipt.{Receipt}
 use Rattle.lin_report.specs.declared.calls.Reply.TheVariants.{Exhausted}
 use Rattle.lin_report.specs.Commands.{may_exhaust}
-use Rattle.lin_report.specs.Object.{object_of}
 use Rattle.node_arena.specs.declared.places.TheConstants.{CLAIMS}
 use Rattle.normal_traits.specs.World.{Called, Change, Listed, Won, Among, Observes, first_changes, held_after}
 use Rattle.normal_traits.specs.World.Maker.{By}
@@ -56,8 +55,8 @@ module _ {S W : Type 0} (form : NormalForm S W) where
     pub count : ℕ
     pub begun : changes_at form setup moves r.begin ≤ count
     pub ended : count ≤ changes_at form setup moves r.end
-    pub observes : Observes (object_of form.client) r.op (held_after (object_of form.client) (first_changes count (ghost_of form setup moves).changes))
-    pub told : r.reply ≡ ((object_of form.client).apply r.op (held_after (object_of form.client) (first_changes count (ghost_of form setup moves).changes))).1
+    pub observes : Observes form.object r.op (held_after form.object (first_changes count (ghost_of form setup moves).changes))
+    pub told : r.reply ≡ (form.object.apply r.op (held_after form.object (first_changes count (ghost_of form setup moves).changes))).1
     pub unchanged : ChangedNone setup moves r
 
   -- no block was left for it before its seat drew its end tick, and it changed nothing

@@ -11,4 +11,4 @@ use Rattle.run_laws.specs.Files.{FilesFit}
 module _ {S W : Type 0} (form : NormalForm S W) where
   -- in any order of the seats, the receipts with the calls that run are a report over the command files
   abbrev pub FilesReport : Type 0
-  FilesReport = (setup : Setup) (files : List (List Op)) (order : List ℕ) → FilesFit form.client setup files → IsReport files (report_of_run (run_of form setup (moves_over form setup files order)))
+  FilesReport = (setup : Setup) (files : List (List Op)) (order : List ℕ) → FilesFit form.object setup files → IsReport files (report_of_run (run_of form setup (moves_over form setup files order)))

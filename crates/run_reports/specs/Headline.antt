@@ -6,7 +6,6 @@ use Rattle.lin_report.specs.declared.calls.Op.{Op}
 use Rattle.lin_report.specs.declared.calls.Receipt.{Receipt}
 use Rattle.lin_report.specs.declared.calls.Reply.TheVariants.{Exhausted}
 use Rattle.lin_report.specs.Linearizable.{IsLinearizable}
-use Rattle.lin_report.specs.Object.{object_of}
 use Rattle.lin_report.specs.Report.{IsReport}
 use Rattle.normal_traits.specs.AtOnce.{ChangesAtOnce}
 use Rattle.normal_traits.specs.NormalForm.{NormalForm}
@@ -29,7 +28,7 @@ use Rattle.run_reports.specs.History.{HasHistory}
 -- that were won, with a cause of its own for each; and no call, completed or not, was overtaken more often than the bound says
 pub record MeetsHeadline {S W : Type 0} (form : NormalForm S W) (setup : Setup) (files : List (List Op)) (order : List ℕ) : Type 0 where
   pub complete : IsReport files (report_of_run (run_of form setup (moves_over form setup files order)))
-  pub linearizable : IsLinearizable (object_of form.client) (report_of_run (run_of form setup (moves_over form setup files order)))
+  pub linearizable : IsLinearizable form.object (report_of_run (run_of form setup (moves_over form setup files order)))
   pub history : HasHistory form setup (moves_over form setup files order)
   pub none_left : All (λ (r : Receipt). r.reply ≡ Exhausted → WasRefused form setup (moves_over form setup files order) r) (run_of form setup (moves_over form setup files order)).receipts
   pub none_won : ChangesAtOnce form → All (λ (r : Receipt). r.reply ≡ Exhausted → WonNone form setup (moves_over form setup files order) r) (run_of form setup (moves_over form setup files order)).receipts
@@ -41,4 +40,4 @@ pub record MeetsHeadline {S W : Type 0} (form : NormalForm S W) (setup : Setup) 
 -- every run of files that fit does
 abbrev pub FilesMeetHeadline : {S W : Type 0} → NormalForm S W → Type 0
 FilesMeetHeadline form =
-    (setup : Setup) (files : List (List Op)) (order : List ℕ) → FilesFit form.client setup files → MeetsHeadline form setup files order
+    (setup : Setup) (files : List (List Op)) (order : List ℕ) → FilesFit form.object setup files → MeetsHeadline form setup files order

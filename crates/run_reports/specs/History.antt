@@ -1,6 +1,5 @@
 -- How the calls of a run stand to its changes, and its ticks to its moments.
 use Rattle.std.specs.Prelude.{◌≡◌, ◌≢◌, ℕ, ◌<◌, List, ◌++◌, length, slice_index, All, AllPairs}
-use Rattle.lin_report.specs.Object.{object_of}
 use Rattle.node_arena.specs.declared.places.TheConstants.{TICKS}
 use Rattle.normal_traits.specs.World.{Change}
 use Rattle.normal_traits.specs.NormalForm.{NormalForm}
@@ -28,7 +27,7 @@ module _ {S W : Type 0} (form : NormalForm S W) where
   -- the changes are a history in which the calls of the report are placed: each was made by one of them while it ran
   abbrev pub CallsPlaced : Setup → List Move → Type 0
   CallsPlaced setup moves =
-      IsPlaced (object_of form.client) (history_of (ghost_of form setup moves).changes) (changes_at form setup moves) (report_of_run (run_of form setup moves))
+      IsPlaced form.object (history_of (ghost_of form setup moves).changes) (changes_at form setup moves) (report_of_run (run_of form setup moves))
 
   -- each tick below the counter was drawn by a move
   abbrev pub TicksDrawn : Setup → List Move → Type 0

@@ -5,7 +5,6 @@ use Rattle.lin_report.specs.declared.calls.Receipt.{Receipt}
 use Rattle.lin_report.specs.declared.calls.Reply.TheVariants.{Exhausted}
 use Rattle.lin_report.specs.Commands.{IsReplyTo}
 use Rattle.lin_report.specs.Linearizable.{IsLinearizable}
-use Rattle.lin_report.specs.Object.{object_of}
 use Rattle.normal_traits.specs.AtOnce.{ChangesAtOnce}
 use Rattle.normal_traits.specs.NormalForm.{NormalForm}
 use Rattle.fast_slow_engine.specs.declared.setup.Setup.{Setup}
@@ -18,13 +17,13 @@ module _ {S W : Type 0} (form : NormalForm S W) where
   -- in any order of the seats, the report over the command files is linearizable
   abbrev pub FilesLinearizable : Type 0
   FilesLinearizable =
-      (setup : Setup) (files : List (List Op)) (order : List ℕ) → FilesFit form.client setup files
-      → IsLinearizable (object_of form.client) (report_of_run (run_of form setup (moves_over form setup files order)))
+      (setup : Setup) (files : List (List Op)) (order : List ℕ) → FilesFit form.object setup files
+      → IsLinearizable form.object (report_of_run (run_of form setup (moves_over form setup files order)))
 
   -- and each reply is one that its command may be given, with its value in range
   abbrev pub RepliesFit : Type 0
   RepliesFit =
-      (setup : Setup) (files : List (List Op)) (order : List ℕ) → FilesFit form.client setup files
+      (setup : Setup) (files : List (List Op)) (order : List ℕ) → FilesFit form.object setup files
       → All (λ (r : Receipt). IsReplyTo r.op r.reply) (run_of form setup (moves_over form setup files order)).receipts
 
   -- a call is told that it found no block only where none was left before it ended, and it changed nothing

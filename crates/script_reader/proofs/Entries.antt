@@ -9,7 +9,8 @@ use Rattle.lin_report.specs.declared.calls.Client.{Client}
 use Rattle.lin_report.specs.declared.calls.Client.TheVariants as client
 use Rattle.lin_report.specs.declared.calls.Op.{Op}
 use Rattle.lin_report.specs.declared.calls.TheConstants.{PUT, TAKE, ADD, DEL, HAS, SET, REM, GET, PEEK, MIN}
-use Rattle.lin_report.specs.Commands.{is_command, is_set_command, takes_nothing}
+use Rattle.lin_report.specs.Commands.{is_set_command, takes_nothing}
+use Rattle.lin_report.specs.Object.{is_command}
 use Rattle.script_reader.specs.declared.causes.Cause.TheVariants.{BadCommand, BadNumber, BadSeat}
 use Rattle.script_reader.specs.declared.scripts.Numbers.{Numbers}
 use Rattle.script_reader.specs.declared.scripts.Numbers.TheVariants.{NoNumber, OneValue, OneKey, KeyAndValue}

@@ -5,7 +5,7 @@ use Rattle.std.specs.Global.{Vec}
 use Rattle.std.proofs.lemmas.List.Elements.{All-from_recursion, All-weaker}
 use Rattle.lin_report.specs.declared.calls.Client.{Client}
 use Rattle.lin_report.specs.declared.calls.Op.{Op}
-use Rattle.lin_report.specs.Commands.{is_command}
+use Rattle.lin_report.specs.Object.{is_command}
 use Rattle.script_reader.specs.declared.causes.Refusal.{Refusal}
 use Rattle.script_reader.specs.declared.causes.ScriptFault.{ScriptFault}
 use Rattle.script_reader.specs.declared.schedules.ScheduleEntry.{ScheduleEntry}

@@ -1,6 +1,6 @@
 //! Command files: one command a line, of one client.
 ghost use Rattle.std.specs.Prelude.{◌≡◌, ◌≤◌, ◌∷◌, ℕ, List, All, IsTrue, IfOk, vec_len};
-ghost use Rattle.lin_report.specs.Commands.{is_command};
+ghost use Rattle.lin_report.specs.Object.{is_command};
 ghost use Rattle.script_reader.specs.WordList.{AreWords};
 ghost use Rattle.script_reader.specs.Outcomes.{FILE_LIMIT, ReadsAs};
 ghost use Rattle.script_reader.specs.Scripts.{queue_command, set_command, list_command, map_command, command_named, op_of, op_from_words, command_of, COMMAND_LIMIT, GREATEST_VALUE, script_outcome};

@@ -60,7 +60,7 @@ module _ {C S W : Type 0} (form : NormalForm S W) where
         }
 
     -- the words are as many as the run opened with
-    words_many : (s : State (Unit {0}) (View C S W)) → Kept form setup s → length s.words ≡ length (opening_words form.client setup.cap)
+    words_many : (s : State (Unit {0}) (View C S W)) → Kept form setup s → length s.words ≡ length (opening_words form.opening setup.cap)
     words_many s k = ap length (sym k.words) ∙ words_stay form setup k.moves k.are
 
     can_of : (v u : View C S W) (begins : Option Op) → v ≡ u → CanMove form begins u.machine → CanMove form begins v.machine
@@ -71,7 +71,7 @@ module _ {C S W : Type 0} (form : NormalForm S W) where
 
     -- the table's own form of it, of a step on a word
     allowed : (slots id count : ℕ) (v : View C S W) (begins : Option Op) (request : Request) (cs : List _) → v.live ≡ true → CanMove form begins v.machine → mech_request form (begun begins v.machine) ≡ request
-        → count ≡ length (opening_words form.client setup.cap) → place_of request < count
+        → count ≡ length (opening_words form.opening setup.cap) → place_of request < count
         → Allows (Kept form setup) slots id (v, cs) (place_of request) (word_after request) (λ n after. Advances form begins (v, cs) n after)
     allowed slots id count v begins request cs live can is many inside s k homes at below =
         let word = slice_index s.words (place_of request) in
@@ -83,7 +83,7 @@ module _ {C S W : Type 0} (form : NormalForm S W) where
 
     -- the same of a port that is seen with the view u, where the place is known to be that of the request
     pub allows : (slots id count place : ℕ) (v u : View C S W) (begins : Option Op) (request : Request) (cs : List _) → v ≡ u → place ≡ place_of request → v.live ≡ true → CanMove form begins u.machine
-        → mech_request form (begun begins u.machine) ≡ request → count ≡ length (opening_words form.client setup.cap) → place < count
+        → mech_request form (begun begins u.machine) ≡ request → count ≡ length (opening_words form.opening setup.cap) → place < count
         → Allows (Kept form setup) slots id (v, cs) place (word_after request) (λ n after. Advances form begins (v, cs) n after)
     allows slots id count place v u begins request cs same there live can is many inside =
         subst (λ (i : ℕ). Allows (Kept form setup) slots id (v, cs) i (word_after request) (λ n after. Advances form begins (v, cs) n after)) (sym there)
@@ -91,7 +91,7 @@ module _ {C S W : Type 0} (form : NormalForm S W) where
 
     -- a store tells nothing of the word that it found
     pub stores : (slots id count place at value : ℕ) (v u : View C S W) (begins : Option Op) (cs : List _) → v ≡ u → place ≡ at → v.live ≡ true → CanMove form begins u.machine
-        → mech_request form (begun begins u.machine) ≡ Store at value → count ≡ length (opening_words form.client setup.cap) → place < count
+        → mech_request form (begun begins u.machine) ≡ Store at value → count ≡ length (opening_words form.opening setup.cap) → place < count
         → Allows (Kept form setup) slots id (v, cs) place (λ n. value) (λ n after. Advances form begins (v, cs) value after)
     stores slots id count place at value v u begins cs same there live can is many inside s k homes found below =
         let r = allows slots id count place v u begins (Store at value) cs same there live can is many inside s k homes found below in
@@ -102,7 +102,7 @@ module _ {C S W : Type 0} (form : NormalForm S W) where
 
     -- a step whose request names no word loads the first one
     pub misses : (slots id count : ℕ) (v u : View C S W) (begins : Option Op) (request : Request) (cs : List _) → v ≡ u → v.live ≡ true → CanMove form begins u.machine
-        → mech_request form (begun begins u.machine) ≡ request → count ≡ length (opening_words form.client setup.cap) → count ≤ place_of request
+        → mech_request form (begun begins u.machine) ≡ request → count ≡ length (opening_words form.opening setup.cap) → count ≤ place_of request
         → Allows (Kept form setup) slots id (v, cs) 0 (λ n. n) (λ n after. Misses form begins (v, cs) after)
     misses slots id count v u begins request cs same live can is many past s k homes at below =
         let asks = is_of v u begins request same is in

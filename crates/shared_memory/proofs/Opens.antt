@@ -33,7 +33,7 @@ module _ {C S W : Type 0} (form : NormalForm S W) where
   only_first u v zero e = (refl, some-injective u v e)
   only_first u v (suc j) e = absurd (some-ne-none v (sym e))
 
-  pub opens : (setup : Setup) (ws : List ℕ) → ws ≡ opening_words form.client setup.cap → Kept form setup (table.opening ws [] (first_view {C = C} {S = S} {W = W} setup))
+  pub opens : (setup : Setup) (ws : List ℕ) → ws ≡ opening_words form.opening setup.cap → Kept form setup (table.opening ws [] (first_view {C = C} {S = S} {W = W} setup))
   opens setup ws is = record {
     moves = [];
     are = tt;

@@ -37,7 +37,7 @@ seen_within request ws inside = ap (λ (b : Bool). cond b (seen_at request (get_
 
 module _ {S W : Type 0} (form : NormalForm S W) where
   -- a run has as many words as it opens with
-  pub words_stay : (setup : Setup) (moves : List Move) → AreMoves form setup moves → length (run_of form setup moves).words ≡ length (opening_words form.client setup.cap)
+  pub words_stay : (setup : Setup) (moves : List Move) → AreMoves form setup moves → length (run_of form setup moves).words ≡ length (opening_words form.opening setup.cap)
   words_stay setup [] are = refl
   words_stay setup (move ∷ older) are =
       let is = are.1 in

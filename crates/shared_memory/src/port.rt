@@ -2,7 +2,7 @@
 ghost use Rattle.std.specs.Prelude.{◌≡◌, ℕ, ◌+◌, ◌<◌, ◌≤◌, true, false, [], IfOk, length, not};
 ghost use Rattle.lin_report.specs.declared.calls.Op.{Op};
 ghost use Rattle.step_memory.specs.declared.steps.Request.TheVariants.{Store};
-ghost use Rattle.node_arena.specs.Opening.{IsLaidOut, opening_words};
+ghost use Rattle.node_arena.specs.Opening.{opening_words};
 ghost use Rattle.fast_slow_engine.specs.Runs.{CanMove, begun};
 ghost use Rattle.fast_slow_engine.specs.declared.setup.Turn.{Turn};
 ghost use Rattle.fast_slow_engine.specs.PhaseTable.{ends, mech_request, rests};
@@ -14,7 +14,6 @@ use crate::view::View;
 use atomic_table::{Seat, Table};
 use fast_slow_engine::{Machine, Setup, Turn};
 use lin_report::{NoMemory, Receipt};
-use node_arena::opening_words;
 use node_arena::places::{CLAIMS, FIRST_WORDS, TICKS};
 use normal_traits::Normalized;
 use std::alloc::Global;
@@ -33,7 +32,7 @@ impl<C: Normalized> Model for Shared<C> {
 
     ghost view = { λ s. record { table = s.table.shared.table_id; setup = s.table.shared.key } };
 
-    ghost invariant = { λ s. (s.table.shared.table_id.words ≡ length (opening_words C.form.client s.table.shared.key.cap)) × (s.table.shared.table_id.slots ≡ 0) };
+    ghost invariant = { λ s. (s.table.shared.table_id.words ≡ length (opening_words C.form.opening s.table.shared.key.cap)) × (s.table.shared.table_id.slots ≡ 0) };
 }
 
 /// The tick counter and the claim counter at the end of a run.
@@ -61,12 +60,11 @@ impl<C: Normalized> Model for SeatPort<C> {
 impl<C: Normalized> Shared<C> {
     /// The memory as a run opens, with the port of seat 0.
     pub fn make(alloc: Global, setup: Setup) -> Result<(Shared<C>, SeatPort<C>), NoMemory>
-        requires client { IsLaidOut C.form.client }
         ensures table { IfOk result (λ r. r.1.table ≡ r.0.table) }
         ensures setup { IfOk result (λ r. r.0.setup ≡ setup) }
         ensures view { IfOk result (λ r. r.1.view ≡ first_view setup) }
     {
-        let words = opening_words(alloc, setup.cap, C::CLIENT)?;
+        let words = C::opening(alloc, setup.cap)?;
         let (table, seat) = Table::of_words(alloc, words.as_slice(), &setup).map_err(|_| NoMemory)?;
         Ok((Shared { table }, SeatPort { seat }))
     }

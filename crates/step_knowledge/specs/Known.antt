@@ -2,7 +2,7 @@
 -- call of a head.
 use Rattle.std.specs.Prelude.{◌≡◌, ℕ, ◌<◌, ◌≤◌, length, slice_get, Option, Some}
 use Rattle.arrayvec.specs.ArrayVec.{ArrayVec}
-use Rattle.lin_report.specs.Commands.{IsCommandOf}
+use Rattle.lin_report.specs.Object.{IsCommandOf}
 use Rattle.normal_traits.specs.World.{Stopped, Took, World}
 use Rattle.normal_traits.specs.NormalForm.{NormalForm}
 use Rattle.normal_traits.specs.Steps.{IsFilled, IsFresh, IsOffered}
@@ -87,4 +87,4 @@ module _ {S W : Type 0} (form : NormalForm S W) where
   -- the operation of a call that runs is a command
   abbrev pub MakesCommand : Phase S W → Mech S W → Type 0
   MakesCommand phase.Idle mech = Unit {0}
-  MakesCommand _ mech = IsCommandOf form.client mech.op
+  MakesCommand _ mech = IsCommandOf form.object mech.op

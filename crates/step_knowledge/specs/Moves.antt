@@ -56,7 +56,7 @@ is_unannounced _ = false
 
 -- the version of each versioned word of the client has room for one more
 abbrev pub HasRoom : {S W : Type 0} → NormalForm S W → World → Type 0
-HasRoom form world = (place : ℕ) → is_word world place ≡ true → form.is_versioned place ≡ true → versioned_version (world.words place) + 1 < 2 ^ 39
+HasRoom form world = (place : ℕ) → is_word form.is_root world place ≡ true → form.is_versioned place ≡ true → versioned_version (world.words place) + 1 < 2 ^ 39
 
 module _ {S W : Type 0} (form : NormalForm S W) (world after : World) (offers offers' : ℕ → Option (Offer S)) where
   -- ---- what a step does

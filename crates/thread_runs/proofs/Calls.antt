@@ -2,7 +2,7 @@
 use Rattle.std.proofs.Common.{◌≡◌, ◌+◌, ◌<◌, true, false, Some, None, List, ◌++◌, sym, refl, ap, ◌∙◌, subst, if◌then◌else◌, append-nil}
 use Rattle.lin_report.specs.declared.calls.Op.{Op}
 use Rattle.lin_report.specs.declared.calls.Receipt.{Receipt}
-use Rattle.lin_report.specs.Commands.{IsCommandOf}
+use Rattle.lin_report.specs.Object.{IsCommandOf}
 use Rattle.step_memory.specs.declared.steps.Seen.{Seen}
 use Rattle.normal_traits.specs.NormalForm.{NormalForm}
 use Rattle.fast_slow_engine.specs.declared.setup.Turn.{Turn}
@@ -32,7 +32,7 @@ module _ {C S W : Type 0} (form : NormalForm S W) where
       let none : command_of v.machine mech ≡ None = ap (λ b. if b then Some mech.op else None) there in
       record { is = same ∙ ap (λ o. begun o v.machine) (sym none); runs = runs; can = subst (λ o. CanMove form o v.machine) (sym none) there }
 
-  pub starts : (v : View C S W) (mech : Mech S W) (op : Op) → RestsIn v mech → mech.number < 65535 → IsCommandOf form.client op → Under form v op v (mech_started op mech)
+  pub starts : (v : View C S W) (mech : Mech S W) (op : Op) → RestsIn v mech → mech.number < 65535 → IsCommandOf form.object op → Under form v op v (mech_started op mech)
   starts v mech op rest fewer command =
       let there : rests v.machine.phase ≡ true = ap (λ (m : Mech S W). rests m.phase) (sym rest.same) ∙ rest.idle in
       let some : command_of v.machine (mech_started op mech) ≡ Some op = ap (λ b. if b then Some op else None) there in

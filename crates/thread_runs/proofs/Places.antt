@@ -3,7 +3,7 @@ use Rattle.std.proofs.Common.{◌≡◌, ℕ, zero, suc, ◌+◌, ◌<◌, List,
 use Rattle.atomic_table.specs.Seated.{TableId}
 use Rattle.shared_memory.specs.declared.view.View.{View}
 use Rattle.thread_runs.specs.declared.worker.Worker.{Worker}
-use Rattle.lin_report.specs.declared.calls.Client.{Client}
+use Rattle.lin_report.specs.Object.{Object}
 use Rattle.lin_report.specs.declared.calls.Op.{Op}
 use Rattle.thread_runs.specs.Placed.{IsPlaced}
 
@@ -24,8 +24,8 @@ get_any [] i d e h = absurd (omega arith)
 get_any (x ∷ xs) zero d e h = refl
 get_any (x ∷ xs) (suc i) d e h = get_any xs i d e (omega arith)
 
-pub placed_as : {C S W : Type 0} (client : Client) (t u : TableId) (v w : View C S W) (f h : List Op) (x : Worker C S W) → t ≡ u → v ≡ w → f ≡ h → IsPlaced client t v f x → IsPlaced client u w h x
-placed_as client t u v w f h x a b c p = record { view = p.view ∙ b; of_table = p.of_table ∙ a; commands = p.commands ∙ c; ready = p.ready }
+pub placed_as : {C S W : Type 0} (object : Object) (t u : TableId) (v w : View C S W) (f h : List Op) (x : Worker C S W) → t ≡ u → v ≡ w → f ≡ h → IsPlaced object t v f x → IsPlaced object u w h x
+placed_as object t u v w f h x a b c p = record { view = p.view ∙ b; of_table = p.of_table ∙ a; commands = p.commands ∙ c; ready = p.ready }
 
 pub get_front : {A : Type 0} (l m : List A) (i : ℕ) (d : A) → i < length l → get_or (l ++ m) i d ≡ get_or l i d
 get_front [] m i d h = absurd (omega arith)

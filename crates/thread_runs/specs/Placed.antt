@@ -1,7 +1,7 @@
 -- A worker that stands in its place, before and after it ran.
 use Rattle.std.specs.Prelude.{◌≡◌, ℕ, ◌+◌, ◌-◌, List, [], ◌∷◌, ◌++◌, length, vec_capacity, true}
 use Rattle.atomic_table.specs.Seated.{TableId}
-use Rattle.lin_report.specs.declared.calls.Client.{Client}
+use Rattle.lin_report.specs.Object.{Object}
 use Rattle.lin_report.specs.declared.calls.Op.{Op}
 use Rattle.lin_report.specs.declared.calls.Receipt.{Receipt}
 use Rattle.fast_slow_engine.specs.declared.setup.Setup.{Setup}
@@ -23,11 +23,11 @@ module _ {C S W : Type 0} where
   abbrev pub root_view : Setup → ℕ → View C S W
   root_view setup made = record (first_view setup) { made = made }
 
-  pub record IsPlaced (client : Client) (table : TableId) (v : View C S W) (file : List Op) (w : Worker C S W) : Type 0 where
+  pub record IsPlaced (object : Object) (table : TableId) (v : View C S W) (file : List Op) (w : Worker C S W) : Type 0 where
     pub view : w.port.view ≡ v
     pub of_table : w.port.table ≡ table
     pub commands : w.commands.items ≡ file
-    pub ready : CanWork client w.port.view w.machine w.commands.items w.receipts.items (vec_capacity w.receipts)
+    pub ready : CanWork object w.port.view w.machine w.commands.items w.receipts.items (vec_capacity w.receipts)
 
   -- a view that was v0 when its worker began
   pub record Ended (v0 v : View C S W) (mech : Mech S W) (receipts : List Receipt) : Type 0 where

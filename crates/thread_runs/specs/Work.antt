@@ -1,9 +1,8 @@
 -- What a worker has to do, and what it has done.
 use Rattle.std.specs.Prelude.{◌≡◌, ℕ, ◌+◌, ◌≤◌, true, List, [], ◌∷◌, ◌++◌, length, All}
-use Rattle.lin_report.specs.declared.calls.Client.{Client}
 use Rattle.lin_report.specs.declared.calls.Op.{Op}
 use Rattle.lin_report.specs.declared.calls.Receipt.{Receipt}
-use Rattle.lin_report.specs.Commands.{IsCommandOf}
+use Rattle.lin_report.specs.Object.{IsCommandOf, Object}
 use Rattle.normal_traits.specs.NormalForm.{NormalForm}
 use Rattle.fast_slow_engine.specs.Mechs.{Mech}
 use Rattle.fast_slow_engine.specs.PhaseTable.{rests}
@@ -43,13 +42,13 @@ module _ {C S W : Type 0} where
     pub view : v ≡ after_call v0 mech r
 
   -- the worker was not begun, its file is of commands, and it has room for each line
-  pub record CanWork (client : Client) (v : View C S W) (mech : Mech S W) (commands : List Op) (receipts : List Receipt) (room : ℕ) : Type 0 where
+  pub record CanWork (object : Object) (v : View C S W) (mech : Mech S W) (commands : List Op) (receipts : List Receipt) (room : ℕ) : Type 0 where
     pub rest : RestsIn v mech
     pub first : mech.number ≡ 0
     pub none_yet : v.receipts ≡ []
     pub none_kept : receipts ≡ []
     pub few : length commands ≤ 65535
-    pub each : All (IsCommandOf client) commands
+    pub each : All (IsCommandOf object) commands
     pub for_all : length commands ≤ room
 
   -- the lines are those of the view, and their operations are these commands

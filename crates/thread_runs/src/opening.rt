@@ -1,6 +1,5 @@
 //! The memory and the workers as a run opens. All that the run needs is taken here, before the first thread.
 ghost use Rattle.std.specs.Prelude.{◌≡◌, ◌≢◌, ℕ, ◌+◌, ◌-◌, ◌<◌, ◌≤◌, [], false, length, All, slice_index_or, vec_capacity, IfOk};
-ghost use Rattle.node_arena.specs.Opening.{IsLaidOut};
 ghost use Rattle.fast_slow_engine.specs.PhaseTable.{mech_new};
 ghost use Rattle.shared_memory.specs.Views.{new_view};
 ghost use Rattle.lin_report.specs.CommandFiles.{IsCommandFile};
@@ -55,8 +54,8 @@ fn new_worker<C: Normalized>(
 ) -> Result<Worker<C>, NoMemory>
     requires seat { seat < setup.seats }
     requires port { (port.view.machine ≡ mech_new seat setup) × (port.view.receipts ≡ []) }
-    requires file { IsCommandFile C.form.client commands.items }
-    ensures { IfOk result (λ w. IsPlaced C.form.client port.table port.view commands.items w) }
+    requires file { IsCommandFile C.form.object commands.items }
+    ensures { IfOk result (λ w. IsPlaced C.form.object port.table port.view commands.items w) }
 {
     let receipts = room_for_lines(alloc, commands.len())?;
     Ok(Worker {
@@ -88,12 +87,12 @@ fn split_all<C: Normalized>(
     workers: &mut Vec<Worker<C>>,
 ) -> Result<(), NoMemory>
     requires count { length files.old.items ≡ setup.seats }
-    requires files { All (λ file. IsCommandFile C.form.client file.items) files.old.items }
+    requires files { All (λ file. IsCommandFile C.form.object file.items) files.old.items }
     requires root { (root.old.table ≡ shared.now.table) × (root.old.view ≡ root_view setup 0) }
     requires room { (workers.old.items ≡ []) × (length files.old.items ≤ vec_capacity workers.old) }
     ensures root { IfOk result (λ _. (root.new.table ≡ shared.now.table) × (root.new.view ≡ root_view setup (length files.old.items - 1))) }
     ensures room { IfOk result (λ _. (length workers.new.items + 1 ≡ length files.old.items) × (length files.old.items ≤ vec_capacity workers.new)) }
-    ensures workers { IfOk result (λ _. (j : ℕ) (d : _) (e : _) → j + 1 < length files.old.items → IsPlaced C.form.client shared.now.table (new_view (j + 1) setup false) (slice_index_or files.old.items (j + 1) e).items (slice_index_or workers.new.items j d)) }
+    ensures workers { IfOk result (λ _. (j : ℕ) (d : _) (e : _) → j + 1 < length files.old.items → IsPlaced C.form.object shared.now.table (new_view (j + 1) setup false) (slice_index_or files.old.items (j + 1) e).items (slice_index_or workers.new.items j d)) }
     ensures first { IfOk result (λ _. (length files.new.items ≡ length files.old.items) × ((e : _) → slice_index_or files.new.items 0 e ≡ slice_index_or files.old.items 0 e)) }
 {
     for seat in 1..files.len() {
@@ -110,13 +109,12 @@ pub fn open<C: Normalized>(
     setup: Setup,
     mut files: Vec<Vec<Op>>,
 ) -> Result<(Shared<C>, Vec<Worker<C>>), NoMemory>
-    requires client { IsLaidOut C.form.client }
     requires count { length files.items ≡ setup.seats }
-    requires files { All (λ file. IsCommandFile C.form.client file.items) files.items }
+    requires files { All (λ file. IsCommandFile C.form.object file.items) files.items }
     ensures count { IfOk result (λ r. length r.1.items ≡ length files.items) }
     ensures setup { IfOk result (λ r. r.0.setup ≡ setup) }
-    ensures others { IfOk result (λ r. (j : ℕ) (d : _) (e : _) → j + 1 < length files.items → IsPlaced C.form.client r.0.table (new_view (j + 1) setup false) (slice_index_or files.items (j + 1) e).items (slice_index_or r.1.items j d)) }
-    ensures root { IfOk result (λ r. (d : _) (e : _) → IsPlaced C.form.client r.0.table (root_view setup (length files.items - 1)) (slice_index_or files.items 0 e).items (slice_index_or r.1.items (length files.items - 1) d)) }
+    ensures others { IfOk result (λ r. (j : ℕ) (d : _) (e : _) → j + 1 < length files.items → IsPlaced C.form.object r.0.table (new_view (j + 1) setup false) (slice_index_or files.items (j + 1) e).items (slice_index_or r.1.items j d)) }
+    ensures root { IfOk result (λ r. (d : _) (e : _) → IsPlaced C.form.object r.0.table (root_view setup (length files.items - 1)) (slice_index_or files.items 0 e).items (slice_index_or r.1.items (length files.items - 1) d)) }
 {
     let (shared, mut root) = Shared::make(alloc, setup)?;
     let mut workers = room_for(alloc, files.len())?;

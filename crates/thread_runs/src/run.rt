@@ -1,6 +1,5 @@
 //! A whole run: the memory is opened, each worker makes its calls, and the ports are gathered and closed.
 ghost use Rattle.std.specs.Prelude.{◌≡◌, ◌≤◌, [], map, flat_map, length, All, IfOk, vec_capacity};
-ghost use Rattle.node_arena.specs.Opening.{IsLaidOut};
 ghost use Rattle.lin_report.specs.CommandFiles.{IsCommandFile};
 ghost use Rattle.thread_runs.specs.Whole.{IsRun, IsRunBySeats};
 
@@ -58,9 +57,8 @@ fn run_by_seats<
     files: Vec<Vec<Op>>,
     gate: &G,
 ) -> Result<(Vec<Vec<Receipt>>, Totals), NoMemory>
-    requires client { IsLaidOut C.form.client }
     requires count { length files.items ≡ setup.seats }
-    requires files { All (λ file. IsCommandFile C.form.client file.items) files.items }
+    requires files { All (λ file. IsCommandFile C.form.object file.items) files.items }
     ensures run { IfOk result (λ r. IsRunBySeats C.form setup (map (λ v. v.items) files.items) (map (λ v. v.items) r.0.items) r.1.ticks r.1.claimed) }
 {
     let rooms = room_for(alloc, files.len())?;
@@ -86,9 +84,8 @@ pub fn run_whole<
     files: Vec<Vec<Op>>,
     gate: &G,
 ) -> Result<(Vec<Receipt>, Totals), NoMemory>
-    requires client { IsLaidOut C.form.client }
     requires count { length files.items ≡ setup.seats }
-    requires files { All (λ file. IsCommandFile C.form.client file.items) files.items }
+    requires files { All (λ file. IsCommandFile C.form.object file.items) files.items }
     ensures run { IfOk result (λ r. IsRun C.form setup (map (λ v. v.items) files.items) r.0.items r.1.ticks r.1.claimed) }
 {
     let lines = room_for_lines(alloc, calls_in(files.as_slice()))?;
@@ -104,9 +101,8 @@ pub fn run<R: Threads + Wait + Sync, C: Normalized + Send + Sync, G: Gate + Sync
     files: Vec<Vec<Op>>,
     gate: &G,
 ) -> Result<(Vec<Receipt>, Totals), NoMemory>
-    requires client { IsLaidOut C.form.client }
     requires count { length files.items ≡ setup.seats }
-    requires files { All (λ file. IsCommandFile C.form.client file.items) files.items }
+    requires files { All (λ file. IsCommandFile C.form.object file.items) files.items }
     ensures run { IfOk result (λ r. IsRun C.form setup (map (λ v. v.items) files.items) r.0.items r.1.ticks r.1.claimed) }
 {
     run_whole::<R, C, Stepwise, G>(rt, alloc, setup, files, gate)

@@ -35,11 +35,11 @@ pub trait Tries<C: Normalized> {
         call: &mut Call,
     ) -> Tried<C::Search, C::Wrap>
         requires table { port.old.table ≡ shared.now.table }
-        requires call { IsCallOf C.form.client call.old }
+        requires call { IsCallOf C.form.object call.old }
         requires begins { port.old.view.machine ≡ mech_of call.old (Generate (C.form.begin_of call.old.op) Search) }
         ensures machine { port.new.view.machine ≡ mech_tried C.form call.new result }
         ensures can { CanResume C.form result }
-        ensures call { IsCallOf C.form.client call.new }
+        ensures call { IsCallOf C.form.object call.new }
         ensures same { IsSameCall call.new call.old }
         ensures beside { beside port.new ≡ beside port.old };
 }
@@ -65,12 +65,12 @@ fn make_tries<C: Normalized, T: Tries<C>>(
     call: &mut Call,
 ) -> Tried<C::Search, C::Wrap>
     requires table { port.old.table ≡ shared.now.table }
-    requires call { IsCallOf C.form.client call.old }
+    requires call { IsCallOf C.form.object call.old }
     requires begins { port.old.view.machine ≡ mech_of call.old (Generate (C.form.begin_of call.old.op) Search) }
     ensures machine { port.new.view.machine ≡ mech_tried C.form call.new result }
     ensures can { CanResume C.form result }
     ensures same { IsSameCall call.new call.old }
-    ensures call { IsCallOf C.form.client call.new }
+    ensures call { IsCallOf C.form.object call.new }
     ensures beside { beside port.new ≡ beside port.old }
 {
     let mut turns = FIRST_PAUSE;

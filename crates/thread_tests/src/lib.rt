@@ -4,6 +4,7 @@
 
 #[cfg(test)]
 mod handle_calls;
+pub mod in_threads;
 #[cfg(test)]
 mod ports;
 #[cfg(test)]

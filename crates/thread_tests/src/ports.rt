@@ -1,7 +1,6 @@
 //! Ports of a queue that a test drives step by step.
 ghost use Rattle.std.specs.Prelude.{◌≡◌, true, [], ◌∷◌};
-ghost use Rattle.lin_report.specs.Commands.{IsCommandOf};
-ghost use Rattle.lin_report.specs.declared.calls.Client.{Client};
+ghost use Rattle.lin_report.specs.Object.{IsCommandOf, queue_object};
 ghost use Rattle.fast_slow_engine.specs.PhaseTable.{rests};
 ghost use Rattle.thread_tests.specs.Driven.{IsRoot, Stays};
 
@@ -40,7 +39,7 @@ pub fn begin(
 )
     requires table { port.old.table ≡ shared.now.table }
     requires same { machine.old ≡ port.old.view.machine }
-    requires command { IsCommandOf Client.Queue op }
+    requires command { IsCommandOf queue_object op }
     ensures table { port.new.table ≡ shared.now.table }
     ensures same { machine.new ≡ port.new.view.machine }
     ensures stays { Stays port.old.view port.new.view }

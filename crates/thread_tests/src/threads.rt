@@ -1,7 +1,7 @@
 //! Eight threads meet at a gate before their first calls.
 ghost use Rattle.std.specs.Prelude.{◌≡◌, All, IfSome, length};
-ghost use Rattle.lin_report.specs.declared.calls.Client.{Client};
 ghost use Rattle.lin_report.specs.CommandFiles.{IsCommandFile};
+ghost use Rattle.lin_report.specs.Object.{queue_object};
 
 use fast_slow_engine::Setup;
 use lin_report::{Client, Op, Receipt};
@@ -48,14 +48,14 @@ impl Gate for Meeting {
 
 /// One put and one take.
 fn file(alloc: Global) -> Option<Vec<Op>>
-    ensures { IfSome result (λ file. IsCommandFile Client.Queue file.items) }
+    ensures { IfSome result (λ file. IsCommandFile queue_object file.items) }
 {
     read_script(alloc, b"put 7\ntake\n", Client::Queue).ok()
 }
 
 /// The same for eight seats.
 fn eight_files(alloc: Global) -> Option<Vec<Vec<Op>>>
-    ensures { IfSome result (λ files. (length files.items ≡ 8) × All (λ file. IsCommandFile Client.Queue file.items) files.items) }
+    ensures { IfSome result (λ files. (length files.items ≡ 8) × All (λ file. IsCommandFile queue_object file.items) files.items) }
 {
     let mut files = Vec::new(alloc);
     for _ in 0..8u32 {

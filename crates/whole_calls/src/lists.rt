@@ -23,11 +23,11 @@ fn none_is_left(call: &Call, claimed: u64) -> bool
 /// Claims a block for a search that can name its list. False where none is left.
 #[inline(always)]
 pub fn claim<C: Normalized, P: Steps<C>>(search: &C::Search, call: &mut Call, port: &mut P) -> bool
-    requires call { IsCallOf C.form.client call.old }
+    requires call { IsCallOf C.form.object call.old }
     requires looks { P.machine port.old ≡ mech_of call.old (Generate search.now LookForBlock) }
     ensures claimed { result ≡ true → IsAfter (offered C.form search.now) call.new (P.machine port.new) }
     ensures none_left { result ≡ false → P.machine port.new ≡ mech_of call.new (End told_as.Exhausted) }
-    ensures call { IsCallOf C.form.client call.new }
+    ensures call { IsCallOf C.form.object call.new }
     ensures same { IsSameCall call.new call.old }
     ensures rest { P.rest port.new ≡ P.rest port.old }
 {
@@ -63,7 +63,7 @@ fn store_all<C: Normalized, P: Steps<C>>(stores: &Stores, list: &List, call: &Ca
 /// Fills the block that the list needs, if it needs one.
 #[inline(always)]
 pub fn fill<C: Normalized, P: Steps<C>>(search: &C::Search, call: &Call, port: &mut P) -> List
-    requires call { IsCallOf C.form.client call.now }
+    requires call { IsCallOf C.form.object call.now }
     requires ready { C.form.is_ready search.now }
     requires after { IsAfter (offered C.form search.now) call.now (P.machine port.old) }
     ensures at { IsAtEntry result.items 0 call.now (P.machine port.new) }

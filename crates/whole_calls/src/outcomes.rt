@@ -42,11 +42,11 @@ pub fn tell<C: Normalized, P: Steps<C>>(
 /// Counts a failure.
 #[inline(always)]
 pub fn fail<C: Normalized, P: Steps<C>>(call: &mut Call, port: &P) -> Tried<C::Search, C::Wrap>
-    requires call { IsCallOf C.form.client call.old }
+    requires call { IsCallOf C.form.object call.old }
     requires after { IsAfter (failed C.form) call.old (P.machine port.now) }
     ensures machine { P.machine port.now ≡ mech_tried C.form call.new result }
     ensures can { CanResume C.form result }
-    ensures call { IsCallOf C.form.client call.new }
+    ensures call { IsCallOf C.form.object call.new }
     ensures same { IsSameCall call.new call.old }
 {
     let _ = port;
@@ -84,12 +84,12 @@ pub fn wrap_up<C: Normalized, P: Steps<C>>(
     call: &mut Call,
     port: &mut P,
 ) -> Tried<C::Search, C::Wrap>
-    requires call { IsCallOf C.form.client call.old }
+    requires call { IsCallOf C.form.object call.old }
     requires goes { begun ≡ wrapping.Going → C.form.wraps wrap }
     requires after { IsAfter (wrapped_up C.form begun wrap) call.old (P.machine port.old) }
     ensures machine { P.machine port.new ≡ mech_tried C.form call.new result }
     ensures can { CanResume C.form result }
-    ensures call { IsCallOf C.form.client call.new }
+    ensures call { IsCallOf C.form.object call.new }
     ensures same { IsSameCall call.new call.old }
     ensures rest { P.rest port.new ≡ P.rest port.old }
 {

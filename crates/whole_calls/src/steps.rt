@@ -49,7 +49,6 @@ pub trait Steps<C: Normalized> {
 /// A structure whose search can be made in one piece.
 pub trait Seeks: Normalized {
     ghost use Rattle.std.specs.Prelude.{◌≡◌, IsTrue};
-    ghost use Rattle.lin_report.specs.Commands.{is_command};
     ghost use Rattle.normal_traits.specs.declared.form.Found.TheVariants as found;
     ghost use Rattle.fast_slow_engine.specs.declared.phases.Phase.TheVariants.{Generate};
     ghost use Rattle.fast_slow_engine.specs.declared.phases.Generating.TheVariants.{Search};
@@ -57,7 +56,7 @@ pub trait Seeks: Normalized {
 
     /// Makes steps of a search that begins. It ends by a bound of its own, `Going` where the search does not.
     fn search<P: Steps<Self>>(op: Op, port: &mut P) -> (Self::Search, Found)
-        requires command { IsTrue (is_command Self.form.client op) }
+        requires command { IsTrue (Self.form.object.serves op) }
         requires begins { (P.machine port.old).phase ≡ Generate (Self.form.begin_of op) Search }
         ensures machine { P.machine port.new ≡ searched Self.form result.1 result.0 (P.machine port.old) }
         ensures rest { P.rest port.new ≡ P.rest port.old }

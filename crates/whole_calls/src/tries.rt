@@ -21,12 +21,12 @@ fn offer<C: Normalized, P: Steps<C>>(
     call: &mut Call,
     port: &mut P,
 ) -> Tried<C::Search, C::Wrap>
-    requires call { IsCallOf C.form.client call.old }
+    requires call { IsCallOf C.form.object call.old }
     requires ready { C.form.is_ready search.now }
     requires after { IsAfter (offered C.form search.now) call.old (P.machine port.old) }
     ensures machine { P.machine port.new ≡ mech_tried C.form call.new result }
     ensures can { CanResume C.form result }
-    ensures call { IsCallOf C.form.client call.new }
+    ensures call { IsCallOf C.form.object call.new }
     ensures same { IsSameCall call.new call.old }
     ensures rest { P.rest port.new ≡ P.rest port.old }
 {
@@ -44,12 +44,12 @@ fn go_on<C: Normalized, P: Steps<C>>(
     call: &mut Call,
     port: &mut P,
 ) -> Tried<C::Search, C::Wrap>
-    requires call { IsCallOf C.form.client call.old }
+    requires call { IsCallOf C.form.object call.old }
     requires ready { C.form.is_ready search.now }
     requires after { IsAfter (readied C.form search.now) call.old (P.machine port.old) }
     ensures machine { P.machine port.new ≡ mech_tried C.form call.new result }
     ensures can { CanResume C.form result }
-    ensures call { IsCallOf C.form.client call.new }
+    ensures call { IsCallOf C.form.object call.new }
     ensures same { IsSameCall call.new call.old }
     ensures rest { P.rest port.new ≡ P.rest port.old }
 {
@@ -63,11 +63,11 @@ fn go_on<C: Normalized, P: Steps<C>>(
 /// that it stands.
 #[inline(always)]
 pub fn try_once<C: Seeks, P: Steps<C>>(call: &mut Call, port: &mut P) -> Tried<C::Search, C::Wrap>
-    requires call { IsCallOf C.form.client call.old }
+    requires call { IsCallOf C.form.object call.old }
     requires begins { P.machine port.old ≡ mech_of call.old (Generate (C.form.begin_of call.old.op) Search) }
     ensures machine { P.machine port.new ≡ mech_tried C.form call.new result }
     ensures can { CanResume C.form result }
-    ensures call { IsCallOf C.form.client call.new }
+    ensures call { IsCallOf C.form.object call.new }
     ensures same { IsSameCall call.new call.old }
     ensures rest { P.rest port.new ≡ P.rest port.old }
 {

@@ -1,7 +1,9 @@
-//! Worked runs of the queue on the engine, step by step.
+//! Worked runs of the queue and of the stack on the engine, step by step.
 #![tactic(auto)]
 
 #[cfg(test)]
 mod runs;
+#[cfg(test)]
+mod stacks;
 #[cfg(test)]
 mod tests;

@@ -1,10 +1,11 @@
-//! Runs of the queue over one or two command files.
+//! Runs of the queue over one or two command files, and of any structure by a schedule.
 ghost use Rattle.std.specs.Prelude.{◌≡◌, ◌<◌, ◌≤◌, IfSome, length};
 
 use event_core::Core;
 use fast_slow_engine::Setup;
 use lin_report::Client;
 use ms_queue::MsQueue;
+use normal_traits::Normalized;
 use schedule_runs::drive;
 use script_reader::{read_schedule, read_script};
 use std::alloc::Global;
@@ -56,7 +57,7 @@ pub fn make_steps(core: &mut Core<MsQueue>, seat: u32, count: u32)
 }
 
 /// Drives a run of two seats by a schedule. Whether it is one.
-pub fn drive_two(alloc: Global, core: &mut Core<MsQueue>, schedule: &[u8]) -> bool
+pub fn drive_two<C: Normalized>(alloc: Global, core: &mut Core<C>, schedule: &[u8]) -> bool
     requires { length core.old.files ≡ 2 }
     ensures { core.new.files ≡ core.old.files }
 {

@@ -25,7 +25,7 @@ op_same : (a b : Op) → a.code ≡ b.code → a.key ≡ b.key → a.value ≡ b
 op_same a b c k v = λ i. record { code = c i; key = k i; value = v i }
 
 module _ {S W : Type 0} (form : NormalForm S W) (laws : Laws form) (world : World) (shape : form.shape world) (offers : ℕ → Option (Offer S)) (caller : Caller) (head word block : ℕ)
-    (bounded : (place : ℕ) → is_word world place ≡ true → place < 2 ^ 32) where
+    (bounded : (place : ℕ) → is_word form.is_root world place ≡ true → place < 2 ^ 32) where
   -- a block that is filled for a list holds them
   pub contents_filled : (stores : List (ℕ × ℕ)) (held : Offer S) → KnowsOffer form world caller head word block stores (length stores) held → HasContents world held
   contents_filled stores held knows =
@@ -33,8 +33,8 @@ module _ {S W : Type 0} (form : NormalForm S W) (laws : Laws form) (world : Worl
       let number = record_number word in
       let made = (form.offer_of held.offering op block).stores in
       let command = knows.offered.command.command in
-      let code = code_fits form.client op command in
-      let key = key_fits form.client op command in
+      let code = code_fits form.object form.tellable op command in
+      let key = key_fits form.object form.tellable op command in
       let few = number_below word in
       let good = laws.offers world held.offering op held.since held.list.block knows.offered.command shape knows.offered.knows knows.offered.ready knows.offered.small in
       let small : (j : ℕ) (e : Entry) → slice_get held.list.entries j ≡ Some e → e.target < 2 ^ 32 =

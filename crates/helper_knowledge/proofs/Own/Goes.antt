@@ -9,7 +9,7 @@ use Rattle.lin_report.specs.declared.calls.Op.{Op}
 use Rattle.lin_report.specs.declared.calls.Outcome.{Outcome}
 use Rattle.lin_report.specs.declared.calls.Outcome.TheVariants.{Plain}
 use Rattle.lin_report.specs.declared.calls.Reply.TheVariants.{Exhausted}
-use Rattle.lin_report.specs.Commands.{IsCommandOf, is_command}
+use Rattle.lin_report.specs.Object.{IsCommandOf}
 use Rattle.step_memory.specs.declared.steps.Seen.{Seen}
 use Rattle.word_fields.specs.Announced.{announced_value, op_number, value_number}
 use Rattle.word_fields.specs.Fields.{field_of}
@@ -92,11 +92,11 @@ module _ {S W : Type 0} (form : NormalForm S W) (laws : Laws form) (world after 
 
   value_goes : (op : ℕ) → Stepped (work.Value op) → work_turn form (work.Value op) head word seen ≡ Going → Known world hand own (work.Value op) → Known after hand own' (work_fed form (work.Value op) head word hand cap seen)
   value_goes op is going knows =
-      let parts = and_parts (value_number seen.before == record_number word) (is_command form.client (announced_op op seen.before)) (goes_if form _ going) in
+      let parts = and_parts (value_number seen.before == record_number word) (form.object.serves (announced_op op seen.before)) (goes_if form _ going) in
       let number : value_number seen.before ≡ record_number word = eqb-true (value_number seen.before) (record_number word) parts.0 in
-      let command : IsCommandOf form.client (announced_op op seen.before) = record { command = parts.1; value = value_below seen.before } in
+      let command : IsCommandOf form.object (announced_op op seen.before) = record { command = parts.1; value = value_below seen.before } in
       in_after (work_fed form (work.Value op) head word hand cap seen) hand is.0
-      (subst (λ w. IsCommandOf form.client (announced_op op w) → value_number w ≡ record_number word → Known world hand own' (work.Generate (announced_op op w) (form.begin_of (announced_op op w)) Search)) (sym is.1)
+      (subst (λ w. IsCommandOf form.object (announced_op op w) → value_number w ≡ record_number word → Known world hand own' (work.Generate (announced_op op w) (form.begin_of (announced_op op w)) Search)) (sym is.1)
       (λ is_command' number'. own_value form laws world rests.holds.shape offers caller head word op hand own own' rests.announced rests.command rests.few rests.early is.2 is_command' number' knows) command number)
 
   -- ---- the search

@@ -1,7 +1,7 @@
 -- The steps of a helper's work are of the kinds: a request of a search or a wrap-up, and a store into the block in hand.
 use Rattle.std.proofs.Common.{◌≡◌, ◌∙◌, refl, sym, ap, subst, ℕ, ◌<◌, ◌^◌, true, false, inl, inr, List, slice_get, Option, Some, arith}
 use Rattle.lin_report.specs.declared.calls.Op.{Op}
-use Rattle.lin_report.specs.Commands.{IsCommandOf}
+use Rattle.lin_report.specs.Object.{IsCommandOf}
 use Rattle.step_memory.specs.declared.steps.Request.{Request}
 use Rattle.step_memory.specs.declared.steps.Request.TheVariants.{Load, Store, Exchange, Add}
 use Rattle.step_memory.specs.declared.steps.Seen.{Seen}
@@ -38,11 +38,11 @@ module _ {S W : Type 0} (form : NormalForm S W) (laws : Laws form) (world : Worl
       uses_none (Store at value) after seen asks made = absurd asks
       uses_none (Add at by) after seen asks made = absurd asks
 
-  pub search_kind : (s : S) (after : World) (seen : Seen) (op : Op) (since : ℕ) → IsCommandOf form.client op → form.asks s → form.knows s op world since → Requested form (form.request_of s) world after seen → Kind form world after offers offers mover hand
+  pub search_kind : (s : S) (after : World) (seen : Seen) (op : Op) (since : ℕ) → IsCommandOf form.object op → form.asks s → form.knows s op world since → Requested form (form.request_of s) world after seen → Kind form world after offers offers mover hand
   search_kind s after seen op since command asks knows made =
       asked (form.request_of s) after seen (laws.search_asks_well world s op since command shape asks knows) (searches s op since command asks knows made) made
 
-  pub wrap_kind : (wrap : W) (after : World) (seen : Seen) (list : Listed) (stop : ℕ) → IsCommandOf form.client list.call.op → form.wraps wrap → form.follows wrap list stop world → Requested form (form.wrap_request_of wrap) world after seen → Kind form world after offers offers mover hand
+  pub wrap_kind : (wrap : W) (after : World) (seen : Seen) (list : Listed) (stop : ℕ) → IsCommandOf form.object list.call.op → form.wraps wrap → form.follows wrap list stop world → Requested form (form.wrap_request_of wrap) world after seen → Kind form world after offers offers mover hand
   wrap_kind wrap after seen list stop command goes follows made =
       asked (form.wrap_request_of wrap) after seen (laws.wrap_asks_well world wrap list stop shape goes follows) (wraps wrap list stop command goes follows made) made
 

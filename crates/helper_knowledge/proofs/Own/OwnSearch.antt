@@ -2,7 +2,7 @@
 use Rattle.std.proofs.Common.{◌≡◌, ◌∙◌, sym, ap, subst, ℕ, ◌<◌, ◌≤◌, ◌^◌, length, Option, arith}
 use Rattle.lin_report.specs.declared.calls.Op.{Op}
 use Rattle.lin_report.specs.declared.calls.Outcome.{Outcome}
-use Rattle.lin_report.specs.Commands.{IsCommandOf}
+use Rattle.lin_report.specs.Object.{IsCommandOf}
 use Rattle.step_memory.specs.declared.steps.Seen.{Seen}
 use Rattle.word_fields.specs.Announced.{op_word, op_number, value_number}
 use Rattle.word_fields.specs.Records.{record_number}
@@ -30,12 +30,12 @@ module _ {S W : Type 0} (form : NormalForm S W) (laws : Laws form) (world : Worl
   op_same a b c k v = λ i. record { code = c i; key = k i; value = v i }
 
   -- with the value word too it is the operation of the call
-  pub reads_call : (op : ℕ) → IsCommandOf form.client caller.op → caller.number < 2 ^ 16 → HasAnnounced world head caller → value_number (world.words (value_place head)) ≡ record_number word
+  pub reads_call : (op : ℕ) → IsCommandOf form.object caller.op → caller.number < 2 ^ 16 → HasAnnounced world head caller → value_number (world.words (value_place head)) ≡ record_number word
       → IfStill caller (record_number word) (op ≡ op_word caller.op.code caller.number caller.op.key)
       → IfStill caller (record_number word) (announced_op op (world.words (value_place head)) ≡ caller.op)
   reads_call op command few has number op_is makes =
-      let code = code_fits form.client caller.op command.command in
-      let key = key_fits form.client caller.op command.command in
+      let code = code_fits form.object form.tellable caller.op command.command in
+      let key = key_fits form.object form.tellable caller.op command.command in
       let value = has.value (number ∙ sym makes) in
       op_same (announced_op op (world.words (value_place head))) caller.op
       (ap (λ w. (announced_op w 0).code) (op_is makes) ∙ code-op_word caller.op.code caller.number caller.op.key code)
@@ -43,7 +43,7 @@ module _ {S W : Type 0} (form : NormalForm S W) (laws : Laws form) (world : Worl
       (ap (λ w. (announced_op 0 w).value) value ∙ value-value_word caller.number caller.op.value few (let small = command.value in omega (arith, small)))
 
   -- a search begins after the call did
-  pub begins_search : (op : Op) → IsCommandOf form.client op → IfStill caller (record_number word) (op ≡ caller.op) → caller.begun ≤ length world.changes
+  pub begins_search : (op : Op) → IsCommandOf form.object op → IfStill caller (record_number word) (op ≡ caller.op) → caller.begun ≤ length world.changes
       → KnowsSearch form world caller word op (form.begin_of op) (length world.changes) × form.asks (form.begin_of op)
   begins_search op command op_is early =
       (record { command = command; knows = laws.begins_knowing world op command shape; op_is = op_is; early = λ makes. early }, laws.begins_asking op command)

@@ -6,7 +6,7 @@ use Rattle.lin_report.specs.declared.calls.Op.{Op}
 use Rattle.lin_report.specs.declared.calls.Outcome.{Outcome}
 use Rattle.lin_report.specs.declared.calls.Outcome.TheVariants.{Plain}
 use Rattle.lin_report.specs.declared.calls.Reply.TheVariants.{Exhausted}
-use Rattle.lin_report.specs.Commands.{IsCommandOf}
+use Rattle.lin_report.specs.Object.{IsCommandOf}
 use Rattle.word_fields.specs.declared.records.Phase.{Phase as Mark}
 use Rattle.word_fields.specs.Announced.{op_number, value_number}
 use Rattle.word_fields.specs.Records.{record_of, record_phase, record_number}
@@ -56,8 +56,8 @@ module _ {S W : Type 0} (form : NormalForm S W) (laws : Laws form) (world : Worl
   own_op hand own has generates number = (generates, number, reads_op form laws world shape offers caller head word has number)
 
   -- so was its value word: a search begins
-  pub own_value : (op : ℕ) (hand : Option ℕ) (own own' : Carried S) → HasAnnounced world head caller → IsCommandOf form.client caller.op → caller.number < 2 ^ 16 → caller.begun ≤ length world.changes → own'.since ≡ length world.changes
-      → IsCommandOf form.client (announced_op op (world.words (value_place head))) → value_number (world.words (value_place head)) ≡ record_number word
+  pub own_value : (op : ℕ) (hand : Option ℕ) (own own' : Carried S) → HasAnnounced world head caller → IsCommandOf form.object caller.op → caller.number < 2 ^ 16 → caller.begun ≤ length world.changes → own'.since ≡ length world.changes
+      → IsCommandOf form.object (announced_op op (world.words (value_place head))) → value_number (world.words (value_place head)) ≡ record_number word
       → KnowsWork form world offers caller head word hand own (work.Value op)
       → KnowsWork form world offers caller head word hand own' (work.Generate (announced_op op (world.words (value_place head))) (form.begin_of (announced_op op (world.words (value_place head)))) Search)
   own_value op hand own own' has command few early since read_command number knows =

@@ -4,7 +4,6 @@ use Rattle.lin_report.specs.declared.calls.Op.{Op}
 use Rattle.lin_report.specs.declared.calls.Outcome.{Outcome}
 use Rattle.lin_report.specs.declared.calls.Outcome.TheVariants.{Plain}
 use Rattle.lin_report.specs.declared.calls.Reply.TheVariants.{Exhausted}
-use Rattle.lin_report.specs.Object.{object_of}
 use Rattle.word_fields.specs.declared.records.Phase.{Phase as Mark}
 use Rattle.word_fields.specs.declared.records.Phase.TheVariants.{Generate, Wrapping}
 use Rattle.word_fields.specs.Payloads.{payload_stop}
@@ -53,7 +52,7 @@ module _ {S W : Type 0} (form : NormalForm S W) (laws : Laws form) (world : Worl
   search_right generates since op outcome known =
       let number = sym m.number_is in
       answered form laws world offers call begun since outcome (known.early number)
-      (subst (λ (o : Op). RightSince (object_of form.client) world o since outcome) (known.op_is number) known.right) known.fixed (told_none generates)
+      (subst (λ (o : Op). RightSince form.object world o since outcome) (known.op_is number) known.right) known.fixed (told_none generates)
 
   pub exhausted_right : record_phase word ≡ Generate → TellsRight form world call begun (Plain Exhausted)
   exhausted_right generates = refused refl (told_none generates)

@@ -1,12 +1,12 @@
 -- The op word and the value word of each seat are of its call or of an earlier one, after a move: but for their seat, which
 -- announces its own call by them, nobody writes them.
-use Rattle.std.proofs.Common.{◌≡◌, ◌≢◌, ◌∙◌, refl, sym, subst, ap, ℕ, ◌+◌, ◌^◌, ◌<◌, ◌≤◌, ◌⊎◌, inl, inr, true, List, ◌∷◌, slice_get, Option, Some, None, arith}
+use Rattle.std.proofs.Common.{◌≡◌, ◌≢◌, ◌∙◌, refl, sym, subst, ap, ℕ, ◌+◌, ◌^◌, ◌<◌, ◌≤◌, ◌⊎◌, inl, inr, true, List, ◌∷◌, slice_get, Option, Some, None, arith, Bool}
 use Rattle.std.proofs.lemmas.Option.{slice_get_within}
 use Rattle.lin_report.specs.declared.calls.Op.{Op}
 use Rattle.word_fields.specs.Announced.{op_number, op_word, value_number, value_word}
 use Rattle.word_fields.proofs.AnnouncedLemmas.{number-op_word, number-value_word}
-use Rattle.node_arena.specs.MemoryMap.{block_place, op_place, value_place}
-use Rattle.node_arena.proofs.PlaceLemmas.{block_place_behind}
+use Rattle.node_arena.specs.MemoryMap.{block_place, op_place, value_place, MayBeClients}
+use Rattle.node_arena.proofs.PlaceLemmas.{block_place_behind, engines_out}
 use Rattle.normal_traits.specs.World.{World, is_word}
 use Rattle.normal_traits.specs.NormalForm.{NormalForm}
 use Rattle.normal_traits.specs.Laws.{Laws}
@@ -19,6 +19,7 @@ use Rattle.offered_blocks.specs.Blocks.{Offer}
 use Rattle.offered_blocks.specs.Holds.{HasOffers}
 use Rattle.offered_blocks.specs.HelperSteps.{Helps}
 use Rattle.offered_blocks.specs.HelperSteps.Helps.{looks, installs_first, installs_second, succeeds, fails, clears_bit}
+use Rattle.offered_blocks.proofs.Blocks.Places.{word_may}
 use Rattle.run_laws.proofs.SeatLemmas.{seats_stay}
 use Rattle.run_queue.proofs.Runs.RunMoves.{runs_queued}
 use Rattle.run_knowledge.specs.RunGhosts.{ghost_of, world_of}
@@ -27,7 +28,6 @@ use Rattle.run_knowledge.specs.Tells.{IsAnnounced}
 use Rattle.run_knowledge.proofs.Words.Moved.{seat_after, seen_by}
 use Rattle.run_knowledge.proofs.Words.Seats.{machine_after}
 use Rattle.run_knowledge.proofs.Bounds.InKept.{keeps_queue}
-use Rattle.run_knowledge.proofs.Bounds.Words.{word_may}
 use Rattle.run_knowledge.proofs.InRuns.Rests.{known}
 use Rattle.kept_knowledge.proofs.Counted.MoveTouches.{move_touches}
 use Rattle.kept_knowledge.proofs.Counted.Touches.{IsEngines, Touches}
@@ -43,21 +43,19 @@ engine_apart place other (inl here) (inr between) e = (let a = here.1 in let b =
 engine_apart place other (inr here) (inl low) e = (let a = here.0 in absurd (omega (arith, a, low, e)))
 engine_apart place other (inr here) (inr between) e = (let a = here.0 in let b = between.1 in absurd (omega (arith, a, b, e)))
 
-own_below : (place : ℕ) → IsOwnPlace place → (place < 32) × (place ≢ 20) × (place ≢ 21)
-own_below place (inl here) = (let low = here.1 in (omega (arith, low), (λ e. absurd (omega (arith, low, e))), (λ e. absurd (omega (arith, low, e)))))
-own_below place (inr here) = (let low = here.0 in let high = here.1 in (high, (λ e. absurd (omega (arith, low, e))), (λ e. absurd (omega (arith, low, e)))))
+own_below : (place : ℕ) → IsOwnPlace place → place < 32
+own_below place (inl here) = (let low = here.1 in omega (arith, low))
+own_below place (inr here) = here.1
 
-client_apart : (world : World) (place other : ℕ) → IsOwnPlace place → is_word world other ≡ true → place ≢ other
-client_apart world place other own is e =
-    let below = own_below place own in
-    elim (word_may world other is) [
-      | inl head ↦ absurd (below.1 (e ∙ head))
-      | inr (inl tail) ↦ absurd (below.2 (e ∙ tail))
-      | inr (inr behind) ↦ (let low = below.0 in absurd (omega (arith, low, behind, e)))
-    ]
+own_out : (place : ℕ) → IsOwnPlace place → ¬ MayBeClients place
+own_out place (inl here) = (let low = here.1 in engines_out place (inl (omega (arith, low))))
+own_out place (inr here) = engines_out place (inr here)
+
+client_apart : (is_root : ℕ → Bool) (world : World) (place other : ℕ) → IsOwnPlace place → is_word is_root world other ≡ true → place ≢ other
+client_apart is_root world place other own is e = own_out place own (subst MayBeClients (sym e) (word_may is_root world other is))
 
 block_apart : (place block field : ℕ) → IsOwnPlace place → place ≢ block_place block field
-block_apart place block field own e = (let below = (own_below place own).0 in let behind = block_place_behind block field in absurd (omega (arith, below, behind, e)))
+block_apart place block field own e = (let below = own_below place own in let behind = block_place_behind block field in absurd (omega (arith, below, behind, e)))
 
 -- the two words of this seat are of the call of this number, which has this operation, or of an earlier one
 record Announced (world : World) (seat number : ℕ) (op : Op) : Type 0 where
@@ -108,13 +106,13 @@ module _ {S W : Type 0} (form : NormalForm S W) (world after : World) (offers : 
   helps_leave : (block : ℕ) (offer : Offer S) → offers block ≡ Some offer → (w : World) → Helps form world offer w → (place : ℕ) → IsOwnPlace place → w.words place ≡ world.words place
   helps_leave block offer stands w looks place own = refl
   helps_leave block offer stands w (installs_first entry listed stood) place own =
-      word_beside entry.target _ world.words place (client_apart world place entry.target own ((holds.blocks.offered block offer stands).targets 0 entry listed).0)
+      word_beside entry.target _ world.words place (client_apart form.is_root world place entry.target own ((holds.blocks.offered block offer stands).targets 0 entry listed).0)
   helps_leave block offer stands w (installs_second entry listed behind stood) place own =
-      word_beside entry.target _ world.words place (client_apart world place entry.target own ((holds.blocks.offered block offer stands).targets 1 entry listed).0)
+      word_beside entry.target _ world.words place (client_apart form.is_root world place entry.target own ((holds.blocks.offered block offer stands).targets 1 entry listed).0)
   helps_leave block offer stands w (succeeds j entry listed behind pending shows) place own = word_beside (block_place offer.list.block (9 + j)) _ world.words place (block_apart place offer.list.block (9 + j) own)
   helps_leave block offer stands w (fails j entry listed behind pending past not) place own = word_beside (block_place offer.list.block (9 + j)) _ world.words place (block_apart place offer.list.block (9 + j) own)
   helps_leave block offer stands w (clears_bit j entry listed behind succeeded shows) place own =
-      word_beside entry.target entry.to world.words place (client_apart world place entry.target own ((holds.blocks.offered block offer stands).targets j entry listed).0)
+      word_beside entry.target entry.to world.words place (client_apart form.is_root world place entry.target own ((holds.blocks.offered block offer stands).targets j entry listed).0)
 
   -- so does any step, but for those of the own announcement
   own_stays : (mech : Mech S W) → Touches form world after offers mech → (place : ℕ) → IsOwnPlace place → place ≢ value_place mech.seat → place ≢ op_place mech.seat → after.words place ≡ world.words place
@@ -123,7 +121,7 @@ module _ {S W : Type 0} (form : NormalForm S W) (world after : World) (offers : 
   own_stays mech (tells_value put) place own value op = ap (λ (w : World). w.words place) put ∙ word_beside (value_place mech.seat) _ world.words place value
   own_stays mech (tells_op small put) place own value op = ap (λ (w : World). w.words place) put ∙ word_beside (op_place mech.seat) _ world.words place op
   own_stays mech (stores block field word zero put) place own value op = ap (λ (w : World). w.words place) put ∙ word_beside (block_place block field) word world.words place (block_apart place block field own)
-  own_stays mech (wins other word is) place own value op = ap (λ (f : ℕ → ℕ). f place) is.words ∙ word_beside other word world.words place (client_apart world place other own is.client)
+  own_stays mech (wins other word is) place own value op = ap (λ (f : ℕ → ℕ). f place) is.words ∙ word_beside other word world.words place (client_apart form.is_root world place other own is.client)
   own_stays mech (helps block offer stands is) place own value op = helps_leave block offer stands after is place own
 
   op_own : (seat : ℕ) → seat < 8 → IsOwnPlace (op_place seat)
@@ -162,8 +160,8 @@ module _ {S W : Type 0} (form : NormalForm S W) (world after : World) (offers : 
       (ap (λ (w : World). w.words (value_place mech.seat)) put ∙ word_beside (block_place block field) word world.words (value_place mech.seat) (block_apart (value_place mech.seat) block field (value_own mech.seat few))) is
   mover_announced mech few small (wins other word won) is =
       both_stay world after mech.seat mech.number mech.op
-      (ap (λ (f : ℕ → ℕ). f (op_place mech.seat)) won.words ∙ word_beside other word world.words (op_place mech.seat) (client_apart world (op_place mech.seat) other (op_own mech.seat few) won.client))
-      (ap (λ (f : ℕ → ℕ). f (value_place mech.seat)) won.words ∙ word_beside other word world.words (value_place mech.seat) (client_apart world (value_place mech.seat) other (value_own mech.seat few) won.client)) is
+      (ap (λ (f : ℕ → ℕ). f (op_place mech.seat)) won.words ∙ word_beside other word world.words (op_place mech.seat) (client_apart form.is_root world (op_place mech.seat) other (op_own mech.seat few) won.client))
+      (ap (λ (f : ℕ → ℕ). f (value_place mech.seat)) won.words ∙ word_beside other word world.words (value_place mech.seat) (client_apart form.is_root world (value_place mech.seat) other (value_own mech.seat few) won.client)) is
   mover_announced mech few small (helps block offer stands does) is =
       both_stay world after mech.seat mech.number mech.op (helps_leave block offer stands after does (op_place mech.seat) (op_own mech.seat few))
       (helps_leave block offer stands after does (value_place mech.seat) (value_own mech.seat few)) is

@@ -16,7 +16,7 @@ use Rattle.normal_traits.specs.World.{Among, Called, Change, Listed, World}
 use Rattle.normal_traits.specs.World.Maker.{By}
 use Rattle.normal_traits.specs.NormalForm.{NormalForm}
 use Rattle.normal_traits.specs.Laws.{Laws}
-use Rattle.normal_traits.specs.Steps.{IsStep, change_of, listed_if, object, put_word, with_change}
+use Rattle.normal_traits.specs.Steps.{IsStep, change_of, listed_if, put_word, with_change}
 use Rattle.op_record.specs.Outcomes.{outcome_of}
 use Rattle.fast_slow_engine.specs.declared.phases.Phase.{Phase}
 use Rattle.fast_slow_engine.specs.declared.phases.Phase.TheVariants as phase
@@ -165,17 +165,17 @@ module _ {S W : Type 0} (form : NormalForm S W) (laws : Laws form) (setup : Setu
   -- ---- a new change
 
   -- a list whose change is new was not dead, and had made none
-  not_dead : {A : Type 0} (list : Listed) → IsStep form world after → after.changes ≡ change_of (object form) list world.changes ∷ world.changes → form.dead list world → A
+  not_dead : {A : Type 0} (list : Listed) → IsStep form world after → after.changes ≡ change_of form.object list world.changes ∷ world.changes → form.dead list world → A
   not_dead list step made is =
-      absurd (laws.dead_unchanged after list (change_of (object form) list world.changes) (laws.shape_kept world after kept.holds.shape step) (laws.dead_kept world after list kept.holds.shape is step)
-      (subst (Among (change_of (object form) list world.changes)) (sym made) (inl refl)) refl)
+      absurd (laws.dead_unchanged after list (change_of form.object list world.changes) (laws.shape_kept world after kept.holds.shape step) (laws.dead_kept world after list kept.holds.shape is step)
+      (subst (Among (change_of form.object list world.changes)) (sym made) (inl refl)) refl)
 
-  not_changed : {A : Type 0} (list : Listed) → IsStep form world after → after.changes ≡ change_of (object form) list world.changes ∷ world.changes → (change : Change) → Among change world.changes → change.list ≡ list → A
+  not_changed : {A : Type 0} (list : Listed) → IsStep form world after → after.changes ≡ change_of form.object list world.changes ∷ world.changes → (change : Change) → Among change world.changes → change.list ≡ list → A
   not_changed list step made old among of =
       let pairs = laws.one_change_a_list after (laws.shape_kept world after kept.holds.shape step) in
-      absurd (first_differs (change_of (object form) list world.changes) world.changes old (subst (AllPairs DifferentLists) made pairs) among (ap (λ (l : Listed). l.identity) (sym of)))
+      absurd (first_differs (change_of form.object list world.changes) world.changes old (subst (AllPairs DifferentLists) made pairs) among (ap (λ (l : Listed). l.identity) (sym of)))
 
-  followed_begun : (list : Listed) → IsStep form world after → after.changes ≡ change_of (object form) list world.changes ∷ world.changes → (seat : ℕ) (mate : Mech S W) → slice_get (run_of form setup older).mechs seat ≡ Some mate
+  followed_begun : (list : Listed) → IsStep form world after → after.changes ≡ change_of form.object list world.changes ∷ world.changes → (seat : ℕ) (mate : Mech S W) → slice_get (run_of form setup older).mechs seat ≡ Some mate
       → list.call.seat ≡ mate.seat → IsFollowed form world (λ s. ((ghost_of form setup older).seats s).held) list → list.call.number ≤ mate.number
   followed_begun list step made seat mate found same (with_seat own has is) =
       let here : list.call.seat ≡ seat = same ∙ seat_of seat mate found in
@@ -184,7 +184,7 @@ module _ {S W : Type 0} (form : NormalForm S W) (laws : Laws form) (setup : Setu
   followed_begun list step made seat mate found same (gone_dead gone) = not_dead list step made gone
   followed_begun list step made seat mate found same (has_changed change among of) = not_changed list step made change among of
 
-  owned_begun : (list : Listed) → IsStep form world after → after.changes ≡ change_of (object form) list world.changes ∷ world.changes → (IsUnannounced world list → IsFollowed form world (λ s. ((ghost_of form setup older).seats s).held) list)
+  owned_begun : (list : Listed) → IsStep form world after → after.changes ≡ change_of form.object list world.changes ∷ world.changes → (IsUnannounced world list → IsFollowed form world (λ s. ((ghost_of form setup older).seats s).held) list)
       → IsOwned form world offers list → HasBegun list
   owned_begun list step made follows (unannounced fast) = λ seat mate found same. followed_begun list step made seat mate found same (follows fast)
   owned_begun list step made follows (named now) = named_begun list now
@@ -201,7 +201,7 @@ module _ {S W : Type 0} (form : NormalForm S W) (laws : Laws form) (setup : Setu
   put_changes : (place put : ℕ) → after ≡ put_word place put world → Only
   put_changes place put is = same_changes (ap (λ (w : World). w.changes) is)
 
-  new_of : (list : Listed) → after.changes ≡ change_of (object form) list world.changes ∷ world.changes → HasBegun list → Only
+  new_of : (list : Listed) → after.changes ≡ change_of form.object list world.changes ∷ world.changes → HasBegun list → Only
   new_of list made has change among =
       elim (subst (Among change) made among) [ inl new ↦ inr (subst HasBegun (ap (λ (c : Change). c.list) (sym new)) has) | inr old ↦ inl old ]
 
@@ -216,7 +216,7 @@ module _ {S W : Type 0} (form : NormalForm S W) (laws : Laws form) (setup : Setu
             ]
       ]
 
-  beside_only : (list : Option Listed) (entry : Entry) → form.adds_beside world entry ≡ list → IsStep form world after → after.changes ≡ with_change (object form) list world.changes → Only
+  beside_only : (list : Option Listed) (entry : Entry) → form.adds_beside world entry ≡ list → IsStep form world after → after.changes ≡ with_change form.object list world.changes → Only
   beside_only None entry adds step made = same_changes made
   beside_only (Some list) entry adds step made =
       let took = (laws.beside world list entry kept.holds.shape adds).1 in
@@ -241,7 +241,7 @@ module _ {S W : Type 0} (form : NormalForm S W) (laws : Laws form) (setup : Setu
           let some : is_of offer.0.list j (By list j) ≡ true = subst (λ (l : Listed). is_of l j (By list j) ≡ true) (sym offer.2) (and_from (list.identity == list.identity) (j == j) (eq-eqb list.identity list.identity refl) (eq-eqb j j refl)) in
           absurd (let both : true ≡ false = sym some ∙ none in cc)
 
-  enters_only : (adds : Bool) (list : Listed) → HasBegun list → after.changes ≡ with_change (object form) (listed_if adds list) world.changes → Only
+  enters_only : (adds : Bool) (list : Listed) → HasBegun list → after.changes ≡ with_change form.object (listed_if adds list) world.changes → Only
   enters_only false list has made = same_changes made
   enters_only true list has made = new_of list made has
 

@@ -64,7 +64,7 @@ named_before true block (Some own) offers at offer is =
       | inr apart ↦ (let test : (at == block) ≡ false = grind (arith, nat_tests) in inl (sym (ap (λ b. if b then Some own else offers at) test) ∙ is))
     ]
 
-module _ {S W : Type 0} (form : NormalForm S W) (laws : Laws form) (world : World) (offers : ℕ → Option (Offer S)) (holds : HasOffers form world offers) (bounded : (place : ℕ) → is_word world place ≡ true → place < 2 ^ 32) where
+module _ {S W : Type 0} (form : NormalForm S W) (laws : Laws form) (world : World) (offers : ℕ → Option (Offer S)) (holds : HasOffers form world offers) (bounded : (place : ℕ) → is_word form.is_root world place ≡ true → place < 2 ^ 32) where
   -- the block of a list that a record is about to name is filled for it
   filled_block : (caller : Caller) (head word : ℕ) (hand : Option ℕ) (filled : Option (Offer S)) (to : ℕ) (offer : Offer S) → MayAdvance form world offers caller head word hand filled to → is_executing (record_phase to) ≡ true → filled ≡ Some offer
       → HasContents world offer

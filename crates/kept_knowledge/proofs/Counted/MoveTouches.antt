@@ -3,7 +3,7 @@ use Rattle.std.proofs.Common.{◌≡◌, ◌∙◌, sym, subst, ap, ℕ, ◌+◌
 use Rattle.std.proofs.lemmas.Option.{slice_get-get_or}
 use Rattle.arrayvec.specs.ArrayVec.{ArrayVec}
 use Rattle.lin_report.specs.declared.calls.Op.{Op}
-use Rattle.lin_report.specs.Commands.{IsCommandOf}
+use Rattle.lin_report.specs.Object.{IsCommandOf}
 use Rattle.step_memory.specs.declared.steps.Seen.{Seen}
 use Rattle.step_memory.specs.Step.{seen_of}
 use Rattle.word_fields.specs.Payloads.{payload_stop}
@@ -171,9 +171,9 @@ module _ {S W : Type 0} (form : NormalForm S W) (laws : Laws form) (world after 
   own_wrap wrap (Some held) seen knows is =
       kind_touches form world after offers mech offers (wrap_kind form laws world holds.shape offers 8 None wrap after seen held.list held.stop knows.offered.command knows.wraps knows.follows is)
 
-  announce_does : (at : Announcing) → mech.seat < 8 → IsCommandOf form.client mech.op → Announces form world after offers offers' at mech → Does
+  announce_does : (at : Announcing) → mech.seat < 8 → IsCommandOf form.object mech.op → Announces form world after offers offers' at mech → Does
   announce_does announcing.Value few command is = tells_value is
-  announce_does announcing.Op few command is = tells_op (code_fits form.client mech.op command.command) is
+  announce_does announcing.Op few command is = tells_op (code_fits form.object form.tellable mech.op command.command) is
   announce_does announcing.Record few command is = record_touches form world after offers mech mech.seat _ few is
 
   module _ (callers : ℕ → Caller) (own own' : SeatGhost S) (identity : ℕ) (seen : Seen) where

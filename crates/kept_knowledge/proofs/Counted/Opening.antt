@@ -1,16 +1,11 @@
 -- All that is kept holds where a run opens: no record has named a block, nothing took effect, and each seat has made no call.
-use Rattle.std.proofs.Common.{◌≡◌, ◌∙◌, refl, sym, subst, ap, ℕ, ◌^◌, ◌<◌, ◌==◌, ◌||◌, if◌then◌else◌, Bool, true, false, [], slice_get, Some, arith}
-use Rattle.std.proofs.lemmas.Bool.Decides.{nat_tests}
-use Rattle.std.proofs.lemmas.Grind.{common_steps}
+use Rattle.std.proofs.Common.{◌≡◌, ◌∙◌, refl, sym, subst, ap, ℕ, ◌<◌, [], slice_get, Some, arith, inl, inr}
 use Rattle.std.proofs.lemmas.Option.{slice_get_within}
-use Rattle.lin_report.specs.declared.calls.Client.{Client}
-use Rattle.lin_report.specs.declared.calls.Client.TheVariants as client
 use Rattle.word_fields.specs.declared.records.Phase.TheVariants as record_phases
 use Rattle.word_fields.specs.Announced.{op_number, op_word, value_number, value_word}
 use Rattle.word_fields.specs.Records.{record_of, record_phase, record_payload}
-use Rattle.word_fields.specs.Versioned.{versioned_word}
 use Rattle.node_arena.specs.MemoryMap.{op_place, record_place, value_place}
-use Rattle.node_arena.specs.Opening.{opening_word}
+use Rattle.node_arena.proofs.Openings.{opens_zero_at, opens_first_version}
 use Rattle.normal_traits.specs.World.{World}
 use Rattle.normal_traits.specs.NormalForm.{NormalForm}
 use Rattle.normal_traits.specs.Laws.{Laws, opening_world}
@@ -30,31 +25,6 @@ use Rattle.run_knowledge.specs.RunGhosts.{ghost_of, world_of}
 use Rattle.run_knowledge.specs.Kept.{IsKept, KnowsWell, VersionsCount, callers_in}
 use Rattle.run_knowledge.specs.Tells.{IsAnnounced}
 use Rattle.run_knowledge.proofs.Words.Opens.{world_opens}
-use Rattle.kept_knowledge.proofs.Counted.Stored.{small_version}
-
--- ---- the opening words
-
--- those of the seats are 0
-record_zero : (c : Client) (seat : ℕ) → seat < 8 → opening_word c (record_place seat) ≡ 0
-unfolding opening_word
-record_zero client.Queue seat few = grind (arith, common_steps, nat_tests)
-record_zero client.List seat few = refl
-record_zero client.Tree seat few = grind (arith, common_steps, nat_tests)
-record_zero client.Buckets seat few = refl
-
-op_zero : (c : Client) (seat : ℕ) → seat < 8 → opening_word c (op_place seat) ≡ 0
-unfolding opening_word
-op_zero client.Queue seat few = grind (arith, common_steps, nat_tests)
-op_zero client.List seat few = refl
-op_zero client.Tree seat few = grind (arith, common_steps, nat_tests)
-op_zero client.Buckets seat few = refl
-
-value_zero : (c : Client) (seat : ℕ) → seat < 8 → opening_word c (value_place seat) ≡ 0
-unfolding opening_word
-value_zero client.Queue seat few = grind (arith, common_steps, nat_tests)
-value_zero client.List seat few = refl
-value_zero client.Tree seat few = grind (arith, common_steps, nat_tests)
-value_zero client.Buckets seat few = refl
 
 phase_0 : record_phase 0 ≡ record_phases.Idle
 unfolding record_phase Rattle.word_fields.specs.Fields.field_of
@@ -76,32 +46,12 @@ value_word_0 : value_word 0 0 ≡ 0
 unfolding value_word
 value_word_0 = omega arith
 
--- none has a version
-opening_either : (b : Bool) → (if b then versioned_word 1 0 0 else 0) < 2 ^ 24
-unfolding versioned_word
-opening_either true = omega arith
-opening_either false = omega arith
-
-tree_either : (a b c d : Bool) → (if a then 1048576 else (if b then 1048577 else (if c then 1 else (if d then 3 else 0)))) < 2 ^ 24
-tree_either true b c d = omega arith
-tree_either false true c d = omega arith
-tree_either false false true d = omega arith
-tree_either false false false true = omega arith
-tree_either false false false false = omega arith
-
-opening_small : (c : Client) (place : ℕ) → opening_word c place < 2 ^ 24
-unfolding opening_word versioned_word
-opening_small client.Queue place = opening_either (place == 20 || place == 21)
-opening_small client.List place = omega arith
-opening_small client.Tree place = tree_either (place == 44) (place == 49 || place == 54) (place == 51) (place == 52)
-opening_small client.Buckets place = omega arith
-
 none_offered : {S A : Type 0} (block : ℕ) (offer : Offer S) → no_offers block ≡ Some offer → A
 none_offered block offer stands = absurd cc
 
 module _ {S W : Type 0} (form : NormalForm S W) where
   opening_versions : VersionsCount form (opening_world form)
-  opening_versions place versioned may = (let none = small_version (opening_word form.client place) (opening_small form.client place) in omega (arith, none))
+  opening_versions place versioned may = (let none = opens_first_version form.opening form.opens place in omega (arith, none))
 
   -- what a new machine tells and knows
   module _ (setup : Setup) (seat : ℕ) (few : seat < 8) where
@@ -110,8 +60,8 @@ module _ {S W : Type 0} (form : NormalForm S W) where
 
     opening_announced : IsAnnounced (opening_world form) new 0
     opening_announced =
-        let op = op_zero form.client seat few in
-        let value = value_zero form.client seat few in
+        let op = opens_zero_at form.opening form.opens (op_place seat) (inl (omega (arith, few))) in
+        let value = opens_zero_at form.opening form.opens (value_place seat) (inr (omega arith, omega (arith, few))) in
         let op' = ap op_number op ∙ op_0 in
         let value' = ap value_number value ∙ value_0 in
         record {
@@ -134,7 +84,7 @@ module _ {S W : Type 0} (form : NormalForm S W) where
       early = omega arith;
       announced = opening_announced;
       below = λ change among of. absurd among;
-      record_tells = λ same. idle_tells (opening_word form.client (record_place seat)) (record_zero form.client seat few);
+      record_tells = λ same. idle_tells (form.opening (record_place seat)) (opens_zero_at form.opening form.opens (record_place seat) (inl (omega (arith, few))));
     }
 
 module _ {S W : Type 0} (form : NormalForm S W) (laws : Laws form) (setup : Setup) where

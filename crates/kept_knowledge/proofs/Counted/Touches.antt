@@ -29,7 +29,7 @@ StartsAtZero form store = form.is_versioned store.0 ≡ true → versioned_versi
 module _ {S W : Type 0} (form : NormalForm S W) (world after : World) (offers : ℕ → Option (Offer S)) where
   -- a word of the client is exchanged, whose version is raised by one at most, and the exchange goes into the journal
   pub record IsWonAt (place word : ℕ) : Type 0 where
-    pub client : is_word world place ≡ true
+    pub client : is_word form.is_root world place ≡ true
     pub words : after.words ≡ with_word place word world.words
     pub raised : versioned_version word ≤ versioned_version (world.words place) + 1
     pub longer : length after.journal ≡ length world.journal + 1

@@ -1,10 +1,11 @@
 -- No version is above the number of won exchanges after a move.
-use Rattle.std.proofs.Common.{◌≡◌, ◌≢◌, ◌∙◌, refl, sym, subst, ap, ℕ, ◌+◌, ◌<◌, ◌≤◌, inl, inr, true, false, List, ◌∷◌, length, slice_get, Option, Some, arith}
+use Rattle.std.proofs.Common.{◌≡◌, ◌∙◌, refl, sym, subst, ap, ℕ, ◌+◌, ◌<◌, ◌≤◌, inl, inr, true, false, List, ◌∷◌, length, slice_get, Option, Some, arith}
 use Rattle.std.proofs.lemmas.Bool.{cases_eq}
 use Rattle.std.proofs.lemmas.Option.{slice_get_within}
 use Rattle.word_fields.specs.Versioned.{marked_word, versioned_version}
 use Rattle.word_fields.proofs.VersionedLemmas.{version-marked}
-use Rattle.node_arena.specs.MemoryMap.{block_place, op_place, value_place}
+use Rattle.node_arena.specs.MemoryMap.{block_place, op_place, value_place, MayBeClients}
+use Rattle.node_arena.proofs.PlaceLemmas.{engines_out}
 use Rattle.normal_traits.specs.declared.lists.Entry.{Entry}
 use Rattle.normal_traits.specs.World.{World}
 use Rattle.normal_traits.specs.NormalForm.{NormalForm}
@@ -20,21 +21,15 @@ use Rattle.offered_blocks.specs.Holds.{HasOffers}
 use Rattle.offered_blocks.specs.HelperSteps.{Helps}
 use Rattle.offered_blocks.specs.HelperSteps.Helps.{looks, installs_first, installs_second, succeeds, fails, clears_bit}
 use Rattle.run_knowledge.specs.RunGhosts.{ghost_of, world_of}
-use Rattle.run_knowledge.specs.Kept.{IsKept, MayBeClients, VersionsCount}
+use Rattle.run_knowledge.specs.Kept.{IsKept, VersionsCount}
 use Rattle.run_knowledge.proofs.InRuns.Rests.{known}
 use Rattle.kept_knowledge.proofs.Counted.MoveTouches.{move_touches}
 use Rattle.kept_knowledge.proofs.Counted.Touches.{IsEngines, Touches}
 use Rattle.kept_knowledge.proofs.Counted.Touches.Touches.{leaves, puts, tells_value, tells_op, stores, wins, helps}
 
--- a first word that is neither head nor tail is no word of the client
-first_not : {A : Type 0} (place : ℕ) → place < 32 → place ≢ 20 → place ≢ 21 → MayBeClients place → A
-first_not place low head tail (inl is) = absurd (head is)
-first_not place low head tail (inr (inl is)) = absurd (tail is)
-first_not place low head tail (inr (inr behind)) = absurd (omega (arith, low, behind))
-
 engine_not : {A : Type 0} (place : ℕ) → IsEngines place → MayBeClients place → A
-engine_not place (inl low) may = first_not place (omega (arith, low)) (λ e. absurd (omega (arith, low, e))) (λ e. absurd (omega (arith, low, e))) may
-engine_not place (inr between) may = (let low = between.1 in first_not place (omega (arith, low)) (λ e. absurd (omega (arith, low, e))) (λ e. absurd (omega (arith, low, e))) may)
+engine_not place (inl low) may = absurd (engines_out place (inl (omega (arith, low))) may)
+engine_not place (inr between) may = (let low = between.1 in absurd (engines_out place (inl (omega (arith, low))) may))
 
 module _ {S W : Type 0} (form : NormalForm S W) (laws : Laws form) (world after : World) (offers : ℕ → Option (Offer S)) (holds : HasOffers form world offers) (count : VersionsCount form world) where
   abbrev Counts : Type 0
@@ -113,9 +108,9 @@ module _ {S W : Type 0} (form : NormalForm S W) (laws : Laws form) (world after 
   touches_count mech few (leaves same) = subst (VersionsCount form) (sym same) count
   touches_count mech few (puts place word is put) = put_counts place word put (λ versioned may. engine_not place is may)
   touches_count mech few (tells_value put) =
-      put_counts (value_place mech.seat) _ put (λ versioned may. first_not (value_place mech.seat) (omega (arith, few)) (λ e. absurd (omega (arith, e))) (λ e. absurd (omega (arith, e))) may)
+      put_counts (value_place mech.seat) _ put (λ versioned may. absurd (engines_out (value_place mech.seat) (inr (omega arith, omega (arith, few))) may))
   touches_count mech few (tells_op small put) =
-      put_counts (op_place mech.seat) _ put (λ versioned may. first_not (op_place mech.seat) (omega (arith, few)) (λ e. absurd (omega (arith, few, e))) (λ e. absurd (omega (arith, few, e))) may)
+      put_counts (op_place mech.seat) _ put (λ versioned may. absurd (engines_out (op_place mech.seat) (inl (omega (arith, few))) may))
   touches_count mech few (stores block field word zero put) = put_counts (block_place block field) word put (λ versioned may. zero versioned)
   touches_count mech few (wins place word is) = raised_counts place word is.words is.longer is.raised
   touches_count mech few (helps block offer stands is) = helps_counts block offer stands after is refl

@@ -56,7 +56,7 @@ module _ {S W : Type 0} (form : NormalForm S W) (laws : Laws form) (world : Worl
   execute_leaves : (run : FastWalk) (stores : ArrayVec (ℕ × ℕ)) (mech : Mech S W) (held : Option (Held S)) → OfSome (IsOffering form run stores mech) held → OfSome (KnowsRun form world run) held → LeavesOthers (fast_request run)
   execute_leaves run stores mech None offering knows = absurd knows
   execute_leaves run stores mech (Some held) offering knows =
-      run_leaves world run
+      run_leaves form.is_root world run
       (λ entry at.
       let listed : slice_get held.list.entries run.next ≡ Some entry = ap (λ (l : List Entry). slice_get l run.next) offering.entries ∙ at in
       let good : IsGoodEntry form world entry = entry_good form laws world held.list held.offering held.since run.next entry holds.shape knows.offered listed in
@@ -97,7 +97,7 @@ module _ {S W : Type 0} (form : NormalForm S W) (laws : Laws form) (world : Worl
   work_leaves caller head word hand own (work.Execute run) client knows =
       let mine = holds.blocks.offered (named_block word) knows.1.0 knows.1.1.stands in
       let known = knows.1.2 in
-      slow_leaves world run (λ entry at. (mine.targets run.next entry (ap (λ (l : List Entry). slice_get l run.next) (sym known.entries) ∙ at)).0)
+      slow_leaves form.is_root world run (λ entry at. (mine.targets run.next entry (ap (λ (l : List Entry). slice_get l run.next) (sym known.entries) ∙ at)).0)
   work_leaves caller head word hand own (work.Wrap wrap) client knows =
       asks_leaves form world (form.wrap_request_of wrap) (laws.wrap_asks_well world wrap knows.1.0.list _ holds.shape knows.1.3 knows.1.4)
 

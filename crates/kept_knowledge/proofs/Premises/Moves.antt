@@ -1,7 +1,9 @@
 -- Each move of a run of which the invariant holds meets the premises of the laws of ticks, claims and the help queue, so they
 -- are met by the run with the move.
-use Rattle.std.proofs.Common.{◌≡◌, refl, sym, subst, ◌∙◌, ℕ, ◌<◌, ◌≤◌, true, inl, inr, List, ◌∷◌, slice_get, Some, arith}
+use Rattle.std.proofs.Common.{◌≡◌, refl, sym, subst, ◌∙◌, ℕ, ◌<◌, true, inl, inr, List, ◌∷◌, slice_get, Some, arith}
 use Rattle.node_arena.specs.declared.places.TheConstants.{TICKS, CLAIMS}
+use Rattle.node_arena.specs.MemoryMap.{MayBeClients}
+use Rattle.node_arena.proofs.PlaceLemmas.{engines_out}
 use Rattle.normal_traits.specs.NormalForm.{NormalForm}
 use Rattle.normal_traits.specs.Laws.{Laws}
 use Rattle.fast_slow_engine.specs.declared.phases.Phase.{Phase}
@@ -23,7 +25,7 @@ use Rattle.run_laws.proofs.PremiseLemmas.{client_keeps_claims, client_keeps_tick
 use Rattle.run_laws.proofs.Steps.{some_same}
 use Rattle.run_queue.specs.Premises as queue
 use Rattle.run_knowledge.specs.RunGhosts.{ghost_of, world_of}
-use Rattle.run_knowledge.specs.Kept.{IsKept, MayBeClients, callers_in}
+use Rattle.run_knowledge.specs.Kept.{IsKept, callers_in}
 use Rattle.run_knowledge.proofs.Blocks.Counts.{queue_kept}
 use Rattle.run_knowledge.proofs.InRuns.MovesKinds.{hand_begun, hand_within}
 use Rattle.run_knowledge.proofs.InRuns.Rests.{known}
@@ -69,19 +71,12 @@ both_clients (phase.End reply) is = is
 
 -- the two counters and the words of the queue are no words of a client
 counter_not : (place : ℕ) → place < 20 → ¬ MayBeClients place
-counter_not place low (inl head) = omega (arith, low, head)
-counter_not place low (inr (inl tail)) = omega (arith, low, tail)
-counter_not place low (inr (inr behind)) = omega (arith, low, behind)
-
-high_not : (place : ℕ) → 24 ≤ place → place < 32 → ¬ MayBeClients place
-high_not place high low (inl head) = omega (arith, high, head)
-high_not place high low (inr (inl tail)) = omega (arith, high, tail)
-high_not place high low (inr (inr behind)) = omega (arith, low, behind)
+counter_not place low = engines_out place (inl low)
 
 queue_not : (place : ℕ) → queue.IsQueuePlace place → ¬ MayBeClients place
 queue_not place (inl is) = counter_not place (omega (arith, is))
 queue_not place (inr (inl low)) = counter_not place low.1
-queue_not place (inr (inr high)) = high_not place high.0 high.1
+queue_not place (inr (inr high)) = engines_out place (inr high)
 
 module _ {S W : Type 0} (form : NormalForm S W) (laws : Laws form) (setup : Setup) (older : List Move) (move : Move) (mech : Mech S W) (are : AreMoves form setup (move ∷ older))
     (at : slice_get (run_of form setup older).mechs move.seat ≡ Some mech) (kept : IsKept form setup older) where

@@ -20,7 +20,7 @@ use Rattle.offered_blocks.proofs.Helpers.Deeds.{word_no_state}
 
 module _ {S W : Type 0} (form : NormalForm S W) (laws : Laws form) (world : World) (shape : form.shape world) (block : ℕ) (offer : Offer S)
     (offered : IsOffered form world offer.list offer.offering offer.since) (block_is : offer.list.block ≡ block) (some : 0 < block)
-    (room : (place : ℕ) → is_word world place ≡ true → form.is_versioned place ≡ true → versioned_version (world.words place) + 1 < 2 ^ 39)
+    (room : (place : ℕ) → is_word form.is_root world place ≡ true → form.is_versioned place ≡ true → versioned_version (world.words place) + 1 < 2 ^ 39)
     (pending : (j : ℕ) → j < 2 → world.words (state_place block j) ≡ 0) (fresh : (j : ℕ) → has_taken world.journal offer.list j ≡ false) where
   good : IsGoodOffer form world offer.list.block (form.offer_of offer.offering offer.list.call.op offer.list.block)
   good = laws.offers world offer.offering offer.list.call.op offer.since offer.list.block offered.command shape offered.knows offered.ready offered.small
@@ -66,7 +66,7 @@ module _ {S W : Type 0} (form : NormalForm S W) (laws : Laws form) (world : Worl
     short = long;
     raised = raised_of;
     apart = same_target;
-    outside = λ i j entry few listed. word_no_state world offer.list.block i entry.target (omega (arith, block_is, some)) few (entry_good j entry listed).word;
+    outside = λ i j entry few listed. word_no_state form.is_root world offer.list.block i entry.target (omega (arith, block_is, some)) few (entry_good j entry listed).word;
   }
 
   state_pending : (j : ℕ) → j < 2 → world.words (state_place offer.list.block j) ≡ 0

@@ -31,7 +31,7 @@ moves_of guarded old new (stays same) = kept same
 moves_of guarded old new (clears_bit is) = cleared is
 moves_of guarded old new (rises more clear) = raised more
 
-module _ {S W : Type 0} (form : NormalForm S W) (laws : Laws form) (world : World) (place : ℕ) (here : is_word world place ≡ true) where
+module _ {S W : Type 0} (form : NormalForm S W) (laws : Laws form) (world : World) (place : ℕ) (here : is_word form.is_root world place ≡ true) where
   -- a word is put where another stood
   put_goes : (at word : ℕ) → versioned_version (world.words at) < versioned_version word → (form.is_listable at ≡ true → versioned_bit (world.words at) ≡ 0)
       → Goes (form.is_listable place) (world.words place) (with_word at word world.words place)
@@ -64,7 +64,7 @@ module _ {S W : Type 0} (form : NormalForm S W) (laws : Laws form) (world : Worl
 
   pub step_goes : (after : World) → form.shape world → IsStep form world after → Goes (form.is_listable place) (world.words place) (after.words place)
   step_goes after shape nothing = stays refl
-  step_goes after shape (elsewhere at word is) = stays (word_beside at word world.words place (words_apart world place at here is))
+  step_goes after shape (elsewhere at word is) = stays (word_beside at word world.words place (words_apart form.is_root world place at here is))
   step_goes after shape (clears at is versioned listable) =
       elim (cases_eq place at) [
         | inl same ↦ clears_bit (word_put at _ world.words place same ∙ ap (λ p. cleared_word (world.words p)) (sym same))

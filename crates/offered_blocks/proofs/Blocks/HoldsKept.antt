@@ -55,7 +55,7 @@ module _ {S W : Type 0} (form : NormalForm S W) (laws : Laws form) (world after 
         filled_stays form block world after (fields block offer stands free) offer.list stores mine.block_is (subst (λ b. All (IsGoodStore form b) stores) mine.block_is good) was.1,
       )
 
-  pub holds_kept : HasBlocks form after offers → JournalWords after → HasOffers form after offers
+  pub holds_kept : HasBlocks form after offers → JournalWords form.is_root after → HasOffers form after offers
   holds_kept blocks journal = record {
     shape = laws.shape_kept world after is.shape step;
     blocks = blocks;

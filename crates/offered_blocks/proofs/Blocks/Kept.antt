@@ -9,7 +9,7 @@ use Rattle.cas_executor_laws.proofs.SiteLemmas.{offered_kept, stop_kept}
 use Rattle.offered_blocks.specs.Blocks.{Offer, site_of, has_taken, IsOffer, IsExecuting}
 
 module _ {S W : Type 0} (form : NormalForm S W) (laws : Laws form) (world after : World) (shape : form.shape world) (step : IsStep form world after)
-    (words : (place : ℕ) → is_word world place ≡ true → is_word after place ≡ true) (block : ℕ) (offer : Offer S) (is : IsOffer form world block offer)
+    (words : (place : ℕ) → is_word form.is_root world place ≡ true → is_word form.is_root after place ≡ true) (block : ℕ) (offer : Offer S) (is : IsOffer form world block offer)
     (deed : Deed (site_of offer) world.words (has_taken world.journal offer.list) after.words (has_taken after.journal offer.list))
     (taken : (j : ℕ) → has_taken after.journal offer.list j ≡ true → Took after offer.list j) where
   -- a list that has stopped has stopped there

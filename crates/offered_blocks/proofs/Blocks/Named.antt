@@ -1,42 +1,30 @@
 -- An entry that is pending behind entries that succeeded is one of the list that is executed now; and a target
 -- that shows an entry tells that it took effect.
-use Rattle.std.proofs.Common.{◌≡◌, ◌≢◌, ◌∙◌, refl, sym, subst, ap, ℕ, ◌<◌, Bool, true, false, ◌⊎◌, inl, inr, length, Option, Some, arith}
-use Rattle.std.specs.Prelude.{◌||◌, ◌&&◌, not, nat_le, ◌==◌}
+use Rattle.std.proofs.Common.{◌≡◌, ◌≢◌, ◌∙◌, sym, subst, ap, ℕ, ◌<◌, Bool, true, false, inl, inr, length, Option, Some, arith}
 use Rattle.std.proofs.lemmas.Bool.{cases_eq, cases_lt}
-use Rattle.std.proofs.lemmas.Bool.Decides.{nat_tests}
 use Rattle.std.proofs.lemmas.Option.{slice_get_within}
 use Rattle.word_fields.specs.Payloads.{payload_block}
 use Rattle.word_fields.specs.Records.{record_payload}
 use Rattle.word_fields.specs.Versioned.{versioned_bit, marked_word}
 use Rattle.word_fields.proofs.VersionedLemmas.{bit-marked}
-use Rattle.node_arena.specs.MemoryMap.{record_place, block_at, field_at}
+use Rattle.node_arena.specs.MemoryMap.{record_place}
 use Rattle.normal_traits.specs.declared.lists.Entry.{Entry}
-use Rattle.normal_traits.specs.World.{World, is_word, is_state}
+use Rattle.normal_traits.specs.World.{World, is_word}
 use Rattle.normal_traits.specs.NormalForm.{NormalForm}
 use Rattle.cas_executor.specs.SlowRuns.{SlowWalk, state_place}
 use Rattle.cas_executor_laws.specs.ExecRuns.{IsEntry}
 use Rattle.cas_executor_laws.specs.Parts.{KnowsStop, Knows, ShowsTaken}
 use Rattle.cas_executor_laws.proofs.SiteLemmas.{entry_at}
 use Rattle.offered_blocks.specs.Blocks.{Offer, site_of, has_taken, IsOffer, HasBlocks, MayBeMarked, IsExecuting, record_for}
+use Rattle.offered_blocks.proofs.Blocks.Places.{word_may}
 
 pub some_offer : {S : Type 0} (a b : Offer S) (o : Option (Offer S)) → o ≡ Some a → o ≡ Some b → a ≡ b
 some_offer a b o e e' = cc
 
--- a word of the client is head or tail, or behind the first words
-pub place_of_word : (head tail behind used rest : Bool) → (head || tail || (behind && used && rest)) ≡ true → (head ≡ true) ⊎ ((tail ≡ true) ⊎ (behind ≡ true))
-place_of_word true tail behind used rest e = inl refl
-place_of_word false true behind used rest e = inr (inl refl)
-place_of_word false false true used rest e = inr (inr refl)
-place_of_word false false false used rest e = absurd cc
-
 module _ {S W : Type 0} (form : NormalForm S W) (world : World) (offers : ℕ → Option (Offer S)) (blocks : HasBlocks form world offers) where
-  pub word_marked : (place : ℕ) → is_word world place ≡ true → form.is_versioned place ≡ true → form.is_listable place ≡ true → MayBeMarked form place
+  pub word_marked : (place : ℕ) → is_word form.is_root world place ≡ true → form.is_versioned place ≡ true → form.is_listable place ≡ true → MayBeMarked form place
   word_marked place word versioned listable = record {
-    place_is = elim (place_of_word (place == 20) (place == 21) (nat_le 32 place) (world.used (block_at place)) (block_at place == 0 || not (is_state (field_at place))) word) [
-      | inl head ↦ inl (grind (arith, nat_tests))
-      | inr (inl tail) ↦ inr (inl (grind (arith, nat_tests)))
-      | inr (inr behind) ↦ inr (inr (grind (arith, nat_tests)))
-    ];
+    place_is = word_may form.is_root world place word;
     versioned = versioned;
     listable = listable;
   }

@@ -18,7 +18,7 @@ use Rattle.offered_blocks.specs.Blocks.{Offer, is_of, has_taken, IsOffer, HasBlo
 use Rattle.offered_blocks.specs.Holds.{Waits}
 use Rattle.offered_blocks.specs.HelperSteps.{AreBehind, entered, first_entered}
 use Rattle.offered_blocks.proofs.Blocks.Items.{both}
-use Rattle.offered_blocks.proofs.Helpers.Deeds.{word_no_state}
+use Rattle.offered_blocks.proofs.Blocks.Places.{state_word}
 
 -- an exchange of a list of this identity is found in the journal
 pub taken_any : (journal : List Won) (list other : Listed) (j : ℕ) (won : Won) → Among won journal → won.maker ≡ By other j → other.identity ≡ list.identity → has_taken journal list j ≡ true
@@ -93,12 +93,9 @@ module _ {S W : Type 0} (form : NormalForm S W) (world : World) (offers : ℕ �
       second offer.list offer.offering offer.since entry (marked_word entry.to) mine.offered (mine.taken 0 took) (not_taken world offer.list offer.list 1 (from_untaken 1 entry listed at) refl) listed at (marks 1 entry listed)
 
   -- the state of an entry is no word of the client
-  pub state_no_word : (j : ℕ) → j < 2 → is_word world (state_place offer.list.block j) ≡ false
+  pub state_no_word : (j : ℕ) → j < 2 → is_word form.is_root world (state_place offer.list.block j) ≡ false
   state_no_word j few =
-      elim (cases_Bool (is_word world (state_place offer.list.block j))) [
-        | inr none ↦ none
-        | inl some ↦ absurd (word_no_state world offer.list.block j (state_place offer.list.block j) block_some few some refl)
-      ]
+      state_word form.is_root world offer.list.block j block_some few
 
   pub decide_allowed : (j word : ℕ) → j < 2 → IsStep form world (put_word (state_place offer.list.block j) word world)
   decide_allowed j word few = elsewhere (state_place offer.list.block j) word (state_no_word j few)

@@ -1,17 +1,14 @@
 -- What anyone's step is to an offered block: a turn of each of its entries.
-use Rattle.std.proofs.Common.{◌≡◌, ◌≢◌, ◌∙◌, refl, sym, subst, ap, ℕ, ◌+◌, ◌<◌, ◌==◌, ◌&&◌, Bool, true, false, inl, inr, length, Option, Some, arith}
+use Rattle.std.proofs.Common.{◌≡◌, ◌≢◌, ◌∙◌, sym, subst, ap, ℕ, ◌+◌, ◌<◌, Bool, true, inl, inr, length, Option, Some, arith}
 use Rattle.std.proofs.lemmas.Bool.{cases_eq}
-use Rattle.std.proofs.lemmas.Bool.Decides.{nat_tests}
-use Rattle.std.specs.Prelude.{◌||◌, not, nat_le}
 use Rattle.std.proofs.lemmas.Option.{slice_get_within}
 use Rattle.step_memory.specs.declared.steps.Seen.{Seen}
 use Rattle.word_fields.specs.Versioned.{versioned_bit, versioned_version, marked_word, cleared_word}
 use Rattle.word_fields.proofs.VersionedLemmas.{bit-marked, version-marked, cleared-marked, cleared-clear}
 use Rattle.node_arena.specs.declared.places.TheConstants.{STATE_FIELD}
-use Rattle.node_arena.specs.MemoryMap.{block_place, block_at, field_at}
-use Rattle.node_arena.proofs.PlaceLemmas.{same_block, block_place_behind, block_at-block_place, field_at-block_place}
+use Rattle.node_arena.proofs.PlaceLemmas.{same_block}
 use Rattle.normal_traits.specs.declared.lists.Entry.{Entry}
-use Rattle.normal_traits.specs.World.{Listed, World, is_word, is_state}
+use Rattle.normal_traits.specs.World.{Listed, World, is_word}
 use Rattle.normal_traits.specs.NormalForm.{NormalForm}
 use Rattle.cas_executor.specs.declared.slow_run.SlowStep.{SlowStep}
 use Rattle.cas_executor.specs.declared.slow_run.SlowStep.TheVariants.{LoadState, Install, LoadTarget, Succeed, Fail, LoadDecision, Clear}
@@ -27,6 +24,7 @@ use Rattle.cas_executor_laws.proofs.SiteLemmas.{entry_at}
 use Rattle.cas_executor_laws.proofs.RunLemmas.{request_is}
 use Rattle.offered_blocks.specs.Blocks.{Offer, site_of, has_taken, IsOffer, HasBlocks}
 use Rattle.offered_blocks.proofs.Blocks.Items.{marked_same, one_taken}
+use Rattle.offered_blocks.proofs.Blocks.Places.{words_apart, state_word}
 
 -- a word with its bit clear shows no entry
 clear_shows : (entry : Entry) (word : ℕ) → versioned_bit word ≡ 0 → word ≡ marked_word entry.to → ⊥
@@ -36,27 +34,8 @@ clear_shows entry word clear shown = let bit : versioned_bit word ≡ 1 = ap ver
 states_apart : (block other i j : ℕ) → i < 2 → j < 2 → block ≢ other → state_place block i ≢ state_place other j
 states_apart block other i j few few' apart same = apart (same_block block (STATE_FIELD + i) other (STATE_FIELD + j) (omega (arith, few)) (omega (arith, few')) same)
 
--- the states of a block other than 0 are no words of the client
-no_word : (head tail behind used first state : Bool) → head ≡ false → tail ≡ false → first ≡ false → state ≡ true → (head || tail || (behind && used && (first || not state))) ≡ false
-no_word false false true true false true h t f s = refl
-no_word false false true true false false h t f s = absurd cc
-no_word false false true true true state h t f s = absurd cc
-no_word false false true false first state h t f s = refl
-no_word false false false used first state h t f s = refl
-no_word false true behind used first state h t f s = absurd cc
-no_word true tail behind used first state h t f s = absurd cc
-
-pub word_no_state : (world : World) (block i place : ℕ) → 0 < block → i < 2 → is_word world place ≡ true → place ≢ state_place block i
-word_no_state world block i place some few word e =
-    let at = block_place block (9 + i) in
-    let behind = block_place_behind block (9 + i) in
-    let b : block_at at ≡ block = block_at-block_place block (9 + i) (omega (arith, few)) in
-    let f : field_at at ≡ 9 + i = field_at-block_place block (9 + i) (omega (arith, few)) in
-    let none : is_word world at ≡ false =
-    no_word (at == 20) (at == 21) (nat_le 32 at) (world.used (block_at at)) (block_at at == 0) (is_state (field_at at))
-    (grind (arith, nat_tests, behind)) (grind (arith, nat_tests, behind)) (grind (arith, nat_tests, b, some)) (grind (arith, nat_tests, f, few)) in
-    let some' : is_word world at ≡ true = subst (λ p. is_word world p ≡ true) e word in
-    absurd cc
+pub word_no_state : (is_root : ℕ → Bool) (world : World) (block i place : ℕ) → 0 < block → i < 2 → is_word is_root world place ≡ true → place ≢ state_place block i
+word_no_state is_root world block i place some few word e = words_apart is_root world place (state_place block i) word (state_word is_root world block i some few) e
 
 module _ {S W : Type 0} (form : NormalForm S W) (world : World) (offers : ℕ → Option (Offer S)) (blocks : HasBlocks form world offers) where
   -- a helper of one block makes a step
@@ -95,7 +74,7 @@ module _ {S W : Type 0} (form : NormalForm S W) (world : World) (offers : ℕ �
       -- a state of their entry is no target of ours
       state_apart : (j : ℕ) → j < length mate.list.entries → state_place mate.list.block j ≢ own.target
       state_apart j within e =
-          word_no_state world mate.list.block j own.target (let is = theirs.block_is in let some = theirs.some in omega (arith, is, some)) (their_few j within) (mine.targets walk.next own own_listed).0 (sym e)
+          word_no_state form.is_root world mate.list.block j own.target (let is = theirs.block_is in let some = theirs.some in omega (arith, is, some)) (their_few j within) (mine.targets walk.next own own_listed).0 (sym e)
 
       all_stay : ((place : ℕ) → after place ≡ world.words place) → (j : ℕ) (entry : Entry) → TurnOf j entry
       all_stay leaves j entry = stays (leaves (state_place mate.list.block j)) (leaves entry.target) (same j)
@@ -106,7 +85,7 @@ module _ {S W : Type 0} (form : NormalForm S W) (world : World) (offers : ℕ �
           let within = slice_get_within mate.list.entries j entry listed in
           stays
           (beside (state_place mate.list.block j) (λ e. states_apart offer.list.block mate.list.block walk.next j own_few (their_few j within) blocks_apart (sym e)))
-          (beside entry.target (word_no_state world offer.list.block walk.next entry.target (let is = mine.block_is in let some = mine.some in omega (arith, is, some)) own_few (theirs.targets j entry listed).0))
+          (beside entry.target (word_no_state form.is_root world offer.list.block walk.next entry.target (let is = mine.block_is in let some = mine.some in omega (arith, is, some)) own_few (theirs.targets j entry listed).0))
           (same j)
 
       -- our target was exchanged

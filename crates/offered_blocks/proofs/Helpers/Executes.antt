@@ -6,7 +6,7 @@ use Rattle.normal_traits.specs.declared.lists.Entry.{Entry}
 use Rattle.normal_traits.specs.World.{Cause, Listed, World}
 use Rattle.normal_traits.specs.World.Maker.{By}
 use Rattle.normal_traits.specs.NormalForm.{NormalForm}
-use Rattle.normal_traits.specs.Steps.{IsStep, listed_if, object, with_change}
+use Rattle.normal_traits.specs.Steps.{IsStep, listed_if, with_change}
 use Rattle.cas_executor.specs.SlowRuns.{SlowWalk, installs, slow_request}
 use Rattle.cas_executor_laws.specs.Parts.{IsMade, Knows, TookBy}
 use Rattle.offered_blocks.specs.Blocks.{Offer, site_of, has_taken}
@@ -32,7 +32,7 @@ module _ {S W : Type 0} (form : NormalForm S W) (world after : World) where
     no_win : (installs walk.step ≡ false) ⊎ (seen.won ≡ false) → after.journal ≡ world.journal → after.changes ≡ world.changes → Tells list walk seen
     wins : installs walk.step ≡ true → seen.won ≡ true → (entry : Entry) (cause : Cause) → slice_get list.entries walk.next ≡ Some entry → world.words entry.target ≡ entry.from
         → after.journal ≡ record { place = entry.target; before = entry.from; after = entry.to; maker = By list walk.next; cause = cause } ∷ world.journal
-        → after.changes ≡ with_change (object form) (listed_if (form.adds list walk.next) list) world.changes → Tells list walk seen
+        → after.changes ≡ with_change form.object (listed_if (form.adds list walk.next) list) world.changes → Tells list walk seen
 
   pub record Executes (offers : ℕ → Option (Offer S)) (block : ℕ) (offer : Offer S) (walk : SlowWalk) (seen : Seen) : Type 0 where
     pub stands : offers block ≡ Some offer

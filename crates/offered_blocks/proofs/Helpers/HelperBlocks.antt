@@ -58,7 +58,7 @@ module _ {S W : Type 0} (form : NormalForm S W) (laws : Laws form) (world after 
   own_few : walk.next < 2
   own_few = omega (arith, is.knows.within, mine.site.short)
 
-  own_word : is_word world own.target ≡ true
+  own_word : is_word form.is_root world own.target ≡ true
   own_word = (mine.targets walk.next own own_listed).0
 
   made_on : IsMade (step_request offer.list.block walk.next own walk.step) world.words after.words seen
@@ -75,7 +75,7 @@ module _ {S W : Type 0} (form : NormalForm S W) (laws : Laws form) (world after 
 
   record_stays : (seat : ℕ) → seat < 8 → after.words (record_place seat) ≡ world.words (record_place seat)
   record_stays seat few =
-      helper_beside (record_place seat) (λ e. let behind = block_place_behind offer.list.block (9 + walk.next) in absurd (omega (arith, few, behind, e))) (record_apart world own.target seat few own_word)
+      helper_beside (record_place seat) (λ e. let behind = block_place_behind offer.list.block (9 + walk.next) in absurd (omega (arith, few, behind, e))) (record_apart form.is_root world own.target seat few own_word)
 
   -- ---- the items of each list
 
@@ -136,18 +136,18 @@ module _ {S W : Type 0} (form : NormalForm S W) (laws : Laws form) (world after 
 
   pub helper_blocks : HasBlocks form after offers
   helper_blocks =
-      run_kept form laws world after holds.shape is.step (word_grows world after is.used) offers holds.blocks block offer is.stands walk seen is.knows is.made by
+      run_kept form laws world after holds.shape is.step (word_grows form.is_root world after is.used) offers holds.blocks block offer is.stands walk seen is.knows is.made by
       (λ i few. laws.notes_plain offer.list.block (9 + i) (let b = mine.block_is in let some = mine.some in omega (arith, b, some)) (omega (arith, few)))
       (taken_grows is.tells) record_stays others taken (rises is.tells)
 
   -- ---- the blocks besides
 
-  words_after : Tells form world after offer.list walk seen → JournalWords after
-  words_after (no_win why same kept) won among = word_grows world after is.used won.place (holds.journal won (subst (Among won) same among))
+  words_after : Tells form world after offer.list walk seen → JournalWords form.is_root after
+  words_after (no_win why same kept) won among = word_grows form.is_root world after is.used won.place (holds.journal won (subst (Among won) same among))
   words_after (wins installing win entry cause listed stood grown made) won among =
-      word_grows world after is.used won.place
+      word_grows form.is_root world after is.used won.place
       (elim (subst (Among won) grown among) [
-        | inl new ↦ subst (λ (w : Won). is_word world w.place ≡ true) (sym new) (mine.targets walk.next entry listed).0
+        | inl new ↦ subst (λ (w : Won). is_word form.is_root world w.place ≡ true) (sym new) (mine.targets walk.next entry listed).0
         | inr old ↦ holds.journal won old
       ])
 
@@ -155,7 +155,7 @@ module _ {S W : Type 0} (form : NormalForm S W) (laws : Laws form) (world after 
   field_stays other free field small stored =
       helper_beside (block_place other field)
       (λ e. stored_no_state field walk.next own_few stored (sym (same_field other field offer.list.block (9 + walk.next) small (let few = own_few in omega (arith, few)) e)))
-      (spare_apart world other field own.target small free own_word)
+      (spare_apart form.is_root world other field own.target small free own_word)
 
   unused_after : (other : ℕ) (mate : Offer S) → offers other ≡ Some mate → has_taken after.journal mate.list 0 ≡ false → world.used other ≡ false → after.used other ≡ false
   unused_after other mate stands none free =
@@ -171,7 +171,7 @@ module _ {S W : Type 0} (form : NormalForm S W) (laws : Laws form) (world after 
   state_stays other j some few unnamed =
       helper_beside (state_place other j)
       (λ e. unnamed offer (ap offers (same_block other (9 + j) offer.list.block (9 + walk.next) (omega (arith, few)) (let small = own_few in omega (arith, small)) e ∙ mine.block_is) ∙ is.stands))
-      (λ e. word_no_state world other j own.target some few own_word (sym e))
+      (λ e. word_no_state form.is_root world other j own.target some few own_word (sym e))
 
   pub executes_kept : HasOffers form after offers
   executes_kept =

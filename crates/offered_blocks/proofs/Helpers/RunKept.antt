@@ -17,7 +17,7 @@ use Rattle.offered_blocks.proofs.Helpers.BitsKept.{bits_after, executing_same}
 use Rattle.offered_blocks.proofs.Blocks.Kept.{offer_kept}
 
 module _ {S W : Type 0} (form : NormalForm S W) (laws : Laws form) (world after : World) (shape : form.shape world) (step : IsStep form world after)
-    (words : (place : ℕ) → is_word world place ≡ true → is_word after place ≡ true)
+    (words : (place : ℕ) → is_word form.is_root world place ≡ true → is_word form.is_root after place ≡ true)
     (offers : ℕ → Option (Offer S)) (blocks : HasBlocks form world offers)
     (block : ℕ) (offer : Offer S) (stands : offers block ≡ Some offer) (walk : SlowWalk) (seen : Seen)
     (knows : Knows (site_of offer) world.words (has_taken world.journal offer.list) walk) (made : IsMade (slow_request walk) world.words after.words seen)

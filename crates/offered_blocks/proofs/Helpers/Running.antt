@@ -7,7 +7,7 @@ use Rattle.normal_traits.specs.declared.lists.Entry.{Entry}
 use Rattle.normal_traits.specs.World.{World}
 use Rattle.normal_traits.specs.World.Maker.{By}
 use Rattle.normal_traits.specs.NormalForm.{NormalForm}
-use Rattle.normal_traits.specs.Steps.{listed_if, object, put_word, with_change, with_word}
+use Rattle.normal_traits.specs.Steps.{listed_if, put_word, with_change, with_word}
 use Rattle.normal_traits.proofs.Stays.{word_beside, word_put}
 use Rattle.cas_executor.specs.declared.slow_run.SlowStep.{SlowStep}
 use Rattle.cas_executor.specs.declared.slow_run.SlowStep.TheVariants.{LoadState, Install, LoadTarget, Succeed, Fail, LoadDecision, Clear}
@@ -101,7 +101,7 @@ module _ {S W : Type 0} (form : NormalForm S W) (world : World) (offers : ℕ �
           is = entry_is 0 first install saw same;
           tells = wins install saw own (form.cause_of world (By offer.list 0) own) own_listed at
               (ap (λ k. record { place = own.target; before = own.from; after = own.to; maker = By offer.list k; cause = form.cause_of world (By offer.list 0) own } ∷ world.journal) (sym first))
-              (ap (λ k. with_change (object form) (listed_if (form.adds offer.list k) offer.list) world.changes) (sym first));
+              (ap (λ k. with_change form.object (listed_if (form.adds offer.list k) offer.list) world.changes) (sym first));
         }
         | inr rest ↦
             let within = knows.within in
@@ -113,7 +113,7 @@ module _ {S W : Type 0} (form : NormalForm S W) (world : World) (offers : ℕ �
               is = entry_is 1 second install saw same;
               tells = wins install saw own (form.cause_of world (By offer.list 1) own) own_listed at
                   (ap (λ k. record { place = own.target; before = own.from; after = own.to; maker = By offer.list k; cause = form.cause_of world (By offer.list 1) own } ∷ world.journal) (sym second))
-                  (ap (λ k. with_change (object form) (listed_if (form.adds offer.list k) offer.list) world.changes) (sym second));
+                  (ap (λ k. with_change form.object (listed_if (form.adds offer.list k) offer.list) world.changes) (sym second));
             }
       ]
 

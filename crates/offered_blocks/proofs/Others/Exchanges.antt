@@ -33,10 +33,10 @@ module _ {S W : Type 0} (form : NormalForm S W) (laws : Laws form) (world after 
   there = ap (λ (f : ℕ → ℕ). f entry.target) is.words ∙ word_put entry.target entry.to world.words entry.target refl
 
   record_stays : (seat : ℕ) → seat < 8 → after.words (record_place seat) ≡ world.words (record_place seat)
-  record_stays seat few = stays (record_place seat) (record_apart world entry.target seat few is.word)
+  record_stays seat few = stays (record_place seat) (record_apart form.is_root world entry.target seat few is.word)
 
   state_stays : (block j : ℕ) → 0 < block → j < 2 → after.words (state_place block j) ≡ world.words (state_place block j)
-  state_stays block j some few = stays (state_place block j) (λ e. word_no_state world block j entry.target some few is.word (sym e))
+  state_stays block j some few = stays (state_place block j) (λ e. word_no_state form.is_root world block j entry.target some few is.word (sym e))
 
   -- the offered lists took what they had
   same_taken : (block : ℕ) (offer : Offer S) → offers block ≡ Some offer → (j : ℕ) → has_taken after.journal offer.list j ≡ has_taken world.journal offer.list j
@@ -78,7 +78,7 @@ module _ {S W : Type 0} (form : NormalForm S W) (laws : Laws form) (world after 
 
   exchange_blocks : HasBlocks form after offers
   exchange_blocks =
-      others_kept form laws world after holds.shape is.step (word_grows world after is.used) offers holds.blocks exchange_deed took_after
+      others_kept form laws world after holds.shape is.step (word_grows form.is_root world after is.used) offers holds.blocks exchange_deed took_after
       (λ l named. executing_same world after l (record_stays l.call.seat named.seated) named)
       (λ l named. executing_same after world l (sym (record_stays l.call.seat named.seated)) named) grows new_bit
       (rises_won world after (λ won among. passed_stays form world after won.place (holds.journal won among) is.step)
@@ -93,13 +93,13 @@ module _ {S W : Type 0} (form : NormalForm S W) (laws : Laws form) (world after 
       ]
 
   -- its item is at a word of the client too
-  words_after : JournalWords after
+  words_after : JournalWords form.is_root after
   words_after won among =
-      word_grows world after is.used won.place
-      (elim (subst (Among won) is.journal among) [ inl new ↦ subst (λ (w : Won). is_word world w.place ≡ true) (sym new) is.word | inr old ↦ holds.journal won old ])
+      word_grows form.is_root world after is.used won.place
+      (elim (subst (Among won) is.journal among) [ inl new ↦ subst (λ (w : Won). is_word form.is_root world w.place ≡ true) (sym new) is.word | inr old ↦ holds.journal won old ])
 
   pub exchange_kept : HasOffers form after offers
   exchange_kept =
       holds_kept form laws world after offers holds is.step
-      (λ block offer stands free field small stored. stays (block_place block field) (spare_apart world block field entry.target small free is.word))
+      (λ block offer stands free field small stored. stays (block_place block field) (spare_apart form.is_root world block field entry.target small free is.word))
       (λ block offer stands none free. unused_after block offer stands free) grows (λ block j some few unnamed. state_stays block j some few) exchange_blocks words_after

@@ -11,7 +11,7 @@ use Rattle.offered_blocks.specs.Blocks.{Offer, site_of, has_taken, IsBit, HasBlo
 use Rattle.offered_blocks.proofs.Blocks.Kept.{offer_kept}
 
 module _ {S W : Type 0} (form : NormalForm S W) (laws : Laws form) (world after : World) (shape : form.shape world) (step : IsStep form world after)
-    (words : (place : ℕ) → is_word world place ≡ true → is_word after place ≡ true)
+    (words : (place : ℕ) → is_word form.is_root world place ≡ true → is_word form.is_root after place ≡ true)
     (offers : ℕ → Option (Offer S)) (blocks : HasBlocks form world offers)
     (deeds : (block : ℕ) (offer : Offer S) → offers block ≡ Some offer → Deed (site_of offer) world.words (has_taken world.journal offer.list) after.words (has_taken after.journal offer.list))
     (taken : (block : ℕ) (offer : Offer S) → offers block ≡ Some offer → (j : ℕ) → has_taken after.journal offer.list j ≡ true → Took after offer.list j)

@@ -29,25 +29,25 @@ pub stored_no_state : (field j : ℕ) → j < 2 → IsStored field → 9 + j ≢
 stored_no_state field j few (inl low) e = absurd (omega (arith, few, low, e))
 stored_no_state field j few (inr high) e = absurd (omega (arith, few, high, e))
 
-module _ {S : Type 0} (world : World) (offers : ℕ → Option (Offer S)) (place : ℕ) where
+module _ {S W : Type 0} (form : NormalForm S W) (world : World) (offers : ℕ → Option (Offer S)) (place : ℕ) where
   -- it is no word of the client
-  pub engines_word : IsEngines world offers place → is_word world place ≡ false
-  engines_word (first_word low head tail record') = engine_word world place low head tail
-  engines_word (in_spare block field spare small stored at) = subst (λ p. is_word world p ≡ false) (sym at) (spare_word world block field small spare.unused)
+  pub engines_word : IsEngines world offers place → is_word form.is_root world place ≡ false
+  engines_word (first_word low out record') = engine_word form.is_root world place low out
+  engines_word (in_spare block field spare small stored at) = subst (λ p. is_word form.is_root world p ≡ false) (sym at) (spare_word form.is_root world block field small spare.unused)
 
   -- nor the record of a seat
   pub engines_record : IsEngines world offers place → (seat : ℕ) → seat < 8 → record_place seat ≢ place
-  engines_record (first_word low head tail record') seat few e = record' seat few (sym e)
+  engines_record (first_word low out record') seat few e = record' seat few (sym e)
   engines_record (in_spare block field spare small stored at) seat few e = (let behind = block_place_behind block field in absurd (omega (arith, few, behind, at, e)))
 
   -- nor a state of any block
   pub engines_state : IsEngines world offers place → (block j : ℕ) → j < 2 → state_place block j ≢ place
-  engines_state (first_word low head tail record') block j few e = (let behind = block_place_behind block (9 + j) in absurd (omega (arith, low, behind, e)))
+  engines_state (first_word low out record') block j few e = (let behind = block_place_behind block (9 + j) in absurd (omega (arith, low, behind, e)))
   engines_state (in_spare other field spare small stored at) block j few e = stored_no_state field j few stored (same_field block (9 + j) other field (omega (arith, few)) small (e ∙ at))
 
   -- nor a field of a block that a record has named
   pub engines_field : IsEngines world offers place → (block field : ℕ) (offer : Offer S) → offers block ≡ Some offer → field < 32 → block_place block field ≢ place
-  engines_field (first_word low head tail record') block field offer stands small e = (let behind = block_place_behind block field in absurd (omega (arith, low, behind, e)))
+  engines_field (first_word low out record') block field offer stands small e = (let behind = block_place_behind block field in absurd (omega (arith, low, behind, e)))
   engines_field (in_spare other at spare within stored is) block field offer stands small e = spare.unnamed offer (ap offers (sym (same_block block field other at small within (e ∙ is))) ∙ stands)
 
 module _ {S W : Type 0} (form : NormalForm S W) (laws : Laws form) (world : World) (offers : ℕ → Option (Offer S)) (is : HasOffers form world offers)
@@ -58,14 +58,14 @@ module _ {S W : Type 0} (form : NormalForm S W) (laws : Laws form) (world : Worl
   stays : (at : ℕ) → at ≢ place → stored.words at ≡ world.words at
   stays at apart = word_beside place word world.words at apart
 
-  client_stays : (at : ℕ) → is_word world at ≡ true → stored.words at ≡ world.words at
-  client_stays at here = stays at (words_apart world at place here (engines_word world offers place engines))
+  client_stays : (at : ℕ) → is_word form.is_root world at ≡ true → stored.words at ≡ world.words at
+  client_stays at here = stays at (words_apart form.is_root world at place here (engines_word form world offers place engines))
 
   pub store_step : IsStep form world stored
-  store_step = elsewhere place word (engines_word world offers place engines)
+  store_step = elsewhere place word (engines_word form world offers place engines)
 
   state_stays : (block j : ℕ) → j < 2 → stored.words (state_place block j) ≡ world.words (state_place block j)
-  state_stays block j few = stays (state_place block j) (engines_state world offers place engines block j few)
+  state_stays block j few = stays (state_place block j) (engines_state form world offers place engines block j few)
 
   deed : (block : ℕ) (offer : Offer S) → offers block ≡ Some offer → Deed (site_of offer) world.words (has_taken world.journal offer.list) stored.words (has_taken stored.journal offer.list)
   deed block offer stands =
@@ -87,13 +87,13 @@ module _ {S W : Type 0} (form : NormalForm S W) (laws : Laws form) (world : Worl
   store_blocks =
       others_kept form laws world stored is.shape store_step (λ at here. here) offers is.blocks deed
       (λ block offer stands j took. let old = (is.blocks.offered block offer stands).taken j took in record { entry = old.entry; cause = old.cause; listed = old.listed; won = old.won })
-      (λ list named. executing_same world stored list (stays (record_place list.call.seat) (engines_record world offers place engines list.call.seat named.seated)) named)
-      (λ list named. executing_same stored world list (sym (stays (record_place list.call.seat) (engines_record world offers place engines list.call.seat named.seated))) named)
+      (λ list named. executing_same world stored list (stays (record_place list.call.seat) (engines_record form world offers place engines list.call.seat named.seated)) named)
+      (λ list named. executing_same stored world list (sym (stays (record_place list.call.seat) (engines_record form world offers place engines list.call.seat named.seated))) named)
       (λ list j took. took) no_new
       (rises_same world stored (λ won among. let same = ap versioned_version (client_stays won.place (is.journal won among)) in omega (arith, same)) refl is.blocks.journal)
 
   pub store_kept : HasOffers form stored offers
   store_kept =
       holds_kept form laws world stored offers is store_step
-      (λ block offer stands free field small stored'. stays (block_place block field) (engines_field world offers place engines block field offer stands small))
+      (λ block offer stands free field small stored'. stays (block_place block field) (engines_field form world offers place engines block field offer stands small))
       (λ block offer stands none free. free) (λ list j took. took) (λ block j some few unnamed. state_stays block j few) store_blocks is.journal

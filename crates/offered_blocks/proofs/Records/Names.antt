@@ -1,12 +1,10 @@
 -- All that holds of offered blocks holds after a record names a block, where no list was executed before.
-use Rattle.std.proofs.Common.{◌≡◌, ◌≢◌, ◌∙◌, sym, subst, ap, ℕ, ◌+◌, ◌<◌, ◌≤◌, ◌^◌, true, false, inl, inr, List, Option, Some, arith}
-use Rattle.std.specs.Prelude.{◌==◌, ◌||◌, not, nat_le}
+use Rattle.std.proofs.Common.{◌≡◌, ◌≢◌, ◌∙◌, sym, subst, ap, ℕ, ◌+◌, ◌<◌, ◌^◌, true, false, inl, inr, List, Option, Some, arith}
 use Rattle.std.proofs.lemmas.Bool.{cases_eq}
-use Rattle.std.proofs.lemmas.Bool.Decides.{nat_tests}
 use Rattle.word_fields.specs.Versioned.{versioned_bit, versioned_version}
-use Rattle.node_arena.specs.MemoryMap.{record_place, block_at, field_at}
+use Rattle.node_arena.specs.MemoryMap.{record_place, MayBeClients}
 use Rattle.node_arena.proofs.PlaceLemmas.{block_place_behind}
-use Rattle.normal_traits.specs.World.{Among, Listed, Won, World, Took, is_word, is_state}
+use Rattle.normal_traits.specs.World.{Among, Listed, Won, World, Took, is_word}
 use Rattle.normal_traits.specs.World.Maker.{By}
 use Rattle.normal_traits.specs.NormalForm.{NormalForm}
 use Rattle.normal_traits.specs.Steps.{IsOffered, IsStep}
@@ -15,36 +13,33 @@ use Rattle.cas_executor.specs.SlowRuns.{state_place}
 use Rattle.cas_executor_laws.specs.Entries.Turn.{stays}
 use Rattle.cas_executor_laws.specs.Parts.{Deed}
 use Rattle.offered_blocks.specs.Blocks.{Offer, site_of, has_taken, IsOffer, HasBlocks, MayBeMarked, IsExecuting, JournalRises}
-use Rattle.offered_blocks.proofs.Blocks.Named.{place_of_word, some_offer, word_marked}
+use Rattle.offered_blocks.proofs.Blocks.Named.{some_offer, word_marked}
 use Rattle.offered_blocks.proofs.Helpers.BitsKept.{executing_same}
 use Rattle.offered_blocks.proofs.Blocks.Kept.{offer_kept}
 use Rattle.offered_blocks.proofs.Blocks.Begins.{begins_offer}
+use Rattle.offered_blocks.proofs.Blocks.Places.{record_out, word_may}
 
 module _ {S W : Type 0} (form : NormalForm S W) (laws : Laws form) (world after : World) (shape : form.shape world) (step : IsStep form world after)
     (offers offers' : ℕ → Option (Offer S)) (blocks : HasBlocks form world offers)
     (block : ℕ) (offer : Offer S) (new : offers' block ≡ Some offer) (old : (other : ℕ) → other ≢ block → offers' other ≡ offers other)
     (identity : (other : ℕ) (mate : Offer S) → offers other ≡ Some mate → mate.list.identity ≢ offer.list.identity)
     (offered : IsOffered form world offer.list offer.offering offer.since) (block_is : offer.list.block ≡ block) (some : 0 < block)
-    (room : (place : ℕ) → is_word world place ≡ true → form.is_versioned place ≡ true → versioned_version (world.words place) + 1 < 2 ^ 39)
+    (room : (place : ℕ) → is_word form.is_root world place ≡ true → form.is_versioned place ≡ true → versioned_version (world.words place) + 1 < 2 ^ 39)
     (pending : (j : ℕ) → j < 2 → world.words (state_place block j) ≡ 0) (fresh : (j : ℕ) → has_taken world.journal offer.list j ≡ false)
     (none : (list : Listed) → IsExecuting world list → ⊥) (small : offer.list.call.seat < 8)
     (beside : (place : ℕ) → place ≢ record_place offer.list.call.seat → after.words place ≡ world.words place) (used : after.used ≡ world.used)
     (journal : after.journal ≡ world.journal) (named : IsExecuting after offer.list) where
   marked_beside : (place : ℕ) → MayBeMarked form place → after.words place ≡ world.words place
-  marked_beside place may = beside place (λ e. elim may.place_is [
-    | inl head ↦ absurd (omega (arith, head, e, small))
-    | inr (inl tail) ↦ absurd (omega (arith, tail, e, small))
-    | inr (inr behind) ↦ absurd (omega (arith, behind, e, small))
-  ])
+  marked_beside place may = beside place (λ e. record_out offer.list.call.seat small (subst MayBeClients e may.place_is))
 
   state_beside : (b j : ℕ) → after.words (state_place b j) ≡ world.words (state_place b j)
   state_beside b j = beside (state_place b j) (λ e. let behind = block_place_behind b (9 + j) in absurd (omega (arith, behind, e, small)))
 
-  is_same : (place : ℕ) → is_word world place ≡ true → is_word after place ≡ true
-  is_same place h = subst (λ u. is_word (record { words = after.words; changes = after.changes; used = u; journal = after.journal }) place ≡ true) (sym used) h
+  is_same : (place : ℕ) → is_word form.is_root world place ≡ true → is_word form.is_root after place ≡ true
+  is_same place h = subst (λ u. is_word form.is_root (record { words = after.words; changes = after.changes; used = u; journal = after.journal }) place ≡ true) (sym used) h
 
-  was_word : (place : ℕ) → is_word after place ≡ true → is_word world place ≡ true
-  was_word place h = subst (λ u. is_word (record { words = world.words; changes = world.changes; used = u; journal = world.journal }) place ≡ true) used h
+  was_word : (place : ℕ) → is_word form.is_root after place ≡ true → is_word form.is_root world place ≡ true
+  was_word place h = subst (λ u. is_word form.is_root (record { words = world.words; changes = world.changes; used = u; journal = world.journal }) place ≡ true) used h
 
   taken_same : (list : Listed) (j : ℕ) → has_taken after.journal list j ≡ has_taken world.journal list j
   taken_same list j = ap (λ log. has_taken log list j) journal
@@ -69,15 +64,10 @@ module _ {S W : Type 0} (form : NormalForm S W) (laws : Laws form) (world after 
       (λ is. absurd (none mate.list is))
 
   -- a word of the client is none of the records
-  room_after : (place : ℕ) → is_word world place ≡ true → form.is_versioned place ≡ true → versioned_version (after.words place) + 1 < 2 ^ 39
+  room_after : (place : ℕ) → is_word form.is_root world place ≡ true → form.is_versioned place ≡ true → versioned_version (after.words place) + 1 < 2 ^ 39
   room_after place here versioned =
       let r = room place here versioned in
-      let place_is = place_of_word (place == 20) (place == 21) (nat_le 32 place) (world.used (block_at place)) (block_at place == 0 || not (is_state (field_at place))) here in
-      let apart : place ≢ record_place offer.list.call.seat = λ e. elim place_is [
-        | inl head ↦ (let at : place ≡ 20 = grind (arith, nat_tests) in absurd (omega (arith, at, e, small)))
-        | inr (inl tail) ↦ (let at : place ≡ 21 = grind (arith, nat_tests) in absurd (omega (arith, at, e, small)))
-        | inr (inr behind) ↦ (let at : 32 ≤ place = grind (arith, nat_tests) in absurd (omega (arith, at, e, small)))
-      ] in
+      let apart : place ≢ record_place offer.list.call.seat = λ e. record_out offer.list.call.seat small (subst MayBeClients e (word_may form.is_root world place here)) in
       let v = ap versioned_version (beside place apart) in
       omega (arith, r, v)
 

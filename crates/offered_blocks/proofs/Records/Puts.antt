@@ -1,10 +1,10 @@
 -- A word put into the record of a seat is an allowed step, and leaves what the blocks and the words of the client are.
-use Rattle.std.proofs.Common.{◌≡◌, ◌≢◌, ◌∙◌, refl, sym, ap, ℕ, ◌+◌, ◌<◌, true, inl, inr, Option, Some, arith}
+use Rattle.std.proofs.Common.{◌≡◌, ◌≢◌, ◌∙◌, refl, sym, ap, ℕ, ◌+◌, ◌<◌, true, inl, inr, Option, Some, arith, subst}
 use Rattle.std.proofs.lemmas.Bool.{cases_eq}
 use Rattle.word_fields.specs.declared.records.Phase.TheVariants.{Executing}
 use Rattle.word_fields.specs.Records.{record_phase}
 use Rattle.word_fields.specs.Versioned.{versioned_version}
-use Rattle.node_arena.specs.MemoryMap.{block_place, record_place}
+use Rattle.node_arena.specs.MemoryMap.{block_place, record_place, MayBeClients}
 use Rattle.node_arena.proofs.PlaceLemmas.{block_place_behind}
 use Rattle.normal_traits.specs.World.{Listed, World, is_word}
 use Rattle.normal_traits.specs.NormalForm.{NormalForm}
@@ -17,7 +17,7 @@ use Rattle.cas_executor_laws.proofs.SiteLemmas.{beside_deed}
 use Rattle.offered_blocks.specs.Blocks.{Offer, HasBlocks, IsExecuting, JournalRises, MayBeMarked, site_of, has_taken}
 use Rattle.offered_blocks.specs.Holds.{HasOffers}
 use Rattle.offered_blocks.proofs.Blocks.HoldsKept.{holds_kept}
-use Rattle.offered_blocks.proofs.Blocks.Places.{record_word, words_apart}
+use Rattle.offered_blocks.proofs.Blocks.Places.{record_word, words_apart, record_out}
 use Rattle.offered_blocks.proofs.Blocks.Rises.{rises_same}
 use Rattle.offered_blocks.proofs.Helpers.BitsKept.{executing_same}
 use Rattle.offered_blocks.proofs.Others.OthersKept.{others_kept}
@@ -28,7 +28,7 @@ module _ {S W : Type 0} (form : NormalForm S W) (laws : Laws form) (world : Worl
   put = put_word (record_place seat) word world
 
   pub put_step : IsStep form world put
-  put_step = elsewhere (record_place seat) word (record_word world seat few)
+  put_step = elsewhere (record_place seat) word (record_word form.is_root world seat few)
 
   pub put_there : put.words (record_place seat) ≡ word
   put_there = word_put (record_place seat) word world.words (record_place seat) refl
@@ -36,8 +36,8 @@ module _ {S W : Type 0} (form : NormalForm S W) (laws : Laws form) (world : Worl
   pub put_beside : (place : ℕ) → place ≢ record_place seat → put.words place ≡ world.words place
   put_beside place apart = word_beside (record_place seat) word world.words place apart
 
-  client_stays : (place : ℕ) → is_word world place ≡ true → put.words place ≡ world.words place
-  client_stays place here = put_beside place (words_apart world place (record_place seat) here (record_word world seat few))
+  client_stays : (place : ℕ) → is_word form.is_root world place ≡ true → put.words place ≡ world.words place
+  client_stays place here = put_beside place (words_apart form.is_root world place (record_place seat) here (record_word form.is_root world seat few))
 
   pub block_stays : (block field : ℕ) → put.words (block_place block field) ≡ world.words (block_place block field)
   block_stays block field = put_beside (block_place block field) (λ e. let behind = block_place_behind block field in absurd (omega (arith, behind, few, e)))
@@ -46,11 +46,7 @@ module _ {S W : Type 0} (form : NormalForm S W) (laws : Laws form) (world : Worl
   put_rises = rises_same world put (λ won among. let same = ap versioned_version (client_stays won.place (is.journal won among)) in omega (arith, same)) refl is.blocks.journal
 
   marked_stays : (place : ℕ) → MayBeMarked form place → put.words place ≡ world.words place
-  marked_stays place may = put_beside place (λ e. elim may.place_is [
-    | inl head ↦ absurd (omega (arith, head, e, few))
-    | inr (inl tail) ↦ absurd (omega (arith, tail, e, few))
-    | inr (inr behind) ↦ absurd (omega (arith, behind, e, few))
-  ])
+  marked_stays place may = put_beside place (λ e. record_out seat few (subst MayBeClients e may.place_is))
 
   put_deed : (block : ℕ) (offer : Offer S) → offers block ≡ Some offer → Deed (site_of offer) world.words (has_taken world.journal offer.list) put.words (has_taken put.journal offer.list)
   put_deed block offer stands =

@@ -1,7 +1,6 @@
 -- What a won exchange of a record makes of what it tells, by what the helper knew.
 use Rattle.std.proofs.Common.{◌≡◌, ◌∙◌, sym, subst, ap, ℕ, ◌<◌, ◌^◌, ◌≤◌, Option, Some, arith}
 use Rattle.lin_report.specs.declared.calls.Outcome.{Outcome}
-use Rattle.lin_report.specs.Object.{object_of}
 use Rattle.word_fields.specs.declared.records.Phase.TheVariants as phase
 use Rattle.word_fields.specs.declared.records.RecordWord.{RecordWord}
 use Rattle.word_fields.specs.Payloads.{payload_block}
@@ -27,7 +26,7 @@ module _ {S W : Type 0} (form : NormalForm S W) (laws : Laws form) (world : Worl
   done block names outcome by fixed = changed names.offer.list names.call_is by fixed names.only
 
   -- a search of any helper, begun after the call, has answered: right since the begin of the call
-  pub answered : (since : ℕ) (outcome : Outcome) → begun ≤ since → RightSince (object_of form.client) world call.op since outcome → IsFixed form outcome → MadeNone world call → TellsRight form world call begun outcome
+  pub answered : (since : ℕ) (outcome : Outcome) → begun ≤ since → RightSince form.object world call.op since outcome → IsFixed form outcome → MadeNone world call → TellsRight form world call begun outcome
   answered since outcome early right fixed none =
       observed (record { count = right.count; not_before = omega (arith, right.not_before, early); made = right.made; observes = right.observes; told = right.told }) fixed none
 

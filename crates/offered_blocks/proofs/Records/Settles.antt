@@ -5,7 +5,7 @@ use Rattle.word_fields.specs.declared.records.Phase.TheVariants.{Executing}
 use Rattle.word_fields.specs.Payloads.{payload_block}
 use Rattle.word_fields.specs.Records.{record_phase, record_payload}
 use Rattle.word_fields.specs.Versioned.{versioned_bit}
-use Rattle.node_arena.specs.MemoryMap.{record_place}
+use Rattle.node_arena.specs.MemoryMap.{record_place, MayBeClients}
 use Rattle.node_arena.proofs.PlaceLemmas.{block_place_behind}
 use Rattle.normal_traits.specs.World.{Among, Listed, Won, World, Took, is_word}
 use Rattle.normal_traits.specs.World.Maker.{By}
@@ -19,6 +19,7 @@ use Rattle.offered_blocks.specs.Blocks.{Offer, site_of, has_taken, IsOffer, HasB
 use Rattle.offered_blocks.proofs.Blocks.Named.{some_offer, no_bits, word_marked}
 use Rattle.offered_blocks.proofs.Helpers.BitsKept.{executing_same}
 use Rattle.offered_blocks.proofs.Blocks.Kept.{offer_kept}
+use Rattle.offered_blocks.proofs.Blocks.Places.{record_out}
 
 module _ {S W : Type 0} (form : NormalForm S W) (laws : Laws form) (world after : World) (shape : form.shape world) (step : IsStep form world after)
     (offers : ℕ → Option (Offer S)) (blocks : HasBlocks form world offers)
@@ -28,17 +29,13 @@ module _ {S W : Type 0} (form : NormalForm S W) (laws : Laws form) (world after 
     (journal : after.journal ≡ world.journal) (left : record_phase (after.words (record_place offer.list.call.seat)) ≢ Executing) where
   -- no word of a client is a record
   marked_beside : (place : ℕ) → MayBeMarked form place → after.words place ≡ world.words place
-  marked_beside place may = beside place (λ e. elim may.place_is [
-    | inl head ↦ absurd (omega (arith, head, e, small))
-    | inr (inl tail) ↦ absurd (omega (arith, tail, e, small))
-    | inr (inr behind) ↦ absurd (omega (arith, behind, e, small))
-  ])
+  marked_beside place may = beside place (λ e. record_out offer.list.call.seat small (subst MayBeClients e may.place_is))
 
   state_beside : (b j : ℕ) → after.words (state_place b j) ≡ world.words (state_place b j)
   state_beside b j = beside (state_place b j) (λ e. let behind = block_place_behind b (9 + j) in absurd (omega (arith, behind, e, small)))
 
-  is_same : (place : ℕ) → is_word world place ≡ true → is_word after place ≡ true
-  is_same place h = subst (λ u. is_word (record { words = after.words; changes = after.changes; used = u; journal = after.journal }) place ≡ true) (sym used) h
+  is_same : (place : ℕ) → is_word form.is_root world place ≡ true → is_word form.is_root after place ≡ true
+  is_same place h = subst (λ u. is_word form.is_root (record { words = after.words; changes = after.changes; used = u; journal = after.journal }) place ≡ true) (sym used) h
 
   taken_same : (list : Listed) (j : ℕ) → has_taken after.journal list j ≡ has_taken world.journal list j
   taken_same list j = ap (λ log. has_taken log list j) journal

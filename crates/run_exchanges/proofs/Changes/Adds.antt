@@ -3,7 +3,6 @@ use Rattle.std.proofs.Common.{◌≡◌, ◌≢◌, ◌∙◌, refl, sym, subst,
 use Rattle.std.proofs.lemmas.Bool.{cases_eq, cases_lt}
 use Rattle.std.proofs.lemmas.List.Elements.{All-head, All-tail}
 use Rattle.std.proofs.lemmas.Option.{slice_get_within}
-use Rattle.lin_report.specs.Object.{object_of}
 use Rattle.word_fields.specs.Versioned.{versioned_version}
 use Rattle.normal_traits.specs.declared.lists.Entry.{Entry}
 use Rattle.normal_traits.specs.World.{Among, Cause, Change, Listed, Took}
@@ -54,10 +53,10 @@ module _ {S W : Type 0} (form : NormalForm S W) where
   pub data Adds (setup : Setup) (older : List Move) (move : Move) : Type 0 where
     none : (world_of form setup (move ∷ older)).journal ≡ (world_of form setup older).journal → (world_of form setup (move ∷ older)).changes ≡ (world_of form setup older).changes → Adds setup older move
     aside : (entry : Entry) (cause : Cause) (list : Option Listed) → (world_of form setup (move ∷ older)).journal ≡ item_of Beside entry cause ∷ (world_of form setup older).journal
-        → (world_of form setup (move ∷ older)).changes ≡ with_change (object_of form.client) list (world_of form setup older).changes → AddsBeside setup older list → Adds setup older move
+        → (world_of form setup (move ∷ older)).changes ≡ with_change form.object list (world_of form setup older).changes → AddsBeside setup older list → Adds setup older move
     serves : (list : Listed) (j : ℕ) (entry : Entry) (cause : Cause) (keeper : Keeper) → slice_get list.entries j ≡ Some entry → (j ≡ 0) ⊎ Took (world_of form setup older) list 0
         → (world_of form setup (move ∷ older)).journal ≡ item_of (By list j) entry cause ∷ (world_of form setup older).journal
-        → (world_of form setup (move ∷ older)).changes ≡ with_change (object_of form.client) (listed_if (form.adds list j) list) (world_of form setup older).changes
+        → (world_of form setup (move ∷ older)).changes ≡ with_change form.object (listed_if (form.adds list j) list) (world_of form setup older).changes
         → kept_list (ghost_of form setup older) keeper ≡ Some list → IsServed form setup older list → Adds setup older move
 
   module _ {setup : Setup} {older : List Move} {move : Move} (m : Moved form setup older move) where
@@ -131,7 +130,7 @@ module _ {S W : Type 0} (form : NormalForm S W) where
 
     listed_adds : (list : Listed) (j : ℕ) (entry : Entry) (cause : Cause) → slice_get list.entries j ≡ Some entry → (j ≡ 0) ⊎ Took (world form m) list 0 → (world form m).words entry.target ≡ entry.from
         → (after form m).journal ≡ item_of (By list j) entry cause ∷ (world form m).journal
-        → (after form m).changes ≡ with_change (object_of form.client) (listed_if (form.adds list j) list) (world form m).changes → Adds setup older move
+        → (after form m).changes ≡ with_change form.object (listed_if (form.adds list j) list) (world form m).changes → Adds setup older move
     listed_adds list j entry cause at behind stood journal changes =
         let item = item_of (By list j) entry cause in
         elim (won_came form setup older move item list j (subst (Among item) (sym journal) (inl refl)) refl) [
@@ -145,31 +144,31 @@ module _ {S W : Type 0} (form : NormalForm S W) where
     pairs = m.laws.one_change_a_list (after form m) m.later.holds.shape
 
     new_change : Listed → Change
-    new_change list = change_of (object_of form.client) list (world form m).changes
+    new_change list = change_of form.object list (world form m).changes
 
-    not_dead : (list : Listed) → (after form m).changes ≡ change_of (object_of form.client) list (world form m).changes ∷ (world form m).changes → ¬ form.dead list (world form m)
+    not_dead : (list : Listed) → (after form m).changes ≡ change_of form.object list (world form m).changes ∷ (world form m).changes → ¬ form.dead list (world form m)
     not_dead list changes gone =
-        let new = change_of (object_of form.client) list (world form m).changes in
+        let new = change_of form.object list (world form m).changes in
         m.laws.dead_unchanged (after form m) list new m.later.holds.shape (m.laws.dead_kept (world form m) (after form m) list m.kept.holds.shape gone (step form m)) (subst (Among new) (sym changes) (inl refl)) refl
 
-    not_changed : (list : Listed) → (after form m).changes ≡ change_of (object_of form.client) list (world form m).changes ∷ (world form m).changes → (change : Change) → Among change (world form m).changes → change.list ≢ list
+    not_changed : (list : Listed) → (after form m).changes ≡ change_of form.object list (world form m).changes ∷ (world form m).changes → (change : Change) → Among change (world form m).changes → change.list ≢ list
     not_changed list changes change among of =
-        first_differs (change_of (object_of form.client) list (world form m).changes) (world form m).changes change (subst (AllPairs DifferentLists) changes pairs) among (ap (λ (l : Listed). l.identity) (sym of))
+        first_differs (change_of form.object list (world form m).changes) (world form m).changes change (subst (AllPairs DifferentLists) changes pairs) among (ap (λ (l : Listed). l.identity) (sym of))
 
-    unannounced_served : (list : Listed) → (after form m).changes ≡ change_of (object_of form.client) list (world form m).changes ∷ (world form m).changes
+    unannounced_served : (list : Listed) → (after form m).changes ≡ change_of form.object list (world form m).changes ∷ (world form m).changes
         → IsFollowed form (world form m) (held_in_seats (ghost_of form setup older)) list → IsServed form setup older list
     unannounced_served list changes (with_seat held has is) = subst (IsServed form setup older) is (held_served form setup older m.are.0 m.kept list.call.seat held has)
     unannounced_served list changes (dead is) = absurd (not_dead list changes is)
     unannounced_served list changes (changed change among of) = absurd (not_changed list changes change among of)
 
-    owned_served : (list : Listed) → Took (world form m) list 0 → (after form m).changes ≡ change_of (object_of form.client) list (world form m).changes ∷ (world form m).changes
+    owned_served : (list : Listed) → Took (world form m) list 0 → (after form m).changes ≡ change_of form.object list (world form m).changes ∷ (world form m).changes
         → IsOwned form (world form m) (offers form m) list → IsServed form setup older list
     owned_served list took changes (is_unannounced fast) = unannounced_served list changes (m.kept.followed list took fast)
     owned_served list took changes (is_named now) = named_served form setup older m.are.0 m.kept list now
     owned_served list took changes (is_dead is) = absurd (not_dead list changes is)
     owned_served list took changes (has_changed change among of) = absurd (not_changed list changes change among of)
 
-    beside_served : (entry : Entry) (list : Option Listed) → form.adds_beside (world form m) entry ≡ list → (after form m).changes ≡ with_change (object_of form.client) list (world form m).changes
+    beside_served : (entry : Entry) (list : Option Listed) → form.adds_beside (world form m) entry ≡ list → (after form m).changes ≡ with_change form.object list (world form m).changes
         → (one : Listed) → list ≡ Some one → IsServed form setup older one
     beside_served entry None adds changes one is = absurd cc
     beside_served entry (Some list) adds changes one is =

@@ -1,6 +1,5 @@
 -- What an allowed step adds to the won exchanges and to the changes.
 use Rattle.std.proofs.Common.{◌≡◌, refl, ℕ, ◌⊎◌, inl, inr, ◌∷◌, slice_get, Some}
-use Rattle.lin_report.specs.Object.{object_of}
 use Rattle.step_memory.specs.declared.steps.Request.{Request}
 use Rattle.step_memory.specs.declared.steps.Seen.{Seen}
 use Rattle.normal_traits.specs.declared.lists.Entry.{Entry}
@@ -20,9 +19,9 @@ module _ {S W : Type 0} (form : NormalForm S W) where
   pub data Does (world after : World) : Type 0 where
     nothing : after.journal ≡ world.journal → after.changes ≡ world.changes → Does world after
     beside : (entry : Entry) (cause : Cause) → after.journal ≡ item_of Beside entry cause ∷ world.journal
-        → after.changes ≡ with_change (object_of form.client) (form.adds_beside world entry) world.changes → Does world after
+        → after.changes ≡ with_change form.object (form.adds_beside world entry) world.changes → Does world after
     listed : (list : Listed) (j : ℕ) (entry : Entry) (cause : Cause) → slice_get list.entries j ≡ Some entry → (j ≡ 0) ⊎ Took world list 0 → world.words entry.target ≡ entry.from
-        → after.journal ≡ item_of (By list j) entry cause ∷ world.journal → after.changes ≡ with_change (object_of form.client) (listed_if (form.adds list j) list) world.changes → Does world after
+        → after.journal ≡ item_of (By list j) entry cause ∷ world.journal → after.changes ≡ with_change form.object (listed_if (form.adds list j) list) world.changes → Does world after
 
   request_does : (request : Request) (world after : World) (seen : Seen) → Requested form request world after seen → Does world after
   request_does request world after seen (loaded at) = nothing refl refl

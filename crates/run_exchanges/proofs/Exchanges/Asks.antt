@@ -7,7 +7,7 @@ use Rattle.step_memory.specs.declared.steps.Seen.{Seen}
 use Rattle.word_fields.specs.Versioned.{cleared_word, marked_word, versioned_version}
 use Rattle.word_fields.specs.Records.{packed_record, record_of}
 use Rattle.word_fields.proofs.VersionedLemmas.{bit-marked, cleared-clear, cleared-marked, version-changed_below, version-marked, cleared-changed}
-use Rattle.node_arena.specs.MemoryMap.{record_place}
+use Rattle.node_arena.specs.MemoryMap.{record_place, MayBeClients}
 use Rattle.help_queue.specs.Enters.{enter_request}
 use Rattle.help_queue.specs.Removes.{remove_request}
 use Rattle.normal_traits.specs.declared.lists.Entry.{Entry}
@@ -43,6 +43,7 @@ use Rattle.fast_slow_engine.specs.PhaseTable.{mech_request, request_in}
 use Rattle.fast_slow_engine.specs.Runs.{Move, run_of}
 use Rattle.offered_blocks.specs.Blocks.{Offer, has_taken, site_of}
 use Rattle.offered_blocks.specs.RunWorlds.{ran_by}
+use Rattle.offered_blocks.proofs.Blocks.Places.{word_may}
 use Rattle.helper_knowledge.specs.Callers.{Caller}
 use Rattle.helper_knowledge.specs.Carried.{Carried, OfSome}
 use Rattle.helper_knowledge.specs.WorkKnown.{KnowsWork}
@@ -54,13 +55,12 @@ use Rattle.run_invariant.specs.Known.{KnowsHelp, KnowsIn, KnowsRun, KnowsWrap, M
 use Rattle.run_invariant.specs.Moves.{Enters, HelpSteps, StepsIn, WorkSteps, Advances, Puts}
 use Rattle.run_invariant.specs.Moves.Enters.{misses as entry_misses, wins as entry_won}
 use Rattle.run_invariant.specs.Moves.Advances.{lost as exchange_lost, won as exchange_won}
-use Rattle.run_invariant.specs.Kept.{callers_in, MayBeClients}
+use Rattle.run_invariant.specs.Kept.{callers_in}
 use Rattle.run_invariant.specs.InMemory.{PhaseInside}
 use Rattle.run_invariant.proofs.Words.Moved.{made_moved}
 use Rattle.run_invariant.proofs.Bounds.InKept.{has_room}
 use Rattle.run_invariant.proofs.InRuns.MovesKinds.{is_inside}
 use Rattle.run_invariant.proofs.InRuns.OwnMade.{enter_at, remove_at}
-use Rattle.run_invariant.proofs.Bounds.Words.{word_may}
 use Rattle.run_invariant.proofs.InRuns.Moved.{Moved, after, does, known, mech, mover, offers, own, seated, seen, world}
 use Rattle.run_exchanges.proofs.Exchanges.Requests.{Asked, none, lost, elsewhere, clears, wins}
 
@@ -81,7 +81,7 @@ module _ {S W : Type 0} (form : NormalForm S W) where
   requested request was now saw asks (request_won at from to found raised) =
       let of = asks.3 in
       let entry : Entry = record { target = at; from = from; to = to } in
-      wins Beside entry (form.cause_of was Beside entry) to refl refl (word_may was at asks.0) asks.1 raised (ap cleared_word of.2 ∙ cleared-changed from of.0 of.1 ∙ sym of.2) refl
+      wins Beside entry (form.cause_of was Beside entry) to refl refl (word_may form.is_root was at asks.0) asks.1 raised (ap cleared_word of.2 ∙ cleared-changed from of.0 of.1 ∙ sym of.2) refl
 
   -- a step of a list that a record has named
   module _ (was now : World) (offer : Offer S) (block j : ℕ) (entry : Entry) (words : ℕ → ℕ) (plain : form.is_versioned (state_place block j) ≡ false) (here : MayBeClients entry.target)
@@ -137,7 +137,7 @@ module _ {S W : Type 0} (form : NormalForm S W) where
         let room = has_room form setup older m.are.0 m.kept m.laws entry.target good.word good.versioned in
         let raised : versioned_version entry.to ≡ versioned_version entry.from + 1 = ap versioned_version of.2 ∙ version-changed_below entry.from of.0 of.1 (subst (λ w. versioned_version w + 1 < 2 ^ 39) found room) in
         let made' = exchanged form (By held.list run.next) (listed_if (form.adds held.list run.next) held.list) entry entry.to (world form m) in
-        wins (By held.list run.next) entry (form.cause_of (world form m) (By held.list run.next) entry) entry.to (ap exchange_of next) on (word_may (world form m) entry.target good.word) good.versioned raised
+        wins (By held.list run.next) entry (form.cause_of (world form m) (By held.list run.next) entry) entry.to (ap exchange_of next) on (word_may form.is_root (world form m) entry.target good.word) good.versioned raised
         (ap cleared_word of.2 ∙ cleared-changed entry.from of.0 of.1 ∙ sym of.2)
         (ap (λ (w : World). w.journal) made ∙ journal_if (uses_block held.list run.next) _ made' made'.journal refl refl)
 
@@ -177,7 +177,7 @@ module _ {S W : Type 0} (form : NormalForm S W) where
         let plain : form.is_versioned (state_place run.block run.next) ≡ false =
         subst (λ b. form.is_versioned (state_place b run.next) ≡ false) (sym is) (m.laws.notes_plain block (9 + run.next) some (omega (arith, short, within))) in
         subst (λ (o : Option Entry). Asks (request_at run o)) (sym next)
-        (step_asked (world form m) (after form m) offer run.block run.next entry (after form m).words plain (word_may (world form m) entry.target target.0) target.1 (mine.site.raised run.next entry at.1) run.step (seen form m).won
+        (step_asked (world form m) (after form m) offer run.block run.next entry (after form m).words plain (word_may form.is_root (world form m) entry.target target.0) target.1 (mine.site.raised run.next entry at.1) run.step (seen form m).won
         (journal ∙ ap (λ (o : Option Entry). (ran_by form (world form m) offer run.next (after form m).words (installs run.step && (seen form m).won) o).journal) at.1))
 
     advance_same : (head word to : ℕ) (offers' : ℕ → Option (Offer S)) → Advances form (world form m) (after form m) (offers form m) offers' head word to (own form m).carried.filled (seen form m) → (after form m).journal ≡ (world form m).journal

@@ -1,14 +1,14 @@
 -- What a request has exchanged, won or not, and what the journal tells of it.
-use Rattle.std.proofs.Common.{◌≡◌, ◌≢◌, ◌∙◌, refl, sym, subst, ap, ℕ, ◌+◌, ◌<◌, ◌==◌, ◌||◌, ◌&&◌, not, nat_le, if◌then◌else◌, Bool, true, false, List, [], ◌∷◌, ◌++◌, map, ◌⊎◌, inl, inr, arith}
+use Rattle.std.proofs.Common.{◌≡◌, ◌≢◌, ◌∙◌, refl, sym, subst, ap, ℕ, ◌+◌, ◌<◌, ◌==◌, ◌||◌, ◌&&◌, not, nat_le, if◌then◌else◌, Bool, true, false, List, [], ◌∷◌, ◌++◌, map, ◌⊎◌, inl, inr, arith, ◌≤◌}
 use Rattle.std.proofs.lemmas.Bool.Decides.{nat_tests}
 use Rattle.step_memory.specs.declared.steps.Request.{Request}
 use Rattle.step_memory.specs.declared.steps.Request.TheVariants.{Load, Store, Exchange, Add}
 use Rattle.word_fields.specs.Versioned.{cleared_word, versioned_version}
 use Rattle.normal_traits.specs.declared.lists.Entry.{Entry}
 use Rattle.normal_traits.specs.World.{Cause, Maker, World}
-use Rattle.run_invariant.specs.Kept.{MayBeClients}
 use Rattle.run_exchanges.specs.Exchanges.{IsCleared, WonExchange, changes_version, exchanged_by, is_clients_place, told_exchange}
 use Rattle.run_exchanges.proofs.Changes.Items.{item_of}
+use Rattle.node_arena.specs.MemoryMap.{is_root_place, MayBeClients}
 
 all_three : (a b c : Bool) → a ≡ true → b ≡ true → c ≡ true → (a && b && c) ≡ true
 all_three true true c one two three = three
@@ -29,33 +29,28 @@ third_off true true c off = off
 third_off true false c off = refl
 third_off false b c off = refl
 
-or_first : (a b c : Bool) → a ≡ true → (a || b || c) ≡ true
-or_first true b c on = refl
-or_first false b c on = absurd cc
+or_first : (a b : Bool) → a ≡ true → (a || b) ≡ true
+or_first true b on = refl
+or_first false b on = absurd cc
 
-or_second : (a b c : Bool) → b ≡ true → (a || b || c) ≡ true
-or_second true b c on = refl
-or_second false true c on = refl
-or_second false false c on = absurd cc
+or_second : (a b : Bool) → b ≡ true → (a || b) ≡ true
+or_second true b on = refl
+or_second false b on = on
 
-or_third : (a b c : Bool) → c ≡ true → (a || b || c) ≡ true
-or_third true b c on = refl
-or_third false true c on = refl
-or_third false false c on = on
+none_of : (a b : Bool) → a ≡ false → b ≡ false → (a || b) ≡ false
+none_of true b one two = absurd cc
+none_of false b one two = two
 
-none_of : (a b c : Bool) → a ≡ false → b ≡ false → c ≡ false → (a || b || c) ≡ false
-none_of true b c one two three = absurd cc
-none_of false true c one two three = absurd cc
-none_of false false c one two three = three
+root_of : (place : ℕ) → 20 ≤ place → place < 24 → is_root_place place ≡ true
+root_of place from below = grind (arith, nat_tests, from, below)
 
--- a place of the client is one, and none below head is
+-- a place of the client is one, and none below the roots is
 clients : (place : ℕ) → MayBeClients place → is_clients_place place ≡ true
-clients place (inl head) = or_first (place == 20) (place == 21) (nat_le 32 place) (grind (arith, nat_tests, head))
-clients place (inr (inl tail)) = or_second (place == 20) (place == 21) (nat_le 32 place) (grind (arith, nat_tests, tail))
-clients place (inr (inr behind)) = or_third (place == 20) (place == 21) (nat_le 32 place) (grind (arith, nat_tests, behind))
+clients place (inl root) = or_first (is_root_place place) (nat_le 32 place) (root_of place root.0 root.1)
+clients place (inr behind) = or_second (is_root_place place) (nat_le 32 place) (grind (arith, nat_tests, behind))
 
 not_clients : (place : ℕ) → place < 20 → is_clients_place place ≡ false
-not_clients place low = none_of (place == 20) (place == 21) (nat_le 32 place) (grind (arith, nat_tests, low)) (grind (arith, nat_tests, low)) (grind (arith, nat_tests, low))
+not_clients place low = none_of (is_root_place place) (nat_le 32 place) (grind (arith, nat_tests, low)) (grind (arith, nat_tests, low))
 
 raised_changes : (from to : ℕ) → versioned_version to ≡ versioned_version from + 1 → changes_version from to ≡ true
 raised_changes from to raised = ap not (let off : (versioned_version to == versioned_version from) ≡ false = grind (arith, nat_tests, raised) in off)

@@ -1,16 +1,14 @@
 -- The laws of the journal of every run.
 use Rattle.std.specs.Prelude.{All, AllPairs}
-use Rattle.std.proofs.Common.{◌≡◌, ◌≢◌, ◌∙◌, refl, sym, subst, ap, ℕ, ◌+◌, ◌<◌, ◌≤◌, ◌==◌, ◌||◌, ◌&&◌, not, nat_le, Bool, true, false, List, [], ◌∷◌, slice_get, Some, arith, rules}
+use Rattle.std.proofs.Common.{◌≡◌, ◌≢◌, ◌∙◌, refl, sym, subst, ap, ℕ, ◌+◌, ◌<◌, ◌≤◌, Bool, true, List, [], ◌∷◌, slice_get, Some, arith}
 use Rattle.std.proofs.lemmas.List.Elements.{All-nil, All-cons, All-weaker}
 use Rattle.std.proofs.lemmas.List.Kept.{AllPairs-cons}
 use Rattle.step_memory.specs.declared.steps.Request.{Request}
 use Rattle.step_memory.specs.declared.steps.Seen.{Seen}
 use Rattle.word_fields.specs.Versioned.{versioned_version}
 use Rattle.word_fields.proofs.VersionedLemmas.{version-cleared}
-use Rattle.node_arena.specs.declared.places.TheConstants.{HEAD, TAIL, FIRST_WORDS}
-use Rattle.node_arena.specs.MemoryMap.{block_at, field_at}
 use Rattle.normal_traits.specs.declared.lists.Entry.{Entry}
-use Rattle.normal_traits.specs.World.{Listed, Maker, Won, World, is_state, is_word}
+use Rattle.normal_traits.specs.World.{Listed, Maker, Won, World, is_word}
 use Rattle.normal_traits.specs.NormalForm.{NormalForm}
 use Rattle.normal_traits.specs.Steps.{IsStep, Requested, IsExchanged, IsOffered, with_word}
 use Rattle.normal_traits.specs.Steps.Requested.{loaded, lost, won}
@@ -28,10 +26,11 @@ use Rattle.run_invariant.proofs.Bounds.InKept.{used_within}
 use Rattle.run_invariant.proofs.InRuns.Moved as moves_of
 use Rattle.run_invariant.proofs.InRuns.Moved.{moved}
 use Rattle.run_exchanges.specs.Journals.{JournalsObey}
+use Rattle.offered_blocks.proofs.Blocks.Places.{word_grows}
 
 -- a won exchange at a word of the client: its version is one higher, and the place is past the word before
-record IsPast (world : World) (won : Won) : Type 0 where
-  pub here : is_word world won.place ≡ true
+record IsPast (is_root : ℕ → Bool) (world : World) (won : Won) : Type 0 where
+  pub here : is_word is_root world won.place ≡ true
   pub past : versioned_version won.before < versioned_version (world.words won.place)
   pub raised : versioned_version won.after ≡ versioned_version won.before + 1
 
@@ -39,31 +38,19 @@ record IsPast (world : World) (won : Won) : Type 0 where
 abbrev AreOnce : Won → Won → Type 0
 AreOnce a b = a.place ≡ b.place → a.before ≢ b.before
 
--- a word of the client is one where more blocks are used
-word_later : (world after : World) (place : ℕ) → ((block : ℕ) → world.used block ≡ true → after.used block ≡ true) → is_word world place ≡ true → is_word after place ≡ true
-word_later world after place grows here =
-    by_parts (place == HEAD) (place == TAIL) (nat_le FIRST_WORDS place) (world.used (block_at place)) (after.used (block_at place)) (block_at place == 0 || not (is_state (field_at place))) (grows (block_at place)) here
-  where
-    by_parts : (head tail behind used later rest : Bool) → (used ≡ true → later ≡ true) → (head || tail || (behind && used && rest)) ≡ true → (head || tail || (behind && later && rest)) ≡ true
-    by_parts true tail behind used later rest grows is = refl
-    by_parts false true behind used later rest grows is = refl
-    by_parts false false true true later rest grows is = rw (grows refl) is
-    by_parts false false true false later rest grows is = absurd (search rules)
-    by_parts false false false used later rest grows is = absurd (search rules)
-
 -- of all won exchanges
-record ArePast (world : World) : Type 0 where
-  pub each : All (IsPast world) world.journal
+record ArePast (is_root : ℕ → Bool) (world : World) : Type 0 where
+  pub each : All (IsPast is_root world) world.journal
   pub once : AllPairs AreOnce world.journal
 
 -- a step that wins no exchange, or one at a word of the client that stands there
-data Wins (world after : World) : Type 0 where
-  none : after.journal ≡ world.journal → Wins world after
-  one : (won : Won) → after.journal ≡ won ∷ world.journal → is_word world won.place ≡ true → world.words won.place ≡ won.before
-      → versioned_version won.after ≡ versioned_version won.before + 1 → versioned_version (after.words won.place) ≡ versioned_version won.after → Wins world after
+data Wins (is_root : ℕ → Bool) (world after : World) : Type 0 where
+  none : after.journal ≡ world.journal → Wins is_root world after
+  one : (won : Won) → after.journal ≡ won ∷ world.journal → is_word is_root world won.place ≡ true → world.words won.place ≡ won.before
+      → versioned_version won.after ≡ versioned_version won.before + 1 → versioned_version (after.words won.place) ≡ versioned_version won.after → Wins is_root world after
 
 module _ {S W : Type 0} (form : NormalForm S W) (laws : Laws form) where
-  request_wins : (request : Request) (world after : World) (seen : Seen) → AsksWell form world request → Requested form request world after seen → Wins world after
+  request_wins : (request : Request) (world after : World) (seen : Seen) → AsksWell form world request → Requested form request world after seen → Wins form.is_root world after
   request_wins request world after seen asks (loaded at) = none refl
   request_wins request world after seen asks (lost at from to differs) = none refl
   request_wins request world after seen asks (won at from to same raised) =
@@ -71,15 +58,15 @@ module _ {S W : Type 0} (form : NormalForm S W) (laws : Laws form) where
 
   entry_wins : (world after : World) (list : Listed) (search : S) (since j word : ℕ) (entry : Entry) (made : Won) → form.shape world → IsOffered form world list search since → slice_get list.entries j ≡ Some entry
       → world.words entry.target ≡ entry.from → IsExchanged entry word → made.place ≡ entry.target → made.before ≡ entry.from → made.after ≡ entry.to
-      → after.journal ≡ made ∷ world.journal → after.words ≡ with_word entry.target word world.words → Wins world after
+      → after.journal ≡ made ∷ world.journal → after.words ≡ with_word entry.target word world.words → Wins form.is_root world after
   entry_wins world after list search since j word entry made shape offered listed stands is place before to journal words =
       let good = entry_good form laws world list search since j entry shape offered listed in
       let stood : after.words made.place ≡ word = ap after.words place ∙ ap (λ (f : ℕ → ℕ). f entry.target) words ∙ word_put entry.target word world.words entry.target refl in
-      one made journal (subst (λ p. is_word world p ≡ true) (sym place) good.word) (ap world.words place ∙ stands ∙ sym before)
+      one made journal (subst (λ p. is_word form.is_root world p ≡ true) (sym place) good.word) (ap world.words place ∙ stands ∙ sym before)
       (ap versioned_version to ∙ is.raised ∙ ap (λ w. versioned_version w + 1) (sym before))
       (ap versioned_version stood ∙ sym (version-cleared word) ∙ ap versioned_version (is.to ∙ sym to))
 
-  wins : (world after : World) → form.shape world → IsStep form world after → Wins world after
+  wins : (world after : World) → form.shape world → IsStep form world after → Wins form.is_root world after
   wins world after shape nothing = none refl
   wins world after shape (elsewhere at word is) = none refl
   wins world after shape (clears at is versioned listable) = none refl
@@ -91,28 +78,28 @@ module _ {S W : Type 0} (form : NormalForm S W) (laws : Laws form) where
 
   module _ (world after : World) (grows : (block : ℕ) → world.used block ≡ true → after.used block ≡ true) (step : IsStep form world after) where
     -- an earlier exchange stays past
-    stays_past : (item : Won) → IsPast world item → IsPast after item
-    stays_past item is = record { here = word_later world after item.place grows is.here; past = omega (arith, is.past, passed_stays form world after item.place is.here step); raised = is.raised }
+    stays_past : (item : Won) → IsPast form.is_root world item → IsPast form.is_root after item
+    stays_past item is = record { here = word_grows form.is_root world after grows item.place is.here; past = omega (arith, is.past, passed_stays form world after item.place is.here step); raised = is.raised }
 
-    past_more : Wins world after → ArePast world → ArePast after
+    past_more : Wins form.is_root world after → ArePast form.is_root world → ArePast form.is_root after
     past_more (none same) on = record {
-      each = subst (All (IsPast after)) (sym same) (All-weaker (IsPast world) (IsPast after) stays_past world.journal on.each);
+      each = subst (All (IsPast form.is_root after)) (sym same) (All-weaker (IsPast form.is_root world) (IsPast form.is_root after) stays_past world.journal on.each);
       once = subst (AllPairs AreOnce) (sym same) on.once;
     }
     past_more (one made journal here stands raised version) on = record {
-      each = subst (All (IsPast after)) (sym journal) (All-cons (IsPast after) made world.journal
-          (record { here = word_later world after made.place grows here; past = omega (arith, raised, version); raised = raised })
-          (All-weaker (IsPast world) (IsPast after) stays_past world.journal on.each));
+      each = subst (All (IsPast form.is_root after)) (sym journal) (All-cons (IsPast form.is_root after) made world.journal
+          (record { here = word_grows form.is_root world after grows made.place here; past = omega (arith, raised, version); raised = raised })
+          (All-weaker (IsPast form.is_root world) (IsPast form.is_root after) stays_past world.journal on.each));
       once = subst (AllPairs AreOnce) (sym journal) (AllPairs-cons AreOnce made world.journal
-          (All-weaker (IsPast world) (AreOnce made) (λ (old : Won) is place same. omega (arith, is.past, ap versioned_version same, ap versioned_version stands, ap (λ p. versioned_version (world.words p)) place)) world.journal on.each)
+          (All-weaker (IsPast form.is_root world) (AreOnce made) (λ (old : Won) is place same. omega (arith, is.past, ap versioned_version same, ap versioned_version stands, ap (λ p. versioned_version (world.words p)) place)) world.journal on.each)
           on.once);
     }
 
   -- ---- of every run
 
   module _ (kept : RunsAreKept form) where
-    are_past : (setup : Setup) (moves : List Move) → AreMoves form setup moves → ArePast (world_of form setup moves)
-    are_past setup [] are = record { each = All-nil (IsPast (world_of form setup [])); once = pairs_nil AreOnce }
+    are_past : (setup : Setup) (moves : List Move) → AreMoves form setup moves → ArePast form.is_root (world_of form setup moves)
+    are_past setup [] are = record { each = All-nil (IsPast form.is_root (world_of form setup [])); once = pairs_nil AreOnce }
     are_past setup (move ∷ older) are =
         let world = world_of form setup older in
         let after = world_of form setup (move ∷ older) in
@@ -127,7 +114,7 @@ module _ {S W : Type 0} (form : NormalForm S W) (laws : Laws form) where
         let used = used_within form setup moves are is in
         record {
           once_from = on.once;
-          raised = All-weaker (IsPast world) (λ (won : Won). versioned_version won.after ≡ versioned_version won.before + 1) (λ item past. past.raised) world.journal on.each;
+          raised = All-weaker (IsPast form.is_root world) (λ (won : Won). versioned_version won.after ≡ versioned_version won.before + 1) (λ item past. past.raised) world.journal on.each;
           causes = laws.causes_differ world is.holds.shape;
           bounded = All-weaker (λ (won : Won). (world.used won.cause.block ≡ true) × (won.cause.kind < 8)) (λ (won : Won). (won.cause.block ≤ setup.cap) × (won.cause.kind < 8)) (λ (won : Won) of. (used won.cause.block of.0, of.1)) world.journal (laws.causes_bounded world is.holds.shape);
           few = journal_few form world setup.cap laws is.holds.shape used;

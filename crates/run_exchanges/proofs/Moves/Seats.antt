@@ -72,7 +72,7 @@ module _ {S W : Type 0} (form : NormalForm S W) where
 
   absent_closed : (setup : Setup) (moves : List Move) (seat : ℕ) → seat < 8 → AreMoves form setup moves → KeepsQueue form setup moves → Absent setup moves seat
       → is_open (record_phase ((scene_of (run_of form setup moves).words (queue_ghosts form setup moves)).records seat)) ≡ false
-  absent_closed setup [] seat few are keeps none = (opens_free form.client setup.cap seat few).closed
+  absent_closed setup [] seat few are keeps none = (opens_free form.opening form.opens setup.cap seat few).closed
   absent_closed setup (move ∷ older) seat few are keeps none =
       let before = absent_before setup older move seat are none in
       let closed = absent_closed setup older seat few are.0 keeps.0 before in

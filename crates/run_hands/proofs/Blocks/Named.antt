@@ -33,7 +33,7 @@ begun_hand (Some op) mech = refl
 
 module _ {S W : Type 0} (form : NormalForm S W) where
   pub some_words : (setup : Setup) (moves : List Move) → AreMoves form setup moves → 2 < length (run_of form setup moves).words
-  some_words setup [] are = (let long = length-opening_words form.client setup.cap in omega (arith, long))
+  some_words setup [] are = (let long = length-opening_words form.opening setup.cap in omega (arith, long))
   some_words setup (move ∷ older) are =
       let state = run_of form setup older in
       let is = are.1 in

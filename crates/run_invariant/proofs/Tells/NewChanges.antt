@@ -7,7 +7,7 @@ use Rattle.normal_traits.specs.World.{Among, Change, Listed, Took, Won, World}
 use Rattle.normal_traits.specs.World.Maker.{By}
 use Rattle.normal_traits.specs.NormalForm.{NormalForm}
 use Rattle.normal_traits.specs.Laws.{Laws}
-use Rattle.normal_traits.specs.Steps.{listed_if, object, with_change}
+use Rattle.normal_traits.specs.Steps.{listed_if, with_change}
 use Rattle.fast_slow_engine.specs.declared.setup.Setup.{Setup}
 use Rattle.fast_slow_engine.specs.HelpWords.{named_block}
 use Rattle.fast_slow_engine.specs.Mechs.{Mech}
@@ -80,7 +80,7 @@ module _ {S W : Type 0} (form : NormalForm S W) (laws : Laws form) (setup : Setu
 
   -- ---- a search or a wrap-up
 
-  beside_new : (list : Option Listed) (entry : Entry) → form.adds_beside world entry ≡ list → after.changes ≡ with_change (object form) list world.changes → Old
+  beside_new : (list : Option Listed) (entry : Entry) → form.adds_beside world entry ≡ list → after.changes ≡ with_change form.object list world.changes → Old
   beside_new None entry adds made change among = same_changes made change among
   beside_new (Some list) entry adds made change among =
       elim (subst (Among change) made among) [
@@ -102,7 +102,7 @@ module _ {S W : Type 0} (form : NormalForm S W) (laws : Laws form) (setup : Setu
       let same : offer.list ≡ list = (same_maker offer.list list run.next j (ap (λ (w : Won). w.maker) (first_same _ won world.journal world.journal (sym journal ∙ came)) ∙ maker)).0 in
       not_both (is_of offer.list j (By list j)) (subst (λ (l : Listed). is_of l j (By list j) ≡ true) (sym same) (of_itself list j)) (apart (named_block word) offer stands)
 
-  enters_new : (adds : Bool) (list : Listed) → (h : Held S) × (own.held ≡ Some h) × (h.list ≡ list) → after.changes ≡ with_change (object form) (listed_if adds list) world.changes → Old
+  enters_new : (adds : Bool) (list : Listed) → (h : Held S) × (own.held ≡ Some h) × (h.list ≡ list) → after.changes ≡ with_change form.object (listed_if adds list) world.changes → Old
   enters_new false list mine made change among = same_changes made change among
   enters_new true list mine made change among =
       elim (subst (Among change) made among) [ inl new ↦ inr (of_mover mine.0 mine.1 (mine.2 ∙ sym (ap (λ (c : Change). c.list) new))) | inr old ↦ inl old ]

@@ -5,7 +5,7 @@ use Rattle.arrayvec.specs.ArrayVec.{ArrayVec}
 use Rattle.lin_report.specs.declared.calls.Outcome.{Outcome}
 use Rattle.lin_report.specs.declared.calls.Outcome.TheVariants.{Plain, ValueOf}
 use Rattle.lin_report.specs.declared.calls.Reply.TheVariants as reply
-use Rattle.lin_report.specs.Commands.{IsCommandOf}
+use Rattle.lin_report.specs.Object.{IsCommandOf}
 use Rattle.step_memory.specs.declared.steps.Seen.{Seen}
 use Rattle.node_arena.specs.declared.places.TheConstants.{NODE_VALUE}
 use Rattle.node_arena.specs.MemoryMap.{block_at, node_place}
@@ -167,7 +167,7 @@ module _ {S W : Type 0} (form : NormalForm S W) (laws : Laws form) (after : Worl
   -- ---- the value that is told
 
   -- the value of a node that is told is in range
-  value_small : AnswersWell form after → IsCommandOf form.client one.op → (reference : ℕ) → TellsRight form after (called one) begun (ValueOf reference) → after.words (node_place reference NODE_VALUE) < 2 ^ 32
+  value_small : AnswersWell form after → IsCommandOf form.object one.op → (reference : ℕ) → TellsRight form after (called one) begun (ValueOf reference) → after.words (node_place reference NODE_VALUE) < 2 ^ 32
   value_small well command reference (observed right fixed made) = answer_small form after one.op right.count _ well command (sym right.told.1)
   value_small well command reference (changed list call by fixed made) = change_small form after (record { list = list; reply = by.reply }) _ well by.change (sym by.told.1)
   value_small well command reference (refused is made) = value_not reference is
@@ -179,7 +179,7 @@ module _ {S W : Type 0} (form : NormalForm S W) (laws : Laws form) (after : Worl
   as_plain reference word same (refused is made) = value_not reference is
 
   -- so the word that is loaded is the reply
-  value_told : AnswersWell form after → IsCommandOf form.client one.op → (reference word : ℕ) → word ≡ after.words (node_place reference NODE_VALUE) → TellsRight form after (called one) begun (ValueOf reference)
+  value_told : AnswersWell form after → IsCommandOf form.object one.op → (reference word : ℕ) → word ≡ after.words (node_place reference NODE_VALUE) → TellsRight form after (called one) begun (ValueOf reference)
       → TellsRight form after (called one) begun (Plain (reply.Value (word % 2 ^ 32)))
   value_told well command reference word is right =
       let few = value_small well command reference right in

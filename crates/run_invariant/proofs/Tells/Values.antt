@@ -1,13 +1,13 @@
 -- The values that calls are told are below 2^32: each change is of a command, and its reply is that of the object after the
 -- older ones. Every allowed step of a client keeps this.
 use Rattle.std.proofs.Common.{◌≡◌, ◌∙◌, refl, sym, subst, ap, ℕ, zero, suc, ◌-◌, ◌^◌, ◌<◌, inl, inr, Bool, true, false, List, [], ◌∷◌, ◌++◌, drop, length, Option, Some, None}
-use Rattle.lin_report.specs.declared.calls.Client.{Client}
 use Rattle.lin_report.specs.declared.calls.Op.{Op}
 use Rattle.lin_report.specs.declared.calls.Reply.{Reply}
 use Rattle.lin_report.specs.declared.calls.Reply.TheVariants.{Value}
-use Rattle.lin_report.specs.Commands.{IsCommandOf, told_value}
-use Rattle.lin_report.specs.Object.{Object, object_of}
-use Rattle.lin_report.proofs.Replies.{HoldsInRange, range_empty, range_kept, reply_fits}
+use Rattle.lin_report.specs.Commands.{told_value}
+use Rattle.lin_report.specs.Object.{IsCommandOf, Object}
+use Rattle.lin_report.specs.Tellable.{IsTellable}
+use Rattle.lin_report.proofs.Tellable.{IsReached, reached_empty, reached_next, reached_fits}
 use Rattle.step_memory.specs.declared.steps.Request.{Request}
 use Rattle.step_memory.specs.declared.steps.Seen.{Seen}
 use Rattle.normal_traits.specs.declared.lists.Entry.{Entry}
@@ -40,20 +40,20 @@ one_replied object list changes are (front ∷ newer) older change is = let rest
 
 -- ---- each value that is told is in range
 
-abbrev pub AreCommandsOf : Client → List Change → Type 0
-AreCommandsOf client changes = (change : Change) → Among change changes → IsCommandOf client change.list.call.op
+abbrev pub AreCommandsOf : Object → List Change → Type 0
+AreCommandsOf object changes = (change : Change) → Among change changes → IsCommandOf object change.list.call.op
 
--- what is held after commands alone has values in range
-pub held_in_range : (client : Client) (changes : List Change) → AreCommandsOf client changes → HoldsInRange client (held_after (object_of client) changes)
-held_in_range client [] are = range_empty client
-held_in_range client (change ∷ older) are =
-    range_kept client change.list.call.op (held_after (object_of client) older) (are change (inl refl)) (held_in_range client older (λ other among. are other (inr among)))
+-- what is held after them is reached by commands alone
+pub commands_reach : (object : Object) (changes : List Change) → AreCommandsOf object changes → IsReached object (held_after object changes)
+commands_reach object [] are = reached_empty object
+commands_reach object (change ∷ older) are =
+    reached_next object change.list.call.op (held_after object older) (are change (inl refl)) (commands_reach object older (λ other among. are other (inr among)))
 
 -- a reply of a command after commands alone tells a value in range
-replies_small : (client : Client) (changes : List Change) (op : Op) (value : ℕ) → AreCommandsOf client changes → IsCommandOf client op
-    → ((object_of client).apply op (held_after (object_of client) changes)).1 ≡ Value value → value < 2 ^ 32
-replies_small client changes op value are command is =
-    let fits = reply_fits client op (held_after (object_of client) changes) command (held_in_range client changes are) in
+replies_small : (object : Object) → IsTellable object → (changes : List Change) (op : Op) (value : ℕ) → AreCommandsOf object changes → IsCommandOf object op
+    → (object.apply op (held_after object changes)).1 ≡ Value value → value < 2 ^ 32
+replies_small object tells changes op value are command is =
+    let fits = reached_fits object tells op (held_after object changes) command (commands_reach object changes are) in
     subst (λ (r : Reply). told_value r < 2 ^ 32) is fits.value
 
 -- some of the changes are of commands where all are
@@ -81,64 +81,64 @@ beside_by list j same = absurd cc
 module _ {S W : Type 0} (form : NormalForm S W) where
   -- each list of which an entry took effect is of a command; so is each change, and its reply is that of the object
   pub record AnswersWell (world : World) : Type 0 where
-    pub listed : (list : Listed) (j : ℕ) (taken : Won) → Among taken world.journal → taken.maker ≡ By list j → IsCommandOf form.client list.call.op
-    pub commands : AreCommandsOf form.client world.changes
-    pub replied : AreReplied (object_of form.client) world.changes
+    pub listed : (list : Listed) (j : ℕ) (taken : Won) → Among taken world.journal → taken.maker ≡ By list j → IsCommandOf form.object list.call.op
+    pub commands : AreCommandsOf form.object world.changes
+    pub replied : AreReplied form.object world.changes
 
   -- a value that a command is told after some of the changes is in range
-  pub answer_small : (world : World) (op : Op) (count value : ℕ) → AnswersWell world → IsCommandOf form.client op
-      → ((object_of form.client).apply op (held_after (object_of form.client) (first_changes count world.changes))).1 ≡ Value value → value < 2 ^ 32
+  pub answer_small : (world : World) (op : Op) (count value : ℕ) → AnswersWell world → IsCommandOf form.object op
+      → (form.object.apply op (held_after form.object (first_changes count world.changes))).1 ≡ Value value → value < 2 ^ 32
   answer_small world op count value well command is =
-      replies_small form.client (first_changes count world.changes) op value (λ change among. well.commands change (drop_among change (length world.changes - count) world.changes among)) command is
+      replies_small form.object form.tellable (first_changes count world.changes) op value (λ change among. well.commands change (drop_among change (length world.changes - count) world.changes among)) command is
 
   -- so is one that a change tells
   pub change_small : (world : World) (change : Change) (value : ℕ) → AnswersWell world → Among change world.changes → change.reply ≡ Value value → value < 2 ^ 32
   change_small world change value well among is =
       let split = among_split change world.changes among in
-      let older : AreCommandsOf form.client split.1 = λ other inside. well.commands other (subst (Among other) (sym split.2) (older_among other change split.0 split.1 inside)) in
-      replies_small form.client split.1 change.list.call.op value older (well.commands change among) (sym (well.replied split.0 split.1 change split.2) ∙ is)
+      let older : AreCommandsOf form.object split.1 = λ other inside. well.commands other (subst (Among other) (sym split.2) (older_among other change split.0 split.1 inside)) in
+      replies_small form.object form.tellable split.1 change.list.call.op value older (well.commands change among) (sym (well.replied split.0 split.1 change split.2) ∙ is)
 
   -- ---- it holds always
 
   pub answers_open : AnswersWell (opening_world form)
-  answers_open = record { listed = λ list j taken among maker. absurd among; commands = λ change among. absurd among; replied = none_replied (object_of form.client) }
+  answers_open = record { listed = λ list j taken among maker. absurd among; commands = λ change among. absurd among; replied = none_replied form.object }
 
   -- a world with the same changes and won exchanges
   answers_same : (world after : World) → after.changes ≡ world.changes → after.journal ≡ world.journal → AnswersWell world → AnswersWell after
   answers_same world after changes journal well = record {
     listed = λ list j taken among. well.listed list j taken (subst (Among taken) journal among);
-    commands = subst (AreCommandsOf form.client) (sym changes) well.commands;
-    replied = subst (AreReplied (object_of form.client)) (sym changes) well.replied;
+    commands = subst (AreCommandsOf form.object) (sym changes) well.commands;
+    replied = subst (AreReplied form.object) (sym changes) well.replied;
   }
 
   -- one change more, of a command
-  change_commands : (list : Option Listed) (changes : List Change) → ((one : Listed) → list ≡ Some one → IsCommandOf form.client one.call.op) → AreCommandsOf form.client changes
-      → AreCommandsOf form.client (with_change (object_of form.client) list changes)
+  change_commands : (list : Option Listed) (changes : List Change) → ((one : Listed) → list ≡ Some one → IsCommandOf form.object one.call.op) → AreCommandsOf form.object changes
+      → AreCommandsOf form.object (with_change form.object list changes)
   change_commands None changes command are change among = are change among
-  change_commands (Some list) changes command are change (inl new) = subst (λ (c : Change). IsCommandOf form.client c.list.call.op) (sym new) (command list refl)
+  change_commands (Some list) changes command are change (inl new) = subst (λ (c : Change). IsCommandOf form.object c.list.call.op) (sym new) (command list refl)
   change_commands (Some list) changes command are change (inr old) = are change old
 
-  change_replied : (list : Option Listed) (changes : List Change) → AreReplied (object_of form.client) changes → AreReplied (object_of form.client) (with_change (object_of form.client) list changes)
+  change_replied : (list : Option Listed) (changes : List Change) → AreReplied form.object changes → AreReplied form.object (with_change form.object list changes)
   change_replied None changes are newer older change = are newer older change
-  change_replied (Some list) changes are newer older change = one_replied (object_of form.client) list changes are newer older change
+  change_replied (Some list) changes are newer older change = one_replied form.object list changes are newer older change
 
   -- an exchange, whose maker and whose change are of commands
-  exchange_answers : (world : World) (maker : Maker) (list : Option Listed) (entry : Entry) (word : ℕ) → ((one : Listed) (j : ℕ) → maker ≡ By one j → IsCommandOf form.client one.call.op)
-      → ((one : Listed) → list ≡ Some one → IsCommandOf form.client one.call.op) → AnswersWell world → AnswersWell (exchanged form maker list entry word world)
+  exchange_answers : (world : World) (maker : Maker) (list : Option Listed) (entry : Entry) (word : ℕ) → ((one : Listed) (j : ℕ) → maker ≡ By one j → IsCommandOf form.object one.call.op)
+      → ((one : Listed) → list ≡ Some one → IsCommandOf form.object one.call.op) → AnswersWell world → AnswersWell (exchanged form maker list entry word world)
   exchange_answers world maker list entry word by command well = record {
     listed = λ one j taken among made. elim among [ inl new ↦ by one j (sym (ap (λ (w : Won). w.maker) new) ∙ made) | inr old ↦ well.listed one j taken old made ];
     commands = change_commands list world.changes command well.commands;
     replied = change_replied list world.changes well.replied;
   }
 
-  of_list : (adds : Bool) (list one : Listed) → IsCommandOf form.client list.call.op → listed_if adds list ≡ Some one → IsCommandOf form.client one.call.op
-  of_list true list one command is = (let same : list ≡ one = cc in subst (λ (l : Listed). IsCommandOf form.client l.call.op) same command)
+  of_list : (adds : Bool) (list one : Listed) → IsCommandOf form.object list.call.op → listed_if adds list ≡ Some one → IsCommandOf form.object one.call.op
+  of_list true list one command is = (let same : list ≡ one = cc in subst (λ (l : Listed). IsCommandOf form.object l.call.op) same command)
   of_list false list one command is = absurd cc
 
-  entry_answers : (world : World) (list : Listed) (j : ℕ) (entry : Entry) (word : ℕ) → IsCommandOf form.client list.call.op → AnswersWell world → AnswersWell (exchanged form (By list j) (listed_if (form.adds list j) list) entry word world)
+  entry_answers : (world : World) (list : Listed) (j : ℕ) (entry : Entry) (word : ℕ) → IsCommandOf form.object list.call.op → AnswersWell world → AnswersWell (exchanged form (By list j) (listed_if (form.adds list j) list) entry word world)
   entry_answers world list j entry word command =
       exchange_answers world (By list j) (listed_if (form.adds list j) list) entry word
-      (λ one k is. subst (λ (l : Listed). IsCommandOf form.client l.call.op) (same_list list one j k is) command) (λ one is. of_list (form.adds list j) list one command is)
+      (λ one k is. subst (λ (l : Listed). IsCommandOf form.object l.call.op) (same_list list one j k is) command) (λ one is. of_list (form.adds list j) list one command is)
 
   module _ (laws : Laws form) where
     -- a change beside the lists is that of a list which took effect

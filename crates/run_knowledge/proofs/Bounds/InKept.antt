@@ -15,7 +15,8 @@ use Rattle.run_hands.proofs.Blocks.Used.{used_claimed}
 use Rattle.step_knowledge.specs.Moves.{HasRoom}
 use Rattle.run_knowledge.specs.Kept.{IsKept}
 use Rattle.run_knowledge.proofs.Bounds.Causes.{journal_few}
-use Rattle.run_knowledge.proofs.Bounds.Words.{word_inside, word_may, words_count}
+use Rattle.run_knowledge.proofs.Bounds.Words.{word_inside, words_count}
+use Rattle.offered_blocks.proofs.Blocks.Places.{word_may}
 
 module _ {S W : Type 0} (form : NormalForm S W) (setup : Setup) (moves : List Move) (are : AreMoves form setup moves) (kept : IsKept form setup moves) where
   abbrev world : World
@@ -35,16 +36,16 @@ module _ {S W : Type 0} (form : NormalForm S W) (setup : Setup) (moves : List Mo
   used_small block on = (let within = used_within block on in let few = setup.few_blocks in omega (arith, within, few))
 
   -- so a word of the client is in the memory, whose places are below 2^32
-  pub inside : (place : ℕ) → is_word world place ≡ true → place < length (run_of form setup moves).words
-  inside place is = (let below = word_inside world setup.cap used_within place is in let count = words_count form setup moves are in omega (arith, below, count))
+  pub inside : (place : ℕ) → is_word form.is_root world place ≡ true → place < length (run_of form setup moves).words
+  inside place is = (let below = word_inside form.is_root world setup.cap used_within place is in let count = words_count form setup moves are in omega (arith, below, count))
 
-  pub words_small : (place : ℕ) → is_word world place ≡ true → place < 2 ^ 32
-  words_small place is = (let below = word_inside world setup.cap used_within place is in let few = setup.few_blocks in omega (arith, below, few))
+  pub words_small : (place : ℕ) → is_word form.is_root world place ≡ true → place < 2 ^ 32
+  words_small place is = (let below = word_inside form.is_root world setup.cap used_within place is in let few = setup.few_blocks in omega (arith, below, few))
 
   -- and there are few won exchanges, so each version has room for one more
   pub has_room : Laws form → HasRoom form world
   has_room laws place is versioned =
       let few = journal_few form world setup.cap laws kept.holds.shape used_within in
-      let count = kept.versions place versioned (word_may world place is) in
+      let count = kept.versions place versioned (word_may form.is_root world place is) in
       let blocks = setup.few_blocks in
       omega (arith, few, count, blocks)

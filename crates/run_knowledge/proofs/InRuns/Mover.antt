@@ -2,7 +2,7 @@
 use Rattle.std.proofs.Common.{◌≡◌, ◌≢◌, sym, subst, ap, ℕ, ◌^◌, ◌<◌, ◌≤◌, true, List, slice_get, Option, Some, None, arith}
 use Rattle.std.proofs.lemmas.Option.{slice_get_within}
 use Rattle.lin_report.specs.declared.calls.Op.{Op}
-use Rattle.lin_report.specs.Commands.{IsCommandOf}
+use Rattle.lin_report.specs.Object.{IsCommandOf}
 use Rattle.normal_traits.specs.World.{World}
 use Rattle.normal_traits.specs.NormalForm.{NormalForm}
 use Rattle.fast_slow_engine.specs.declared.phases.Phase.{Phase}
@@ -59,7 +59,7 @@ rest_unspent form phase.Collect op rest = absurd cc
 rest_unspent form (phase.Value reference) op rest = absurd cc
 rest_unspent form (phase.End reply) op rest = absurd cc
 
-makes_command : {S W : Type 0} (form : NormalForm S W) (at : Phase S W) (mech : Mech S W) → IsCommandOf form.client mech.op → MakesCommand form at mech
+makes_command : {S W : Type 0} (form : NormalForm S W) (at : Phase S W) (mech : Mech S W) → IsCommandOf form.object mech.op → MakesCommand form at mech
 makes_command form phase.Idle mech is = tt
 makes_command form _ mech is = is
 

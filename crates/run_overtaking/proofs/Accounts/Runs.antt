@@ -254,7 +254,7 @@ module _ {S W : Type 0} where
         zero' : (t : ℕ) → a.records t ≡ 0
         zero' t =
             let word = slice_index (opening_run form setup).words (record_place t) in
-            elim (cases_lt t 8) [ inl few ↦ seat_word t word few ∙ opens_zero form.client setup.cap t few | inr past ↦ cond-false (nat_lt t 8) word 0 (le-ltb t 8 past) ]
+            elim (cases_lt t 8) [ inl few ↦ seat_word t word few ∙ opens_zero form.opening form.opens setup.cap t few | inr past ↦ cond-false (nat_lt t 8) word 0 (le-ltb t 8 past) ]
 
         closed : (t : ℕ) → IsClosed a t
         closed t = ap (λ w. is_open (record_phase w)) (zero' t) ∙ ap is_open zero_phase
@@ -263,7 +263,7 @@ module _ {S W : Type 0} where
         out t =
             elim (cases_Bool (holds a.queue t)) [
               | inr none ↦ none
-              | inl in' ↦ elim ((opens_sound form.client setup.cap setup.seats).published t in') [
+              | inl in' ↦ elim ((opens_sound form.opening form.opens setup.cap setup.seats).published t in') [
                 | inl opened ↦ absurd (not_both opened (closed t))
                 | inr done ↦ (let both = sym done ∙ ap record_phase (zero' t) ∙ zero_phase in absurd cc)
               ]

@@ -50,7 +50,7 @@ module _ {S W : Type 0} (form : NormalForm S W) where
       omega (arith, raise, bound)
 
   pub runs_most : (setup : Setup) (moves : List Move) → AreMoves form setup moves → ClientLeavesQueue form setup moves → blocks_named form setup moves < 2 ^ 17 → KeepsQueue form setup moves × AtMost (blocks_named form setup moves) (run_of form setup moves).words
-  runs_most setup [] are leaves small = (tt, λ t few. let none = ap rounds_in (opens_zero form.client setup.cap t few) ∙ zero_rounds in omega (arith, none))
+  runs_most setup [] are leaves small = (tt, λ t few. let none = ap rounds_in (opens_zero form.opening form.opens setup.cap t few) ∙ zero_rounds in omega (arith, none))
   runs_most setup (move ∷ older) are leaves small =
       let fewer : blocks_named form setup older < 2 ^ 17 = omega (arith, small) in
       let before = runs_most setup older are.0 leaves.0 fewer in (

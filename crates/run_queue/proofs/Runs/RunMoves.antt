@@ -76,7 +76,7 @@ module _ {S W : Type 0} where
         let few = can.1 in
         record {
           runs = refl;
-          is = record { seat = is.seat; setup' = is.setup'; most = omega (arith, few); runs = λ _. (omega arith, code_fits form.client op can.2.command); fits = tt };
+          is = record { seat = is.seat; setup' = is.setup'; most = omega (arith, few); runs = λ _. (omega arith, code_fits form.object form.tellable op can.2.command); fits = tt };
           knows = subst (λ phase. KnowsQueue a setup.seats i (record mech { phase = phase })) (resting mech.phase can.0) knows;
         }
 
@@ -163,14 +163,14 @@ module _ {S W : Type 0} where
 
     opening_queued : (setup : Setup) → IsQueued setup (opening_run form setup) no_ghosts
     opening_queued setup = record {
-      long = opens_long form.client setup.cap;
+      long = opens_long form.opening form.opens setup.cap;
       count = (let make : ℕ → Mech S W = λ seat. mech_new seat setup in length-map-range_with_len make 0 setup.seats);
-      sound = opens_sound form.client setup.cap setup.seats;
+      sound = opens_sound form.opening form.opens setup.cap setup.seats;
       seats = λ i mech found. subst (IsSeatOf setup i) (new_mech setup i mech found).0 (record { seat = refl; setup' = refl; most = omega arith; runs = λ h. absurd cc; fits = tt });
       knows = λ i mech found.
           let inside = (new_mech setup i mech found).1 in
           let few = setup.few_seats in
-          subst (KnowsQueue (scene_of (opening_run form setup).words no_ghosts) setup.seats i) (new_mech setup i mech found).0 (opens_free form.client setup.cap i (omega (arith, inside, few)));
+          subst (KnowsQueue (scene_of (opening_run form setup).words no_ghosts) setup.seats i) (new_mech setup i mech found).0 (opens_free form.opening form.opens setup.cap i (omega (arith, inside, few)));
     }
 
     moved : (setup : Setup) (move : Move) (state : RunState S W) (ghosts : Ghosts) (o : Option (Mech S W)) → slice_get state.mechs move.seat ≡ o → IsMove form state move → MoveLeavesQueue form state move → HasRounds state.words → IsQueued setup state ghosts

@@ -5,8 +5,7 @@ use Rattle.lin_report.specs.declared.calls.Op.{Op}
 use Rattle.lin_report.specs.declared.calls.Outcome.{Outcome}
 use Rattle.lin_report.specs.declared.calls.Outcome.TheVariants.{Plain}
 use Rattle.lin_report.specs.declared.calls.Reply.TheVariants.{Exhausted}
-use Rattle.lin_report.specs.Commands.{IsCommandOf}
-use Rattle.lin_report.specs.Object.{object_of}
+use Rattle.lin_report.specs.Object.{IsCommandOf}
 use Rattle.step_memory.specs.declared.steps.Seen.{Seen}
 use Rattle.step_memory.specs.Step.{seen_of}
 use Rattle.step_memory.proofs.Words.{add_tells, load_tells}
@@ -106,7 +105,7 @@ module _ {S W : Type 0} where
     readied_goes : (s : S) (one : Mech S W) → ends (readied form s one).phase ≡ false
     readied_goes s one = either_goes _ (in_phase (phase.Generate s LookForBlock) one) (offered form s one) refl refl
 
-module _ {S W : Type 0} (form : NormalForm S W) {setup : Setup} {older : List Move} {move : Move} (m : Moved form setup older move) (replied : AreReplied (object_of form.client) (after form m).changes) (each : EachLeft form setup older) where
+module _ {S W : Type 0} (form : NormalForm S W) {setup : Setup} {older : List Move} {move : Move} (m : Moved form setup older move) (replied : AreReplied form.object (after form m).changes) (each : EachLeft form setup older) where
   abbrev Left : Type 0
   Left = NoneLeft setup.cap (slice_index (run_of form setup older).words 2) (mover form m).op
 
@@ -115,14 +114,14 @@ module _ {S W : Type 0} (form : NormalForm S W) {setup : Setup} {older : List Mo
   found_end found.Going s since well is = absurd cc
   found_end found.Ready s since well is = goes_not _ (readied_goes form s (mover form m)) is
   found_end (found.Answer outcome) s since well is =
-      absurd (right_not form.client (after form m) (mover form m).op since Exhausted (subst (RightSince (object_of form.client) (after form m) (mover form m).op since) (told_end outcome (mover form m) is) well.0) refl)
+      absurd (right_not form.object form.tellable (after form m) (mover form m).op since Exhausted (subst (RightSince form.object (after form m) (mover form m).op since) (told_end outcome (mover form m) is) well.0) refl)
   found_end found.Contended s since well is = goes_not _ (failed_goes form (mover form m)) is
 
   -- what has come of a wrap-up
   wrapped_end : (what : Wrapped) (list : Listed) (stop : ℕ) (w : W) (one : Mech S W) → WrappedWell form (after form m) list stop w what → (wrapped_up form what w one).phase ≡ phase.End Exhausted → Left
   wrapped_end wrapped.Going list stop w one well is = absurd cc
   wrapped_end (wrapped.Done outcome) list stop w one well is =
-      absurd (changed_not form.client (after form m) list Exhausted replied (subst (ChangedBy (after form m) list) (told_end outcome one is) well.0) refl)
+      absurd (changed_not form.object form.tellable (after form m) list Exhausted replied (subst (ChangedBy (after form m) list) (told_end outcome one is) well.0) refl)
   wrapped_end wrapped.Restart list stop w one well is = goes_not _ (failed_goes form one) is
 
   move_leaves : Leaves form (world form m) (after form m) (offers form m) (ghost_of form setup (move ∷ older)).offers None
@@ -148,7 +147,7 @@ module _ {S W : Type 0} (form : NormalForm S W) {setup : Setup} {older : List Mo
       (wrap_goes form m.laws (world form m) (after form m) (offers form m) (ghost_of form setup (move ∷ older)).offers (callers_in (run_of form setup older) (ghost_of form setup older)) (seen form m) move_leaves m.kept.holds.shape m.later.holds.shape w held knows requested) is
 
   -- a search that finds no block
-  full_end : (s : S) (since : ℕ) → IsCommandOf form.client (mover form m).op → form.is_ready s → form.knows s (mover form m).op (world form m) since
+  full_end : (s : S) (since : ℕ) → IsCommandOf form.object (mover form m).op → form.is_ready s → form.knows s (mover form m).op (world form m) since
       → nat_lt (seen form m).before (mover form m).setup.cap ≡ false → (seen form m).before ≡ slice_index (run_of form setup older).words 2 → Left
   full_end s since command ready knows off saw =
       let past = no_less (seen form m).before (mover form m).setup.cap off in

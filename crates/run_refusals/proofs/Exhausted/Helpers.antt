@@ -4,7 +4,6 @@ use Rattle.std.proofs.lemmas.Bool.{cases_eq, cases_lt, lt-ltb}
 use Rattle.lin_report.specs.declared.calls.Op.{Op}
 use Rattle.lin_report.specs.declared.calls.Outcome.TheVariants.{Plain}
 use Rattle.lin_report.specs.declared.calls.Reply.TheVariants.{Exhausted}
-use Rattle.lin_report.specs.Object.{object_of}
 use Rattle.lin_report.specs.Commands.{may_exhaust}
 use Rattle.step_memory.specs.Step.{seen_of}
 use Rattle.step_memory.proofs.Words.{add_tells, load_tells}
@@ -93,7 +92,7 @@ module _ {S W : Type 0} (form : NormalForm S W) {setup : Setup} {older : List Mo
 
   -- ---- a helper's own step
 
-  module _ (replied : AreReplied (object_of form.client) (after form m).changes) (drives : Bool) (head seats word : ℕ) where
+  module _ (replied : AreReplied form.object (after form m).changes) (drives : Bool) (head seats word : ℕ) where
     abbrev caller : Caller
     caller = callers_in (run_of form setup older) (ghost_of form setup older) head
 
@@ -121,7 +120,7 @@ module _ {S W : Type 0} (form : NormalForm S W) {setup : Setup} {older : List Mo
     found_left found.Going op s since hand well = tt
     found_left found.Ready op s since hand well = either_left (holds_none hand) (work.Generate op s LookForBlock) (filling form op s head word hand) tt (λ off. tt)
     found_left (found.Answer outcome) op s since hand well = λ tells.
-        absurd (right_not form.client (after form m) op since Exhausted (subst (RightSince (object_of form.client) (after form m) op since) (told_tells word outcome tells) well.0) refl)
+        absurd (right_not form.object form.tellable (after form m) op since Exhausted (subst (RightSince form.object (after form m) op since) (told_tells word outcome tells) well.0) refl)
     found_left found.Contended op s since hand well = tt
 
     -- a search that finds no block

@@ -4,7 +4,6 @@ use Rattle.std.proofs.lemmas.Option.{slice_get_within}
 use Rattle.arrayvec.specs.ArrayVec.{ArrayVec}
 use Rattle.lin_report.specs.declared.calls.Op.{Op}
 use Rattle.lin_report.specs.declared.calls.Reply.TheVariants.{Exhausted}
-use Rattle.lin_report.specs.Object.{object_of}
 use Rattle.word_fields.specs.Records.{record_number, record_phase}
 use Rattle.op_record.specs.Outcomes.{is_completed}
 use Rattle.help_queue.specs.Gathers.{is_open}
@@ -63,7 +62,7 @@ use Rattle.run_refusals.proofs.Records.Goes.{Goes, advanced, announced, record_g
 zero_untold : is_completed (record_phase 0) ≡ false
 zero_untold = ap is_completed zero_phase
 
-module _ {S W : Type 0} (form : NormalForm S W) {setup : Setup} {older : List Move} {move : Move} (m : Moved form setup older move) (replied : AreReplied (object_of form.client) (after form m).changes) (each : EachLeft form setup older) where
+module _ {S W : Type 0} (form : NormalForm S W) {setup : Setup} {older : List Move} {move : Move} (m : Moved form setup older move) (replied : AreReplied form.object (after form m).changes) (each : EachLeft form setup older) where
   -- ---- a helper's own step
 
   abbrev Later : Phase S W → Type 0
@@ -221,7 +220,7 @@ module _ {S W : Type 0} (form : NormalForm S W) (laws : Laws form) (kept : RunsA
       let few = setup.few_seats in
       record {
         ends = λ e. absurd (let both = sym (ap (λ (x : Mech S W). x.phase) is) ∙ e in cc);
-        told = λ number tells. untold 0 zero_untold (subst TellsNone (opens_zero form.client setup.cap seat (omega (arith, inside, count, few))) tells);
+        told = λ number tells. untold 0 zero_untold (subst TellsNone (opens_zero form.opening form.opens setup.cap seat (omega (arith, inside, count, few))) tells);
         helps = subst (λ (p : Phase S W). LeftHelping setup (run_of form setup []) p) (sym (ap (λ (x : Mech S W). x.phase) is)) tt;
       }
 

@@ -5,7 +5,6 @@ use Rattle.lin_report.specs.declared.calls.Outcome.{Outcome}
 use Rattle.lin_report.specs.declared.calls.Outcome.TheVariants.{Plain, ValueOf}
 use Rattle.lin_report.specs.declared.calls.Reply.{Reply}
 use Rattle.lin_report.specs.declared.calls.Reply.TheVariants.{Yes, No, Done, Value, Empty, Absent, Exhausted}
-use Rattle.lin_report.specs.Object.{object_of}
 use Rattle.word_fields.specs.declared.records.Phase as marks
 use Rattle.word_fields.specs.declared.records.Phase.TheVariants as record_phases
 use Rattle.word_fields.specs.declared.records.RecordWord.{RecordWord}
@@ -96,7 +95,7 @@ module _ {S W : Type 0} where
   told_end (ValueOf reference) mech is = absurd cc
 
   -- whoever is to exchange a record that it didn't load in Generate doesn't tell so
-  pub advance_not : (form : NormalForm S W) (world : World) (offers : ℕ → Option (Offer S)) (caller : Caller) (head word : ℕ) (hand : Option ℕ) (filled : Option (Offer S)) (to : ℕ) → AreReplied (object_of form.client) world.changes
+  pub advance_not : (form : NormalForm S W) (world : World) (offers : ℕ → Option (Offer S)) (caller : Caller) (head word : ℕ) (hand : Option ℕ) (filled : Option (Offer S)) (to : ℕ) → AreReplied form.object world.changes
       → MayAdvance form world offers caller head word hand filled to → record_phase word ≢ record_phases.Generate → TellsNone to → ⊥
   advance_not form world offers caller head word hand filled to replied (offers_it block stores generates has is knows) other tells = other generates
   advance_not form world offers caller head word hand filled to replied (answers since op outcome generates is fits knows) other tells = other generates
@@ -104,5 +103,5 @@ module _ {S W : Type 0} where
   advance_not form world offers caller head word hand filled to replied (settles stop offer executing of is stops) other tells = untold_word record_phases.Wrapping _ _ _ refl (subst TellsNone is tells)
   advance_not form world offers caller head word hand filled to replied (completes outcome offer wrapping of is fits by fixed) other tells =
       let exhausted = completed_tells (record_of word) outcome fits (subst TellsNone is tells) in
-      changed_not form.client world offer.list Exhausted replied (subst (ChangedBy world offer.list) exhausted by) refl
+      changed_not form.object form.tellable world offer.list Exhausted replied (subst (ChangedBy world offer.list) exhausted by) refl
   advance_not form world offers caller head word hand filled to replied (restarts offer wrapping of is dead) other tells = untold_word record_phases.Generate _ _ _ refl (subst TellsNone is tells)

@@ -1,7 +1,7 @@
 -- How many changes there were at the begin tick of each call that runs, and that its changes came after.
 use Rattle.std.proofs.Common.{◌≡◌, ◌∙◌, refl, sym, subst, ap, ℕ, ◌≤◌, ◌⊎◌, inl, inr, false, List, [], ◌∷◌, length, slice_get, Option, Some, None, arith, rules}
 use Rattle.lin_report.specs.declared.calls.Op.{Op}
-use Rattle.lin_report.specs.Object.{Object, object_of}
+use Rattle.lin_report.specs.Object.{Object}
 use Rattle.step_memory.specs.declared.steps.Seen.{Seen}
 use Rattle.step_memory.specs.Step.{seen_of}
 use Rattle.step_memory.proofs.Words.{add_tells}
@@ -57,9 +57,9 @@ module _ {S W : Type 0} (form : NormalForm S W) where
     new_stands : Adds form setup older move → (change : Change) (past : List Change) → StandsOver (after form m).changes change past → (past ≡ (world form m).changes) ⊎ StandsOver (world form m).changes change past
     new_stands (none journal changes) change past stands = inr (subst (λ l. StandsOver l change past) changes stands)
     new_stands (aside entry cause list journal changes served) change past stands =
-        with_stands (object_of form.client) list (world form m).changes change past (subst (λ l. StandsOver l change past) changes stands)
+        with_stands form.object list (world form m).changes change past (subst (λ l. StandsOver l change past) changes stands)
     new_stands (serves list j entry cause keeper at behind journal changes has served) change past stands =
-        with_stands (object_of form.client) (listed_if (form.adds list j) list) (world form m).changes change past (subst (λ l. StandsOver l change past) changes stands)
+        with_stands form.object (listed_if (form.adds list j) list) (world form m).changes change past (subst (λ l. StandsOver l change past) changes stands)
 
     after_more : (call : Called) (begun : ℕ) → begun ≤ length (world form m).changes → ((change : Change) (past : List Change) → StandsOver (world form m).changes change past → IsOf call change → begun ≤ length past)
         → (change : Change) (past : List Change) → StandsOver (after form m).changes change past → IsOf call change → begun ≤ length past

@@ -6,7 +6,6 @@ use Rattle.lin_report.specs.declared.calls.Op.{Op}
 use Rattle.lin_report.specs.declared.calls.Outcome.TheVariants.{Plain}
 use Rattle.lin_report.specs.declared.calls.Receipt.{Receipt}
 use Rattle.lin_report.specs.declared.calls.Reply.{Reply}
-use Rattle.lin_report.specs.Object.{object_of}
 use Rattle.step_memory.specs.declared.steps.Seen.{Seen}
 use Rattle.normal_traits.specs.World.{Called, Change, Listed, Among}
 use Rattle.normal_traits.specs.NormalForm.{NormalForm}
@@ -181,13 +180,13 @@ module _ {S W : Type 0} (form : NormalForm S W) where
         by_running change past list.call.seat served.mech served.seated served.running (ap (λ (l : Listed). l.call) is ∙ served.call)
         (λ reply mine ends. absurd (served.stays reply (subst (λ (x : Mech S W). x.phase ≡ End reply) mine ends)))
 
-    with_made : (list : Option Listed) → (world_of form setup (move ∷ older)).changes ≡ with_change (object_of form.client) list (world_of form setup older).changes → ((one : Listed) → list ≡ Some one → IsServed form setup older one)
+    with_made : (list : Option Listed) → (world_of form setup (move ∷ older)).changes ≡ with_change form.object list (world_of form setup older).changes → ((one : Listed) → list ≡ Some one → IsServed form setup older one)
         → ((change : Change) (past : List Change) → StandsOver (world_of form setup older).changes change past → IsMadeBy form setup older change past)
         → (change : Change) (past : List Change) → StandsOver (world_of form setup (move ∷ older)).changes change past → IsMadeBy form setup (move ∷ older) change past
     with_made None comes served old change past stands =
         let there = subst (λ l. StandsOver l change past) comes stands in old_made change past there (old change past there)
     with_made (Some list) comes served old change past stands =
-        elim (stands_in (change_of (object_of form.client) list (world_of form setup older).changes) (world_of form setup older).changes change past (subst (λ l. StandsOver l change past) comes stands)) [
+        elim (stands_in (change_of form.object list (world_of form setup older).changes) (world_of form setup older).changes change past (subst (λ l. StandsOver l change past) comes stands)) [
           | inl new' ↦ new_made change past list (served list refl) (ap (λ (c : Change). c.list) new'.0)
           | inr there ↦ old_made change past there (old change past there)
         ]
@@ -202,21 +201,21 @@ module _ {S W : Type 0} (form : NormalForm S W) where
     -- ---- no call made two
 
     -- a change of the call of a list that is served would be of that list, which makes its change only now
-    not_twice : (list : Listed) → IsServed form setup older list → (world_of form setup (move ∷ older)).changes ≡ change_of (object_of form.client) list (world_of form setup older).changes ∷ (world_of form setup older).changes
+    not_twice : (list : Listed) → IsServed form setup older list → (world_of form setup (move ∷ older)).changes ≡ change_of form.object list (world_of form setup older).changes ∷ (world_of form setup older).changes
         → (mate : Change) → Among mate (world_of form setup older).changes → list.call.seat ≡ mate.list.call.seat → ¬ (list.call.number ≡ mate.list.call.number)
     not_twice list served comes mate among same number =
-        let new' = change_of (object_of form.client) list (world_of form setup older).changes in
+        let new' = change_of form.object list (world_of form setup older).changes in
         let apart = first_differs new' (world_of form setup older).changes mate (subst (AllPairs DifferentLists) comes (m.laws.one_change_a_list (world_of form setup (move ∷ older)) m.later.holds.shape)) among in
         let own' : IsOf (called served.mech) mate = record { seat = sym same ∙ ap (λ (c : Called). c.seat) served.call; number = sym number ∙ ap (λ (c : Called). c.number) served.call } in
         let one_list : mate.list ≡ list = served.only mate among own' in
         apart (ap (λ (l : Listed). l.identity) (sym one_list))
 
-    with_once : (list : Option Listed) → (world_of form setup (move ∷ older)).changes ≡ with_change (object_of form.client) list (world_of form setup older).changes → ((one : Listed) → list ≡ Some one → IsServed form setup older one)
+    with_once : (list : Option Listed) → (world_of form setup (move ∷ older)).changes ≡ with_change form.object list (world_of form setup older).changes → ((one : Listed) → list ≡ Some one → IsServed form setup older one)
         → CallsAccounted form setup older → (change mate : Change) (past rest : List Change) → StandsOver (world_of form setup (move ∷ older)).changes change past → StandsOver past mate rest
         → change.list.call.seat ≡ mate.list.call.seat → ¬ (change.list.call.number ≡ mate.list.call.number)
     with_once None comes served old change mate past rest stands below same = old.once change mate past rest (subst (λ l. StandsOver l change past) comes stands) below same
     with_once (Some list) comes served old change mate past rest stands below same =
-        elim (stands_in (change_of (object_of form.client) list (world_of form setup older).changes) (world_of form setup older).changes change past (subst (λ l. StandsOver l change past) comes stands)) [
+        elim (stands_in (change_of form.object list (world_of form setup older).changes) (world_of form setup older).changes change past (subst (λ l. StandsOver l change past) comes stands)) [
           | inl new' ↦
               let is = ap (λ (c : Change). c.list.call) new'.0 in
               let among : Among mate (world_of form setup older).changes = stands_among (world_of form setup older).changes mate rest (subst (λ l. StandsOver l mate rest) new'.1 below) in

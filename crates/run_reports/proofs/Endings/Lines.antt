@@ -7,7 +7,6 @@ use Rattle.lin_report.specs.declared.calls.Outcome.TheVariants.{Plain}
 use Rattle.lin_report.specs.declared.calls.Receipt.{Receipt}
 use Rattle.lin_report.specs.declared.calls.Reply.{Reply}
 use Rattle.lin_report.specs.declared.calls.Reply.TheVariants.{Exhausted}
-use Rattle.lin_report.specs.Object.{object_of}
 use Rattle.step_memory.specs.declared.steps.Seen.{Seen}
 use Rattle.step_memory.specs.Step.{seen_of}
 use Rattle.step_memory.proofs.Words.{add_tells}
@@ -129,9 +128,9 @@ module _ {S W : Type 0} (form : NormalForm S W) {setup : Setup} {older : List Mo
     quiet_line : MadeNone (world form m) (called (mover form m)) → ChangedNone form setup (move ∷ older) (line_of reply)
     quiet_line none change among call = none change (subst (Among change) (drawn_changes form setup older move (mech form m) (seated form m) (ap draws_tick is)).0 among) (of_call (mover form m) change call)
 
-    seen_by_line : MadeNone (world form m) (called (mover form m)) → RightSince (object_of form.client) (world form m) (mover form m).op (own form m).begun (Plain reply) → HasSeen form setup (move ∷ older) (line_of reply)
+    seen_by_line : MadeNone (world form m) (called (mover form m)) → RightSince form.object (world form m) (mover form m).op (own form m).begun (Plain reply) → HasSeen form setup (move ∷ older) (line_of reply)
     seen_by_line none right =
-        let object = object_of form.client in
+        let object = form.object in
         let same = first_still form setup older move right.count (omega (arith, right.made)) in
         record {
           count = right.count;

@@ -1,7 +1,6 @@
 -- How the calls that returned ended stays as it was where more moves are made.
 use Rattle.std.proofs.Common.{◌≡◌, ◌∙◌, sym, subst, ap, ℕ, suc, ◌≤◌, List, [], ◌∷◌, ◌++◌, AllPairs, inl, inr, arith}
 use Rattle.lin_report.specs.declared.calls.Receipt.{Receipt}
-use Rattle.lin_report.specs.Object.{object_of}
 use Rattle.normal_traits.specs.World.{Change, Among, Observes, first_changes, held_after}
 use Rattle.normal_traits.specs.NormalForm.{NormalForm}
 use Rattle.fast_slow_engine.specs.declared.setup.Setup.{Setup}
@@ -66,7 +65,7 @@ module _ {S W : Type 0} (form : NormalForm S W) (setup : Setup) (older : List Mo
     seen_stays r drawn quiet seen =
         let begin = at_stays form setup older move r.begin are ticks (omega (arith, drawn.forward, drawn.below)) in
         let end = at_stays form setup older move r.end are ticks drawn.below in
-        let object = object_of form.client in
+        let object = form.object in
         let same = first_still seen.count (omega (arith, seen.ended, at_within form setup older r.end)) in
         record {
           count = seen.count;

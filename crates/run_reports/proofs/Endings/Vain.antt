@@ -2,7 +2,7 @@
 use Rattle.std.proofs.Common.{◌≡◌, ◌≢◌, ◌∙◌, refl, sym, subst, ap, ℕ, ◌<◌, ◌⊎◌, Bool, true, false, List, [], ◌∷◌, slice_get, Option, Some, None, All, Contains, inl, inr, arith}
 use Rattle.lin_report.specs.declared.calls.Receipt.{Receipt}
 use Rattle.lin_report.specs.declared.calls.Reply.{Reply}
-use Rattle.lin_report.specs.Object.{Object, object_of}
+use Rattle.lin_report.specs.Object.{Object}
 use Rattle.normal_traits.specs.AtOnce.{ChangesAtOnce}
 use Rattle.normal_traits.specs.World.{Called, Change, Listed, Took, Won, World, Among}
 use Rattle.normal_traits.specs.World.Maker.{By}
@@ -82,18 +82,18 @@ module _ {S W : Type 0} (form : NormalForm S W) where
           | inl new ↦ no_maker list j (sym (ap (λ (w : Won). w.maker) new) ∙ maker)
           | inr there ↦
               let had = old won list j there maker makes in
-              (had.0, subst (Among had.0) (sym changes) (among_with (object_of form.client) beside (world form m).changes had.0 had.1), had.2)
+              (had.0, subst (Among had.0) (sym changes) (among_with form.object beside (world form m).changes had.0 had.1), had.2)
         ]
     made_more (serves one k entry cause keeper at behind journal changes has served) old won list j among maker makes =
         elim (subst (Among won) journal among) [
           | inl new ↦
               let same = same_maker one list k j (sym (ap (λ (w : Won). w.maker) new) ∙ maker) in
               let on : form.adds one k ≡ true = ap (λ (l : Listed). form.adds l k) same.0 ∙ ap (form.adds list) same.1 ∙ makes in
-              let change = change_of (object_of form.client) one (world form m).changes in
-              (change, subst (Among change) (sym changes) (among_adds (object_of form.client) (form.adds one k) one (world form m).changes on), same.0)
+              let change = change_of form.object one (world form m).changes in
+              (change, subst (Among change) (sym changes) (among_adds form.object (form.adds one k) one (world form m).changes on), same.0)
           | inr there ↦
               let had = old won list j there maker makes in
-              (had.0, subst (Among had.0) (sym changes) (among_with (object_of form.client) (listed_if (form.adds one k) one) (world form m).changes had.0 had.1), had.2)
+              (had.0, subst (Among had.0) (sym changes) (among_with form.object (listed_if (form.adds one k) one) (world form m).changes had.0 had.1), had.2)
         ]
 
     grown : (list : Listed) → Took (world form m) list 0 → Took (after form m) list 0
@@ -140,9 +140,9 @@ module _ {S W : Type 0} (form : NormalForm S W) where
         omega (arith, fewer, number)
 
     module _ (r : Receipt) (known : Contains (run_of form setup older).receipts r) where
-      with_quiet : (list : Option Listed) → (after form m).changes ≡ with_change (object_of form.client) list (world form m).changes → ((one : Listed) → list ≡ Some one → IsServed form setup older one) → ChangedNone form setup older r → ChangedNone form setup (move ∷ older) r
+      with_quiet : (list : Option Listed) → (after form m).changes ≡ with_change form.object list (world form m).changes → ((one : Listed) → list ≡ Some one → IsServed form setup older one) → ChangedNone form setup older r → ChangedNone form setup (move ∷ older) r
       with_quiet list changes served quiet change among =
-          elim (came_of (object_of form.client) list (world form m).changes change (subst (Among change) changes among)) [
+          elim (came_of form.object list (world form m).changes change (subst (Among change) changes among)) [
             | inl old ↦ quiet change old
             | inr new ↦ subst (λ (l : Listed). l.call ≢ called_by r) (sym new.2) (no_line new.0 (served new.0 new.1) r known)
           ]

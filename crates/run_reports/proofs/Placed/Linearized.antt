@@ -4,11 +4,10 @@ use Rattle.std.proofs.lemmas.Bool.{cases_lt}
 use Rattle.std.proofs.lemmas.List.Elements.{All-get_or, All-nil}
 use Rattle.std.proofs.lemmas.List.{get_or_past}
 use Rattle.std.proofs.lemmas.Option.{get_or_from_slice_get, slice_get_within}
-use Rattle.lin_report.specs.declared.calls.Client.{Client}
 use Rattle.lin_report.specs.declared.calls.Op.{Op}
 use Rattle.lin_report.specs.declared.calls.Receipt.{Receipt}
 use Rattle.lin_report.specs.Calls.{Call, Report, answered_call}
-use Rattle.lin_report.specs.Commands.{IsCommandOf}
+use Rattle.lin_report.specs.Object.{IsCommandOf, Object}
 use Rattle.lin_report.specs.CommandFiles.{IsCommandFile}
 use Rattle.lin_report.specs.Report.{IsCommand, IsReport, file_of}
 use Rattle.lin_report.proofs.Merging.{call_at_answered, count_of_calls}
@@ -36,14 +35,14 @@ file_at P files seat none each = elim (cases_lt seat (length files)) [
 element_at : {X : Type 0} (P : X → Type 0) (xs : List X) (k : ℕ) (x : X) → All P xs → slice_get xs k ≡ Some x → P x
 element_at P xs k x each at = subst P (get_or_from_slice_get xs k x x at) (All-get_or P xs k x (slice_get_within xs k x at) each)
 
-module _ (client : Client) (setup : Setup) (files : List (List Op)) (fit : FilesFit client setup files) where
-  command_of : (c : Call) → IsCommand files c → IsCommandOf client c.op
+module _ (object : Object) (setup : Setup) (files : List (List Op)) (fit : FilesFit object setup files) where
+  command_of : (c : Call) → IsCommand files c → IsCommandOf object c.op
   command_of c is =
-      element_at (IsCommandOf client) (file_of files c.seat) (c.number - 1) c.op
-      (file_at (IsCommandFile client) files c.seat (record { few = omega arith; commands = All-nil (IsCommandOf client) }) fit.runnable).commands is.command
+      element_at (IsCommandOf object) (file_of files c.seat) (c.number - 1) c.op
+      (file_at (IsCommandFile object) files c.seat (record { few = omega arith; commands = All-nil (IsCommandOf object) }) fit.runnable).commands is.command
 
-  -- each answered call is of a command of the client
-  pub commands_of : (report : Report) → IsReport files report → All (λ (r : Receipt). IsCommandOf client r.op) report.receipts
+  -- each answered call is of a command of the object
+  pub commands_of : (report : Report) → IsReport files report → All (λ (r : Receipt). IsCommandOf object r.op) report.receipts
   commands_of report is k d within =
       let r = get_or report.receipts k d in
       command_of (answered_call r)
@@ -69,4 +68,4 @@ module _ {S W : Type 0} (form : NormalForm S W) (laws : Laws form) (kept : RunsA
   replies_all_fit setup files order fit =
       let moves = moves_over form setup files order in
       replies_fit form setup moves (every setup moves (files_run form setup files order fit).follow)
-      (commands_of form.client setup files fit (report_of_run (run_of form setup moves)) (files_report form laws kept setup files order fit))
+      (commands_of form.object setup files fit (report_of_run (run_of form setup moves)) (files_report form laws kept setup files order fit))

@@ -10,7 +10,7 @@ use Rattle.run_laws.proofs.PremiseLemmas.{client_keeps_ticks}
 use Rattle.run_laws.proofs.ReportLemmas.{runs_report}
 use Rattle.run_exchanges.specs.Kept.{RunsAreKept}
 use Rattle.run_exchanges.proofs.Tells.Replies.{changes_commands, replies_right}
-use Rattle.run_exchanges.proofs.Tells.Values.{held_in_range}
+use Rattle.run_exchanges.proofs.Tells.Values.{commands_reach}
 use Rattle.run_reports.specs.Files.{FilesReport}
 use Rattle.run_reports.proofs.Counts.Begun.{each_begun}
 use Rattle.run_reports.proofs.Counts.Ticks.{at_rises, at_within}
@@ -35,7 +35,7 @@ module _ {S W : Type 0} (form : NormalForm S W) (laws : Laws form) (kept : RunsA
       record {
         accounted = calls_accounted form laws kept setup moves are;
         replied = replies_right form laws kept setup moves are;
-        ranged = λ newer older is. held_in_range form.client older (λ change among. commands change (subst (Among change) (sym is) (among_older change newer older among)));
+        ranged = λ newer older is. commands_reach form.object older (λ change among. commands change (subst (Among change) (sym is) (among_older change newer older among)));
         rises = at_rises form setup moves;
         within = at_within form setup moves;
         begun = λ seat mech at running newer older change is call.

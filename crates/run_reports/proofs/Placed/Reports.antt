@@ -10,12 +10,11 @@ use Rattle.lin_report.specs.declared.calls.Receipt.{Receipt}
 use Rattle.lin_report.specs.declared.calls.Reply.TheVariants.{Exhausted}
 use Rattle.lin_report.specs.Calls.{Report, answered_call, calls_of}
 use Rattle.lin_report.specs.Calls as calls
-use Rattle.lin_report.specs.Commands.{IsCommandOf, IsReplyTo}
+use Rattle.lin_report.specs.Commands.{IsReplyTo}
+use Rattle.lin_report.specs.Object.{IsCommandOf, Object}
 use Rattle.lin_report.specs.Linearizable.{IsLinearizable}
-use Rattle.lin_report.specs.Object.{Object, object_of}
 use Rattle.lin_report.specs.Report.{IsReport}
-use Rattle.lin_report.proofs.Replies.{HoldsInRange, reply_fits}
-use Rattle.lin_report.proofs.Sequences.{object_answers}
+use Rattle.lin_report.proofs.Tellable.{IsReached, reached_fits}
 use Rattle.normal_traits.specs.World.{Called, Change, first_changes, held_after}
 use Rattle.normal_traits.specs.NormalForm.{NormalForm}
 use Rattle.fast_slow_engine.specs.declared.setup.Setup.{Setup}
@@ -79,8 +78,8 @@ module _ {S W : Type 0} (form : NormalForm S W) where
   pub record Placeable (setup : Setup) (moves : List Move) : Type 0 where
     pub accounted : CallsAccounted form setup moves
     pub replied : (newer older : List Change) (change : Change) → (ghost_of form setup moves).changes ≡ newer ++ change ∷ older
-        → change.reply ≡ ((object_of form.client).apply change.list.call.op (held_after (object_of form.client) older)).1
-    pub ranged : (newer older : List Change) → (ghost_of form setup moves).changes ≡ newer ++ older → HoldsInRange form.client (held_after (object_of form.client) older)
+        → change.reply ≡ (form.object.apply change.list.call.op (held_after form.object older)).1
+    pub ranged : (newer older : List Change) → (ghost_of form setup moves).changes ≡ newer ++ older → IsReached form.object (held_after form.object older)
     pub rises : (tick later : ℕ) → tick ≤ later → changes_at form setup moves tick ≤ changes_at form setup moves later
     pub within : (tick : ℕ) → changes_at form setup moves tick ≤ length (ghost_of form setup moves).changes
     pub begun : (seat : ℕ) (mech : Mech S W) → slice_get (run_of form setup moves).mechs seat ≡ Some mech → ticks_left mech.phase ≡ 1
@@ -95,7 +94,7 @@ module _ {S W : Type 0} (form : NormalForm S W) where
     history = history_of changes
 
     abbrev object : Object
-    object = object_of form.client
+    object = form.object
 
     abbrev report : Report
     report = report_of_run (run_of form setup moves)
@@ -168,31 +167,31 @@ module _ {S W : Type 0} (form : NormalForm S W) where
 
     -- over any files of which it is a report, it is linearizable
     pub linearizable : (files : List (List Op)) → IsReport files report → IsLinearizable object report
-    linearizable files is = placed_is_linearizable object (object_answers form.client) files report history (changes_at form setup moves) is is_placed
+    linearizable files is = placed_is_linearizable object form.tellable.answers files report history (changes_at form setup moves) is is_placed
 
     -- ---- the replies
 
     first_split : (count : ℕ) → changes ≡ take (length changes - count) changes ++ first_changes count changes
     first_split count = sym (take-append-drop (length changes - count) changes)
 
-    reply_of : (r : Receipt) → IsCommandOf form.client r.op → HasEnded form setup moves r → IsReplyTo r.op r.reply
+    reply_of : (r : Receipt) → IsCommandOf form.object r.op → HasEnded form setup moves r → IsReplyTo r.op r.reply
     reply_of r command (made change older m) =
         let is : change.reply ≡ _ = replies_there change older r.op m.stands (ap (λ (c : Called). c.op) m.call) in
         subst (IsReplyTo r.op) (sym is ∙ m.reply)
-        (reply_fits form.client r.op (held_after object older) command (can.ranged (m.stands.0 ++ change ∷ []) older (m.stands.1 ∙ sym (append_assoc m.stands.0 (change ∷ []) older))))
+        (reached_fits form.object form.tellable r.op (held_after object older) command (can.ranged (m.stands.0 ++ change ∷ []) older (m.stands.1 ∙ sym (append_assoc m.stands.0 (change ∷ []) older))))
     reply_of r command (saw seen) =
         subst (IsReplyTo r.op) (sym seen.told)
-        (reply_fits form.client r.op (held_after object (first_changes seen.count changes)) command (can.ranged (take (length changes - seen.count) changes) (first_changes seen.count changes) (first_split seen.count)))
+        (reached_fits form.object form.tellable r.op (held_after object (first_changes seen.count changes)) command (can.ranged (take (length changes - seen.count) changes) (first_changes seen.count changes) (first_split seen.count)))
     reply_of r command (refused none) = subst (IsReplyTo r.op) (sym none.exhausted) (record { named = none.may; value = omega arith })
 
     -- each command is given a reply of the table
-    pub replies_fit : All (λ r. IsCommandOf form.client r.op) report.receipts → All (λ r. IsReplyTo r.op r.reply) report.receipts
+    pub replies_fit : All (λ r. IsCommandOf form.object r.op) report.receipts → All (λ r. IsReplyTo r.op r.reply) report.receipts
     replies_fit commands k d inside = reply_of (get_or report.receipts k d) (commands k d inside) (can.accounted.ended k d inside)
 
     none_left : (r : Receipt) → HasEnded form setup moves r → r.reply ≡ Exhausted → WasRefused form setup moves r
     none_left r (made change older m) exhausted =
-        absurd (object_answers form.client r.op (held_after object older) (sym (replies_there change older r.op m.stands (ap (λ (c : Called). c.op) m.call)) ∙ m.reply ∙ exhausted))
-    none_left r (saw seen) exhausted = absurd (object_answers form.client r.op (held_after object (first_changes seen.count changes)) (sym seen.told ∙ exhausted))
+        absurd (form.tellable.answers r.op (held_after object older) (sym (replies_there change older r.op m.stands (ap (λ (c : Called). c.op) m.call)) ∙ m.reply ∙ exhausted))
+    none_left r (saw seen) exhausted = absurd (form.tellable.answers r.op (held_after object (first_changes seen.count changes)) (sym seen.told ∙ exhausted))
     none_left r (refused none) exhausted = none
 
     -- only where no block was left is a call told so, and it changed nothing

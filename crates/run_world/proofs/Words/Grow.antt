@@ -8,7 +8,7 @@ use Rattle.normal_traits.specs.declared.lists.Entry.{Entry}
 use Rattle.normal_traits.specs.World.{Listed, Maker, World}
 use Rattle.normal_traits.specs.World.Maker.{By, Beside}
 use Rattle.normal_traits.specs.NormalForm.{NormalForm}
-use Rattle.normal_traits.specs.Steps.{object, change_of, exchanged, listed_if, using_block}
+use Rattle.normal_traits.specs.Steps.{change_of, exchanged, listed_if, using_block}
 use Rattle.cas_executor.specs.FastRuns.{FastWalk}
 use Rattle.cas_executor.specs.SlowRuns.{SlowWalk, installs}
 use Rattle.fast_slow_engine.specs.declared.phases.Phase.{Phase}
@@ -58,7 +58,7 @@ used_more false block used at is = is
 module _ {S W : Type 0} (form : NormalForm S W) where
   exchanged_grows : (maker : Maker) (list : Option Listed) (entry : Entry) (word : ℕ) (world : World) → Grows world (exchanged form maker list entry word world)
   exchanged_grows maker None entry word world = record { changes = ([], refl); journal = (_ ∷ [], refl); used = λ block is. is }
-  exchanged_grows maker (Some list) entry word world = record { changes = (change_of (object form) list world.changes ∷ [], refl); journal = (_ ∷ [], refl); used = λ block is. is }
+  exchanged_grows maker (Some list) entry word world = record { changes = (change_of form.object list world.changes ∷ [], refl); journal = (_ ∷ [], refl); used = λ block is. is }
 
   won_grows : (request : Request) (world : World) → Grows world (won_beside form request world)
   won_grows (Exchange at from to) world = exchanged_grows Beside _ _ to world

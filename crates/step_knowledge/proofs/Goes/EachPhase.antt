@@ -3,7 +3,7 @@ use Rattle.std.proofs.Common.{◌≡◌, refl, sym, subst, ap, ℕ, ◌+◌, ◌
 use Rattle.std.proofs.lemmas.Bool.Decides.{nat_tests}
 use Rattle.std.proofs.lemmas.Option.{slice_get-get_or}
 use Rattle.arrayvec.specs.ArrayVec.{ArrayVec}
-use Rattle.lin_report.specs.Commands.{IsCommandOf}
+use Rattle.lin_report.specs.Object.{IsCommandOf}
 use Rattle.step_memory.specs.declared.steps.Request.{Request}
 use Rattle.step_memory.specs.declared.steps.Request.TheVariants.{Load, Store, Exchange, Add}
 use Rattle.step_memory.specs.declared.steps.Seen.{Seen}
@@ -89,7 +89,7 @@ module _ {S W : Type 0} (form : NormalForm S W) (laws : Laws form) (world after 
   shape : form.shape after
   shape = leaves.holds.shape
 
-  knows_kept : (s : S) (since : ℕ) → form.shape world → IsCommandOf form.client mech.op → form.knows s mech.op world since → form.knows s mech.op after since
+  knows_kept : (s : S) (since : ℕ) → form.shape world → IsCommandOf form.object mech.op → form.knows s mech.op world since → form.knows s mech.op after since
   knows_kept s since old command knows = laws.knows_kept world after s mech.op since command old knows step
 
   still_offered : (held : Held S) → form.shape world → IsStillOffered form world held → IsStillOffered form after held
@@ -112,7 +112,7 @@ module _ {S W : Type 0} (form : NormalForm S W) (laws : Laws form) (world after 
       let at = slice_get-get_or stores.items made (0, 0) knows.within in
       fill_knows form laws world after offers' callers own.begun None old run stores made (length after.changes) held mech store first needs hand offering knows (still_offered held old knows.offered) at (is store at)
 
-  run_own : (run : FastWalk) (stores : ArrayVec (ℕ × ℕ)) (held : Option (Held S)) → form.shape world → IsCommandOf form.client mech.op → OfSome (IsOffering form run stores mech) held → OfSome (KnowsRun form world run) held
+  run_own : (run : FastWalk) (stores : ArrayVec (ℕ × ℕ)) (held : Option (Held S)) → form.shape world → IsCommandOf form.object mech.op → OfSome (IsOffering form run stores mech) held → OfSome (KnowsRun form world run) held
       → Enters form world after offers offers' run held seen
       → KnowsNow (length after.changes) (stopped_in (fast_execution run seen) held) (executed form (fast_execution run seen) (fast_fed run seen) stores mech)
   run_own run stores None old command offering knows is = absurd knows
@@ -120,7 +120,7 @@ module _ {S W : Type 0} (form : NormalForm S W) (laws : Laws form) (world after 
       run_knows form laws world after offers offers' callers own.begun None run stores seen mech held old shape leaves.leaves.grows command knows (still_offered held old knows.offered)
       (ap (λ c. c.op) offering.held_by.call) offering.entries is
 
-  wrap_own : (w : W) (held : Option (Held S)) → form.shape world → IsCommandOf form.client mech.op → OfSome (KnowsWrap form world w) held → Stepped (phase.Wrap w)
+  wrap_own : (w : W) (held : Option (Held S)) → form.shape world → IsCommandOf form.object mech.op → OfSome (KnowsWrap form world w) held → Stepped (phase.Wrap w)
       → KnowsNow (length after.changes) held (wrapped_up form (form.wrap_found_of w seen) (form.feed_wrap_of w seen) mech)
   wrap_own w None old command knows is = absurd knows
   wrap_own w (Some held) old command knows is =
@@ -141,20 +141,20 @@ module _ {S W : Type 0} (form : NormalForm S W) (laws : Laws form) (world after 
 
   -- ---- looks, announcements and the queue
 
-  helped_own : (drives : Bool) (list : Option (Held S)) → IsCommandOf form.client mech.op → KnowsNow (length after.changes) list (helped form drives mech)
+  helped_own : (drives : Bool) (list : Option (Held S)) → IsCommandOf form.object mech.op → KnowsNow (length after.changes) list (helped form drives mech)
   helped_own true list command = tt
   helped_own false list command = tried_knows form after offers' callers own.begun None laws shape list mech command
 
-  seat_knows : (b drives : Bool) (head : ℕ) (list : Option (Held S)) → IsCommandOf form.client mech.op
+  seat_knows : (b drives : Bool) (head : ℕ) (list : Option (Held S)) → IsCommandOf form.object mech.op
       → KnowsNow (length after.changes) list (if b then in_phase (phase.Help drives (record { head = head; seats = mech.setup.seats; at = Record None })) mech else helped form drives mech)
   seat_knows true drives head list command = tt
   seat_knows false drives head list command = helped_own drives list command
 
-  head_knows : (head : Option ℕ) (drives : Bool) (list : Option (Held S)) → IsCommandOf form.client mech.op → KnowsNow (length after.changes) list (head_helped form head drives mech)
+  head_knows : (head : Option ℕ) (drives : Bool) (list : Option (Held S)) → IsCommandOf form.object mech.op → KnowsNow (length after.changes) list (head_helped form head drives mech)
   head_knows None drives list command = helped_own drives list command
   head_knows (Some head) drives list command = seat_knows (nat_lt head mech.setup.seats) drives head list command
 
-  driven_knows : (b : Bool) (head : Option ℕ) (list : Option (Held S)) → IsCommandOf form.client mech.op → KnowsNow (length after.changes) list (if b then head_helped form head true mech else in_phase phase.Collect mech)
+  driven_knows : (b : Bool) (head : Option ℕ) (list : Option (Held S)) → IsCommandOf form.object mech.op → KnowsNow (length after.changes) list (if b then head_helped form head true mech else in_phase phase.Collect mech)
   driven_knows true head list command = head_knows head true list command
   driven_knows false head list command = tt
 

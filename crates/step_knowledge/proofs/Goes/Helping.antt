@@ -1,6 +1,6 @@
 -- What a helper knows after its step: of its work, where it loads the record, and where helping ends.
 use Rattle.std.proofs.Common.{◌≡◌, ◌∙◌, refl, sym, subst, ap, ℕ, ◌≤◌, if◌then◌else◌, Bool, true, false, length, Option}
-use Rattle.lin_report.specs.Commands.{IsCommandOf}
+use Rattle.lin_report.specs.Object.{IsCommandOf}
 use Rattle.step_memory.specs.declared.steps.Seen.{Seen}
 use Rattle.word_fields.specs.Records.{record_phase}
 use Rattle.node_arena.specs.MemoryMap.{record_place}
@@ -122,12 +122,12 @@ module _ {S W : Type 0} (form : NormalForm S W) where
 
     -- ---- the machine
 
-    helped_knows : (drives : Bool) (mech' : Mech S W) (begun : ℕ) (held : Option (Held S)) (filled : Option (Offer S)) → IsCommandOf form.client mech'.op
+    helped_knows : (drives : Bool) (mech' : Mech S W) (begun : ℕ) (held : Option (Held S)) (filled : Option (Offer S)) → IsCommandOf form.object mech'.op
         → (let new = helped form drives mech' in KnowsIn form new.phase new (seat_with begun (held_in new.phase held) (length after.changes) filled) after offers' callers)
     helped_knows true mech' begun held filled command = tt
     helped_knows false mech' begun held filled command = tried_knows form after offers' callers begun filled laws holds'.shape held mech' command
 
-    stepped_knows : (ends : Bool) (drives : Bool) (help : helper.Help S W) (mech' : Mech S W) (begun since : ℕ) (held : Option (Held S)) → IsCommandOf form.client mech'.op
+    stepped_knows : (ends : Bool) (drives : Bool) (help : helper.Help S W) (mech' : Mech S W) (begun since : ℕ) (held : Option (Held S)) → IsCommandOf form.object mech'.op
         → (ends ≡ true → since ≡ length after.changes) → (ends ≡ false → KnowsHelp form after offers' (callers help.head) help.head mech'.hand (record { since = since; filled = own'.filled }) help.at)
         → (let new = if ends then helped form drives mech' else in_phase (Help drives help) mech' in KnowsIn form new.phase new (seat_with begun (held_in new.phase held) since own'.filled) after offers' callers)
     stepped_knows true drives help mech' begun since held command over goes =
@@ -135,7 +135,7 @@ module _ {S W : Type 0} (form : NormalForm S W) where
         subst (λ s. KnowsIn form new.phase new (seat_with begun (held_in new.phase held) s own'.filled) after offers' callers) (sym (over refl)) (helped_knows drives mech' begun held own'.filled command)
     stepped_knows false drives help mech' begun since held command over goes = goes refl
 
-    pub help_knows : (drives : Bool) (seats : ℕ) (at : Helping S W) (begun : ℕ) (held : Option (Held S)) → IsCommandOf form.client mech.op → own'.since ≡ (if helps_on at then own.since else length after.changes)
+    pub help_knows : (drives : Bool) (seats : ℕ) (at : Helping S W) (begun : ℕ) (held : Option (Held S)) → IsCommandOf form.object mech.op → own'.since ≡ (if helps_on at then own.since else length after.changes)
         → RestsHelp form world offers callers at head mech.hand own.filled → KnowsHelp form world offers (callers head) head mech.hand own at → HelpSteps form world after offers offers' at head mech own own' identity seen
         → (let new = help_stepped form drives (record { head = head; seats = seats; at = at }) seen mech in KnowsIn form new.phase new (seat_with begun (held_in new.phase held) own'.since own'.filled) after offers' callers)
     help_knows drives seats at begun held command since rests knows is =

@@ -5,7 +5,6 @@ use Rattle.std.proofs.lemmas.Bool.{and_parts}
 use Rattle.std.proofs.lemmas.Bool.Decides.{nat_tests}
 use Rattle.arrayvec.specs.ArrayVec.{ArrayVec}
 use Rattle.lin_report.specs.declared.calls.Op.{Op}
-use Rattle.lin_report.specs.Commands.{is_command}
 use Rattle.step_memory.specs.declared.steps.Seen.{Seen}
 use Rattle.word_fields.specs.declared.records.Phase as marks
 use Rattle.word_fields.specs.declared.records.Phase.TheVariants as record_phases
@@ -66,7 +65,7 @@ read_on reading.To walk word small left short order going =
 module _ {S W : Type 0} (form : NormalForm S W) where
   -- what a work needs that its helper doesn't know of the world
   abbrev pub CanStill : Work S W → Type 0
-  CanStill (work.Generate op s at) = IsTrue (is_command form.client op)
+  CanStill (work.Generate op s at) = IsTrue (form.object.serves op)
   CanStill (work.Fill stores made) = made < length stores.items
   CanStill (work.Read read) = IsReading read
   CanStill _ = Unit {0}
@@ -116,17 +115,17 @@ module _ {S W : Type 0} (form : NormalForm S W) where
     fill_some : (op : Op) (s : S) (block : Option ℕ) → CanStill (filling form op s head word block)
     fill_some op s block = omega arith
 
-    readied : (b : Bool) (op : Op) (s : S) → IsTrue (is_command form.client op) → CanStill (if b then work.Generate op s LookForBlock else filling form op s head word hand)
+    readied : (b : Bool) (op : Op) (s : S) → IsTrue (form.object.serves op) → CanStill (if b then work.Generate op s LookForBlock else filling form op s head word hand)
     readied true op s can = can
     readied false op s can = fill_some op s hand
 
-    found_still : (what : Found) (op : Op) (s : S) → IsTrue (is_command form.client op) → CanStill (found_work form what op s head word hand)
+    found_still : (what : Found) (op : Op) (s : S) → IsTrue (form.object.serves op) → CanStill (found_work form what op s head word hand)
     found_still found.Going op s can = can
     found_still found.Ready op s can = readied (holds_none hand) op s can
     found_still (found.Answer outcome) op s can = tt
     found_still found.Contended op s can = can
 
-    looked_still : (b : Bool) (op : Op) (s : S) (to : ℕ) → IsTrue (is_command form.client op) → CanStill (if b then work.Generate op s Claim else work.Advance to)
+    looked_still : (b : Bool) (op : Op) (s : S) (to : ℕ) → IsTrue (form.object.serves op) → CanStill (if b then work.Generate op s Claim else work.Advance to)
     looked_still true op s to can = can
     looked_still false op s to can = tt
 
@@ -161,7 +160,7 @@ module _ {S W : Type 0} (form : NormalForm S W) where
     still_can world offers holds caller own work.Head can going knows = first_still world offers holds caller head word hand own (record_phase word) knows
     still_can world offers holds caller own work.Op can going knows = tt
     still_can world offers holds caller own (work.Value op) can going knows =
-        (and_parts (value_number seen.before == record_number word) (is_command form.client (announced_op op seen.before)) (goes_if form _ going)).1
+        (and_parts (value_number seen.before == record_number word) (form.object.serves (announced_op op seen.before)) (goes_if form _ going)).1
     still_can world offers holds caller own (work.Generate op s Search) can going knows = found_still (form.found_of s seen) op (form.feed_of s seen) can.0
     still_can world offers holds caller own (work.Generate op s LookForBlock) can going knows = looked_still (nat_lt seen.before cap) op s _ can.0
     still_can world offers holds caller own (work.Generate op s Claim) can going knows = claimed_still (nat_lt seen.before cap) op s _

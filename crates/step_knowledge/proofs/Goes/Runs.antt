@@ -4,7 +4,7 @@ use Rattle.std.proofs.lemmas.Bool.{cases_eq}
 use Rattle.std.proofs.lemmas.Bool.Decides.{nat_tests}
 use Rattle.std.proofs.lemmas.Option.{slice_get_cases}
 use Rattle.arrayvec.specs.ArrayVec.{ArrayVec}
-use Rattle.lin_report.specs.Commands.{IsCommandOf}
+use Rattle.lin_report.specs.Object.{IsCommandOf}
 use Rattle.step_memory.specs.declared.steps.Seen.{Seen}
 use Rattle.normal_traits.specs.declared.lists.Entry.{Entry}
 use Rattle.normal_traits.specs.World.{Among, IsPassed, Listed, Stopped, Took, Won, World}
@@ -183,7 +183,7 @@ module _ {S W : Type 0} (form : NormalForm S W) where
 
   -- what is known after an exchange of a list
   pub run_knows : (laws : Laws form) (world after : World) (offers offers' : ℕ → Option (Offer S)) (callers : ℕ → Caller) (begun : ℕ) (filled : Option (Offer S)) (run : FastWalk) (stores : ArrayVec (ℕ × ℕ)) (seen : Seen) (mech : Mech S W) (held : Held S)
-      → form.shape world → form.shape after → Grows world after → IsCommandOf form.client mech.op → KnowsRun form world run held → IsStillOffered form after held
+      → form.shape world → form.shape after → Grows world after → IsCommandOf form.object mech.op → KnowsRun form world run held → IsStillOffered form after held
       → held.list.call.op ≡ mech.op → held.list.entries ≡ run.entries → Enters form world after offers offers' run (Some held) seen
       → Knows form after offers' callers begun filled (length after.changes) (stopped_in (fast_execution run seen) (Some held)) (executed form (fast_execution run seen) (fast_fed run seen) stores mech)
   run_knows laws world after offers offers' callers begun filled run stores seen mech held shape shape' grows command known still call entries enters =

@@ -4,7 +4,7 @@ use Rattle.arrayvec.specs.ArrayVec.{ArrayVec}
 use Rattle.lin_report.specs.declared.calls.Outcome.{Outcome}
 use Rattle.lin_report.specs.declared.calls.Outcome.TheVariants.{Plain, ValueOf}
 use Rattle.lin_report.specs.declared.calls.Reply.TheVariants.{Exhausted}
-use Rattle.lin_report.specs.Commands.{IsCommandOf}
+use Rattle.lin_report.specs.Object.{IsCommandOf}
 use Rattle.normal_traits.specs.declared.form.Found.{Found}
 use Rattle.normal_traits.specs.declared.form.Found.TheVariants as found
 use Rattle.normal_traits.specs.World.{World}
@@ -59,17 +59,17 @@ module _ {S W : Type 0} (form : NormalForm S W) (world : World) (offers : ℕ �
   opens_knows false run stores new since held fills runs = runs refl
 
   module _ (laws : Laws form) (shape : form.shape world) where
-    tries_knows : (b : Bool) (list : Option (Held S)) (mech : Mech S W) → IsCommandOf form.client mech.op
+    tries_knows : (b : Bool) (list : Option (Held S)) (mech : Mech S W) → IsCommandOf form.object mech.op
         → (let new = if b then in_phase (Generate (form.begin_of mech.op) Search) mech else in_phase (Announce announcing.Value) mech in Knows (length world.changes) list new)
     tries_knows true list mech command = (laws.begins_asking mech.op command, laws.begins_knowing world mech.op command shape)
     tries_knows false list mech command = tt
 
     -- a call that tries again begins a search, which knows what holds now, or is announced
-    pub tried_knows : (list : Option (Held S)) (mech : Mech S W) → IsCommandOf form.client mech.op → Knows (length world.changes) list (tried form mech)
+    pub tried_knows : (list : Option (Held S)) (mech : Mech S W) → IsCommandOf form.object mech.op → Knows (length world.changes) list (tried form mech)
     tried_knows list mech command = tries_knows (may_search mech) list mech command
 
     -- the list that a ready search names is offered
-    named_knows : (identity since : ℕ) (s : S) (mech : Mech S W) → IsCommandOf form.client mech.op → NoneFrom world identity 0
+    named_knows : (identity since : ℕ) (s : S) (mech : Mech S W) → IsCommandOf form.object mech.op → NoneFrom world identity 0
         → form.is_ready s → form.knows s mech.op world since → HasSmall mech
         → Knows since (Some (newly_held form identity s since (offered form s mech))) (offered form s mech)
     named_knows identity since s mech command fresh ready knows small =
@@ -95,14 +95,14 @@ module _ {S W : Type 0} (form : NormalForm S W) (world : World) (offers : ℕ �
           none = fresh;
         })
 
-    readied_knows : (b : Bool) (identity since : ℕ) (s : S) (mech : Mech S W) → IsCommandOf form.client mech.op → NoneFrom world identity 0
+    readied_knows : (b : Bool) (identity since : ℕ) (s : S) (mech : Mech S W) → IsCommandOf form.object mech.op → NoneFrom world identity 0
         → form.is_ready s → form.knows s mech.op world since → HasSmall mech
         → (let new = if b then in_phase (Generate s LookForBlock) mech else offered form s mech in Knows since (Some (newly_held form identity s since new)) new)
     readied_knows true identity since s mech command fresh ready knows small = (ready, knows)
     readied_knows false identity since s mech command fresh ready knows small = named_knows identity since s mech command fresh ready knows small
 
     -- what a search was fed it knows
-    pub searched_knows : (what : Found) (identity since : ℕ) (s : S) (mech : Mech S W) → IsCommandOf form.client mech.op → NoneFrom world identity 0
+    pub searched_knows : (what : Found) (identity since : ℕ) (s : S) (mech : Mech S W) → IsCommandOf form.object mech.op → NoneFrom world identity 0
         → form.knows s mech.op world since → FoundWell form world mech.op since s what → HasSmall mech
         → (let new = searched form what s mech in Knows (if not (gave_up what) then since else length world.changes) (Some (newly_held form identity s since new)) new)
     searched_knows found.Going identity since s mech command fresh knows well small = (well, knows)
@@ -117,7 +117,7 @@ module _ {S W : Type 0} (form : NormalForm S W) (world : World) (offers : ℕ �
     looked_knows true since list s mech ready knows = (ready, knows)
     looked_knows false since list s mech ready knows = tt
 
-    pub claimed_knows : (b : Bool) (identity since block : ℕ) (s : S) (mech : Mech S W) → IsCommandOf form.client mech.op → NoneFrom world identity 0
+    pub claimed_knows : (b : Bool) (identity since block : ℕ) (s : S) (mech : Mech S W) → IsCommandOf form.object mech.op → NoneFrom world identity 0
         → form.is_ready s → form.knows s mech.op world since → (b ≡ true → block < 2 ^ 17)
         → (let new = if b then offered form s (with_hand (Some block) mech) else in_phase (End Exhausted) mech in Knows since (Some (newly_held form identity s since new)) new)
     claimed_knows true identity since block s mech command fresh ready knows small =

@@ -1,7 +1,7 @@
 -- What a machine knows after a step of a wrap-up, and where a wrap-up begins.
 use Rattle.std.proofs.Common.{◌≡◌, refl, sym, subst, ℕ, ◌+◌, ◌&&◌, min, nat_lt, if◌then◌else◌, Bool, true, false, List, length, Option, Some, None}
 use Rattle.lin_report.specs.declared.calls.Op.{Op}
-use Rattle.lin_report.specs.Commands.{IsCommandOf}
+use Rattle.lin_report.specs.Object.{IsCommandOf}
 use Rattle.normal_traits.specs.declared.form.Wrapped.{Wrapped}
 use Rattle.normal_traits.specs.declared.form.Wrapped.TheVariants as wrapped
 use Rattle.normal_traits.specs.declared.lists.Entry.{Entry}
@@ -18,7 +18,7 @@ use Rattle.step_knowledge.proofs.Goes.Searches.{Knows, told_knows, tried_knows}
 
 module _ {S W : Type 0} (form : NormalForm S W) (laws : Laws form) (world : World) (offers : ℕ → Option (Offer S)) (callers : ℕ → Caller) (begun : ℕ) (filled : Option (Offer S)) (shape : form.shape world) where
   -- a wrap-up that goes on follows its list; after one that asks for it the call is tried again
-  pub wrapped_knows : (what : Wrapped) (w : W) (mech : Mech S W) (held : Held S) → IsCommandOf form.client mech.op → IsStillOffered form world held → (what ≡ wrapped.Going → Stopped world held.list held.stop)
+  pub wrapped_knows : (what : Wrapped) (w : W) (mech : Mech S W) (held : Held S) → IsCommandOf form.object mech.op → IsStillOffered form world held → (what ≡ wrapped.Going → Stopped world held.list held.stop)
       → NoneFrom world held.list.identity held.stop → WrappedWell form world held.list held.stop w what
       → Knows form world offers callers begun filled (length world.changes) (Some held) (wrapped_up form what w mech)
   wrapped_knows wrapped.Going w mech held command offered halts none well = record { offered = offered; stopped = halts refl; none = none; wraps = well.0; follows = well.1 }
@@ -39,11 +39,11 @@ module _ {S W : Type 0} (form : NormalForm S W) (laws : Laws form) (world : Worl
   spent_op false mech = refl
 
   -- where a list stops, its wrap-up begins
-  pub stops_knows : (entries : List Entry) (stop : ℕ) (mech : Mech S W) (held : Held S) → IsCommandOf form.client mech.op → IsStillOffered form world held → Stopped world held.list stop
+  pub stops_knows : (entries : List Entry) (stop : ℕ) (mech : Mech S W) (held : Held S) → IsCommandOf form.object mech.op → IsStillOffered form world held → Stopped world held.list stop
       → NoneFrom world held.list.identity stop → held.list.call.op ≡ mech.op → held.list.entries ≡ entries
       → Knows form world offers callers begun filled (length world.changes) (Some (record { list = held.list; offering = held.offering; since = held.since; stop = stop })) (stopped form entries stop mech)
   stops_knows entries stop mech held command offered halts none call same =
       let done : Held S = record { list = held.list; offering = held.offering; since = held.since; stop = stop } in
       wrapped_knows (form.wrap_begun_of mech.op entries stop) (form.begin_wrap_of mech.op entries stop) (spent form stop mech) done
-      (subst (IsCommandOf form.client) (sym (spent_op (nat_lt 0 stop && form.needs_block mech.op) mech)) command) offered (λ on. halts) none
+      (subst (IsCommandOf form.object) (sym (spent_op (nat_lt 0 stop && form.needs_block mech.op) mech)) command) offered (λ on. halts) none
       (wrap_begins mech.op entries held stop offered halts call same)

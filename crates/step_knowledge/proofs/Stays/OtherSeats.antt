@@ -2,7 +2,7 @@
 use Rattle.std.proofs.Common.{◌≡◌, ◌≢◌, ◌∙◌, refl, sym, subst, ap, ℕ, ◌<◌, true, false, inl, inr, ◌⊎◌, List, slice_get, Option, Some, None, arith}
 use Rattle.std.proofs.lemmas.Bool.{cases_Bool}
 use Rattle.arrayvec.specs.ArrayVec.{ArrayVec}
-use Rattle.lin_report.specs.Commands.{IsCommandOf}
+use Rattle.lin_report.specs.Object.{IsCommandOf}
 use Rattle.node_arena.specs.declared.places.TheConstants.{OWNER_FIELD, OP_FIELD, VALUE_FIELD}
 use Rattle.normal_traits.specs.World.{World}
 use Rattle.normal_traits.specs.NormalForm.{NormalForm}
@@ -137,7 +137,7 @@ module _ {S W : Type 0} (form : NormalForm S W) (laws : Laws form) (world after 
     abbrev Keeps : Phase S W → Type 0
     Keeps at = KnowsIn form at mech own world offers callers → KnowsIn form at mech own after offers' callers'
 
-    search_stays : (s : S) → IsCommandOf form.client mech.op → form.knows s mech.op world own.carried.since → form.knows s mech.op after own.carried.since
+    search_stays : (s : S) → IsCommandOf form.object mech.op → form.knows s mech.op world own.carried.since → form.knows s mech.op after own.carried.since
     search_stays s command knows = laws.knows_kept world after s mech.op own.carried.since command holds.shape knows step
 
     -- of a held list

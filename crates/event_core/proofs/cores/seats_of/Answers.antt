@@ -8,7 +8,7 @@ pub loop-setup-init : goal.loop-setup-init
 loop-setup-init g c = none_seated (λ file. file.items) g.C.Normalized.form c.args.setup _ _ _ c.in_ok-seats.ensures.items c.requires.files c.requires.seats (search rules)
 
 pub new-requires-clause-file : goal.new-requires-clause-file
-new-requires-clause-file g c κs within = first_file g.C.Normalized.form.client (λ file. file.items) _ _ c.loop-setup.invariant.commanded (search rules) c.remove-file.ensures.value
+new-requires-clause-file g c κs within = first_file g.C.Normalized.form.object (λ file. file.items) _ _ c.loop-setup.invariant.commanded (search rules) c.remove-file.ensures.value
 
 pub loop-setup-preserved : goal.loop-setup-preserved
 loop-setup-preserved g c =

@@ -4,6 +4,7 @@ use Rattle.std.proofs.lemmas.List.{length-map, map-append}
 use Rattle.std.proofs.lemmas.List.Elements.{All-push}
 use Rattle.lin_report.specs.declared.calls.Op.{Op}
 use Rattle.lin_report.specs.CommandFiles.{IsCommandFile}
+use Rattle.lin_report.specs.Object.{object_of}
 use Rattle.script_reader.specs.Scripts.{script_outcome}
 use Rattle.nwf_run.specs.Judging.{IsJudged, IsReason, SayFirst, files_of_bytes}
 use Rattle.nwf_run.proofs.JudgedFiles.{say_more, told_err}
@@ -49,7 +50,7 @@ loop-bytes-preserved c =
     let same : commands ++ ops ∷ [] ≡ map ops_of c.push_reserved.new.self.items = sym (ap (map ops_of) more ∙ map-append ops_of done (c.in_ok-ops.ops ∷ [])) in
     record {
       say = subst (SayFirst c.args.client (length files) all) same (say_more c.args.client (length files) all commands ops c.loop-bytes.invariant.say told);
-      commands = subst (All (λ (o : Vec Op Global). IsCommandFile client o.items)) (sym more) (All-push (λ (o : Vec Op Global). IsCommandFile client o.items) done c.in_ok-ops.ops c.loop-bytes.invariant.commands c.in_ok-ops.ensures.commands);
+      commands = subst (All (λ (o : Vec Op Global). IsCommandFile (object_of client) o.items)) (sym more) (All-push (λ (o : Vec Op Global). IsCommandFile (object_of client) o.items) done c.in_ok-ops.ops c.loop-bytes.invariant.commands c.in_ok-ops.ensures.commands);
       count = search rules;
       room = search rules;
     }

@@ -9,7 +9,7 @@ use Rattle.lin_report.specs.Text.{reply_is_exhausted, summary_text}
 use Rattle.fast_slow_engine.specs.Reports.{report_of_run}
 use Rattle.event_core.specs.Cores.{CoreView}
 use Rattle.schedule_runs.specs.Rounds.{rounds}
-use Rattle.nwf_run.proofs.LoadRuns.{are_generated, as_many, each_is_file, in_order_of}
+use Rattle.nwf_run.proofs.LoadRuns.{as_many, each_is_file, in_order_of}
 use Rattle.overtaking_law.specs.Overtaking.{greatest_overtaken}
 use Rattle.nwf_run.proofs.RunReports.{can_be_written, can_write, count_is, few_overtaken, files_fit, files_of, in_order, marked, summary_is}
 use Rattle.nwf_run.proofs.loading.summary_of.Goals as goal
@@ -18,23 +18,23 @@ pub new-requires-clause-seats : goal.new-requires-clause-seats
 new-requires-clause-seats g c κs within =
     let files : List (Vec Op Global) = c.in_ok-files.files.items in
     let load = c.args.load in
-    let are = are_generated files g.C.Normalized.form.client _ load.seed load.threads load.calls c.in_ok-files.ensures.files (c.CLIENT.ensures ∙ g.met.C.Normalized.named) in
-    as_many files g.C.Normalized.form.client load.seed load.threads load.calls are
+    let are = c.in_ok-files.ensures.files in
+    as_many files load.client load.seed load.threads load.calls are
 
 pub new-requires-clause-files : goal.new-requires-clause-files
 new-requires-clause-files g c κs within =
     let files : List (Vec Op Global) = c.in_ok-files.files.items in
     let load = c.args.load in
-    let are = are_generated files g.C.Normalized.form.client _ load.seed load.threads load.calls c.in_ok-files.ensures.files (c.CLIENT.ensures ∙ g.met.C.Normalized.named) in
-    each_is_file files g.C.Normalized.form.client load.seed load.threads load.calls are c.each_runs.ensures c.requires.calls
+    let are = c.in_ok-files.ensures.files in
+    each_is_file files load.client load.seed load.threads load.calls are g.C.Normalized.form.object c.requires.serves c.each_runs.ensures c.requires.calls
 
 pub write_summary-requires-clause-report : goal.write_summary-requires-clause-report
 write_summary-requires-clause-report g c =
     let files : List (Vec Op Global) = c.in_ok-files.files.items in
     let load = c.args.load in
-    let are = are_generated files g.C.Normalized.form.client _ load.seed load.threads load.calls c.in_ok-files.ensures.files (c.CLIENT.ensures ∙ g.met.C.Normalized.named) in
-    let each = each_is_file files g.C.Normalized.form.client load.seed load.threads load.calls are c.each_runs.ensures c.requires.calls in
-    let count = as_many files g.C.Normalized.form.client load.seed load.threads load.calls are in
+    let are = c.in_ok-files.ensures.files in
+    let each = each_is_file files load.client load.seed load.threads load.calls are g.C.Normalized.form.object c.requires.serves c.each_runs.ensures c.requires.calls in
+    let count = as_many files load.client load.seed load.threads load.calls are in
     let core = c.take_rounds.new.core in
     let order = rounds load.threads (load.calls * 16384) in
     let ran = in_order_of g.C.Normalized.form _ files order c.in_ok-core.core core c.steps_run_in_order.ensures c.in_ok-core.ensures.core c.take_rounds.ensures.steps in
@@ -46,9 +46,9 @@ pub returns : goal.returns
 returns g c =
     let files : List (Vec Op Global) = c.in_ok-files.files.items in
     let load = c.args.load in
-    let are = are_generated files g.C.Normalized.form.client _ load.seed load.threads load.calls c.in_ok-files.ensures.files (c.CLIENT.ensures ∙ g.met.C.Normalized.named) in
-    let each = each_is_file files g.C.Normalized.form.client load.seed load.threads load.calls are c.each_runs.ensures c.requires.calls in
-    let count = as_many files g.C.Normalized.form.client load.seed load.threads load.calls are in
+    let are = c.in_ok-files.ensures.files in
+    let each = each_is_file files load.client load.seed load.threads load.calls are g.C.Normalized.form.object c.requires.serves c.each_runs.ensures c.requires.calls in
+    let count = as_many files load.client load.seed load.threads load.calls are in
     let core = c.take_rounds.new.core in
     let order = rounds load.threads (load.calls * 16384) in
     let ran = in_order_of g.C.Normalized.form _ files order c.in_ok-core.core core c.steps_run_in_order.ensures c.in_ok-core.ensures.core c.take_rounds.ensures.steps in
@@ -67,7 +67,7 @@ returns g c =
         made = ap (λ (v : CoreView _ _). report_of_run v.state) ran;
         counted = count_is core c.sort_by_begin.new.self _ c.sort_by_begin.ensures.kept c.greatest_overtaken-overtaken.ensures.count ∙ ap (λ (v : CoreView _ _). greatest_overtaken v.state.events) ran;
       };
-      headline = c.files_meet_headline.ensures _ (files_of files) order (files_fit g.C.Normalized.form.client _ files count each);
+      headline = c.files_meet_headline.ensures _ (files_of files) order (files_fit g.C.Normalized.form.object _ files count each);
       text_is = record {
         written = c.write_summary.ensures.text ∙ ap (λ l. l ++ summary_text (report_of c.receipts.result.now c.as_slice.result.now) (Some c.greatest_overtaken-overtaken.result)) c.in_ok-text.ensures.empty ∙ written;
         marked = marked core.state c.receipts.result.now c.as_slice.result.now sorted.lines sorted.calls c.any_exhausted-exhausted.result mark;

@@ -55,7 +55,7 @@ returns g c =
         made = ap (λ (v : CoreView _ _). report_of_run v.state) ordered.2;
         counted = count_is core c.sort_by_begin.new.self _ c.sort_by_begin.ensures.kept c.greatest_overtaken-overtaken.ensures.count ∙ ap (λ (v : CoreView _ _). greatest_overtaken v.state.events) ordered.2;
       };
-      headline = c.files_meet_headline.ensures _ (files_of commands) ordered.0 (files_fit g.C.Normalized.form.client _ commands (search rules) c.requires.commands);
+      headline = c.files_meet_headline.ensures _ (files_of commands) ordered.0 (files_fit g.C.Normalized.form.object _ commands (search rules) c.requires.commands);
       text_is = record {
         written = c.write_report.ensures.text ∙ ap (λ l. l ++ report_text (report_of c.receipts.result.now c.as_slice.result.now) (Some c.greatest_overtaken-overtaken.result)) c.in_ok-text.ensures.empty ∙ written;
         marked = marked core.state c.receipts.result.now c.as_slice.result.now sorted.lines sorted.calls c.any_exhausted-exhausted.result mark;

@@ -4,6 +4,7 @@ use Rattle.std.proofs.lemmas.List.{get_or-map, length-map, map-append}
 use Rattle.std.proofs.lemmas.List.Elements.{All-push}
 use Rattle.lin_report.specs.declared.calls.Op.{Op}
 use Rattle.lin_report.specs.CommandFiles.{IsCommandFile}
+use Rattle.lin_report.specs.Object.{object_of}
 use Rattle.script_reader.specs.Scripts.{script_outcome}
 use Rattle.nwf_run.specs.Said.{said_run}
 use Rattle.nwf_run.specs.Judging.{SayFirst}
@@ -101,7 +102,7 @@ loop-name-preserved g c =
     record {
       say = λ t. subst (SayFirst words.client (length (map string_bytes words.files.now)) (files_by_name held (said_run words))) same
           (say_more words.client (length (map string_bytes words.files.now)) (files_by_name held (said_run words)) commands ops (c.loop-name.invariant.say t) (told t));
-      commands = subst (All (λ (o : Vec Op Global). IsCommandFile client o.items)) (sym more) (All-push (λ (o : Vec Op Global). IsCommandFile client o.items) done c.in_ok-ops.ops c.loop-name.invariant.commands c.in_ok-ops.ensures.commands);
+      commands = subst (All (λ (o : Vec Op Global). IsCommandFile (object_of client) o.items)) (sym more) (All-push (λ (o : Vec Op Global). IsCommandFile (object_of client) o.items) done c.in_ok-ops.ops c.loop-name.invariant.commands c.in_ok-ops.ensures.commands);
       count = search rules;
       room = search rules;
       tells = search rules;

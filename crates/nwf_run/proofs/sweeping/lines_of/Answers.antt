@@ -22,7 +22,7 @@ loop-steps-init g c = (
 
 pub add_stop-exhausted-requires-clause-files : goal.add_stop-exhausted-requires-clause-files
 add_stop-exhausted-requires-clause-files g c κs within =
-    let client = g.C.Normalized.form.client in
+    let client = g.C.Normalized.form.object in
     let commands : List (Vec Op Global) = c.args.commands.items in
     let s = c.loop-steps.invariant.0 in
     let fit = files_fit client _ commands (omega (arith, c.len.ensures, c.args.commands.ok.0)) c.requires.commands in
@@ -43,5 +43,5 @@ returns g c =
     let commands : List (Vec Op Global) = c.args.commands.items in
     let rounds = c.longest-rounds.ensures.longest ∙ ap (λ (l : List (Vec Op Global)). longest (files_of l)) c.deref.ensures.value in
     all_swept g.C.Normalized.form commands _ _ c.args.cap c.args.limit c.args.most c.loop-steps.steps c.loop-steps.core c.loop-steps.text.items c.loop-steps.exhausted c.files_meet_headline.ensures
-    (files_fit g.C.Normalized.form.client _ commands (omega (arith, c.len.ensures, c.args.commands.ok.0)) c.requires.commands) (omega (arith, c.len.ensures, c.args.commands.ok.0)) refl refl (ap (λ n. n * 16384) rounds)
+    (files_fit g.C.Normalized.form.object _ commands (omega (arith, c.len.ensures, c.args.commands.ok.0)) c.requires.commands) (omega (arith, c.len.ensures, c.args.commands.ok.0)) refl refl (ap (λ n. n * 16384) rounds)
     (omega (arith, c.loop-steps-test.false, c.loop-steps.auto.steps-end)) c.loop-steps.invariant.0

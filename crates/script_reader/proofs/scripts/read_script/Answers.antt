@@ -1,6 +1,6 @@
 use Rattle.std.proofs.Common.{All, ◌≤◌}
 use Rattle.std.specs.Prelude.{IsTrue}
-use Rattle.lin_report.specs.Commands.{is_command}
+use Rattle.lin_report.specs.Object.{is_command}
 use Rattle.script_reader.specs.Scripts.{COMMAND_LIMIT, GREATEST_VALUE, script_outcome}
 use Rattle.script_reader.proofs.Outcomes.{script_lines, script_commands, script_values, answered, counted}
 use Rattle.script_reader.proofs.scripts.read_script.Goals as goal

@@ -11,7 +11,7 @@ pub new_worker-requires-clause-file : goal.new_worker-requires-clause-file
 new_worker-requires-clause-file g c κs within =
     let seat : ℕ = c.loop-seat.seat in
     let none = c.take_file-commands.result in
-    subst (λ f. IsCommandFile g.C.Normalized.form.client f.items) (sym (c.take_file-commands.ensures.file none ∙ c.loop-seat.invariant.6 seat none (omega arith)))
+    subst (λ f. IsCommandFile g.C.Normalized.form.object f.items) (sym (c.take_file-commands.ensures.file none ∙ c.loop-seat.invariant.6 seat none (omega arith)))
     (c.requires.files seat none (let b = c.loop-seat-test.true in let n = c.loop-seat.invariant.5 in omega (arith, b, n)))
 
 pub loop-seat-preserved : goal.loop-seat-preserved
@@ -32,9 +32,9 @@ loop-seat-preserved g c =
       c.split-port.ensures.old ∙ (ap (λ (v : View g.row.C.Denot g.row.C-Search.Denot g.row.C-Wrap.Denot). cut_left v) i.1 ∙ ap (λ (k : ℕ). root_view c.args.setup k) (omega (arith, one))),
       omega (arith, len, at),
       (let a = new.capacity in let z = i.3 in omega (arith, a, z)),
-      (λ j d e below. subst (λ (l : List (Worker g.row.C.Denot g.row.C-Search.Denot g.row.C-Wrap.Denot)). IsPlaced g.C.Normalized.form.client t (new_view (j + 1) c.args.setup false) (get_or files (j + 1) e).items (get_or l j d)) (sym new.items)
-          (snoc_each (λ k x. IsPlaced g.C.Normalized.form.client t (new_view (k + 1) c.args.setup false) (get_or files (k + 1) e).items x) ws w (λ k x b. i.4 k x e b)
-          (placed_as g.C.Normalized.form.client _ t _ (new_view (length ws + 1) c.args.setup false) _ (get_or files (length ws + 1) e).items w (table.1 ∙ i.0)
+      (λ j d e below. subst (λ (l : List (Worker g.row.C.Denot g.row.C-Search.Denot g.row.C-Wrap.Denot)). IsPlaced g.C.Normalized.form.object t (new_view (j + 1) c.args.setup false) (get_or files (j + 1) e).items (get_or l j d)) (sym new.items)
+          (snoc_each (λ k x. IsPlaced g.C.Normalized.form.object t (new_view (k + 1) c.args.setup false) (get_or files (k + 1) e).items x) ws w (λ k x b. i.4 k x e b)
+          (placed_as g.C.Normalized.form.object _ t _ (new_view (length ws + 1) c.args.setup false) _ (get_or files (length ws + 1) e).items w (table.1 ∙ i.0)
           (c.split-port.ensures.new ∙ (ap (λ (v : View g.row.C.Denot g.row.C-Search.Denot g.row.C-Wrap.Denot). new_view seat v.machine.setup false) i.1 ∙ ap (λ (k : ℕ). new_view k c.args.setup false) at))
           (ap (λ f. f.items) (taken.file e ∙ (i.6 seat e (omega arith) ∙ ap (λ (k : ℕ). get_or files k e) at)))
           c.in_ok-new_worker.ensures)

@@ -10,7 +10,7 @@ for_each_mut-requires-clause-accepts g c κs within i p inside is =
     let r = c.requires.ready i p.now inside in (
       subst (λ (w : Worker g.row.C.Denot g.row.C-Search.Denot g.row.C-Wrap.Denot). w.port.table ≡ c.args.shared.now.table) (sym is) r.0,
       (
-        subst (λ (w : Worker g.row.C.Denot g.row.C-Search.Denot g.row.C-Wrap.Denot). CanWork g.C.Normalized.form.client w.port.view w.machine w.commands.items w.receipts.items (vec_capacity w.receipts)) (sym is) r.1,
+        subst (λ (w : Worker g.row.C.Denot g.row.C-Search.Denot g.row.C-Wrap.Denot). CanWork g.C.Normalized.form.object w.port.view w.machine w.commands.items w.receipts.items (vec_capacity w.receipts)) (sym is) r.1,
         (
           param_send _ _ (arg_send _ no _ c.type_bounds.send-C),
           param_send _ _ (arg_send _ no _ c.type_bounds.send-T),

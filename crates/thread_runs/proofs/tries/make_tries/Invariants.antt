@@ -11,6 +11,6 @@ invariant-loop g l =
     (l.turns ≤ 65536)
     × (l.port.table ≡ l.fn.port.table)
     × (l.port.view.machine ≡ mech_of l.call (Generate (g.C.Normalized.form.begin_of l.call.op) Search))
-    × IsCallOf g.C.Normalized.form.client l.call
+    × IsCallOf g.C.Normalized.form.object l.call
     × IsSameCall l.call l.fn.call
     × (beside l.port ≡ beside l.fn.port)

@@ -17,7 +17,7 @@ invariant_of-self g c =
     let setup = c.self.inside.setup in
     let run = c.self.invariant.run in
     let count = c.rewrite.ensures.count ∙ ap length (sym run.words_are) ∙ words_stay form setup run.moves run.are in
-    let words = rewritten form.client setup.cap c.self.inside.opening.items c.rewrite.new.self.words c.self.invariant.opened count (λ place inside. c.rewrite.ensures.each place inside ∙ ap (λ ws. slice_index ws place) c.deref.ensures.value) in
+    let words = rewritten form.opening form.opens setup.cap c.self.inside.opening.items c.rewrite.new.self.words c.self.invariant.opened count (λ place inside. c.rewrite.ensures.each place inside ∙ ap (λ ws. slice_index ws place) c.deref.ensures.value) in
     let seats = with_items_is c.self.inside.seats c.renew_seats.new.seats (search rules) ∙ c.renew_seats.ensures.seats ∙ ap (λ l. new_seats setup 0 (map (λ seat. seat.file) l)) c.deref_mut.ensures.value in
     let lines = c.self.invariant.for_all_lines in
     let events = c.self.invariant.for_events in
@@ -30,7 +30,7 @@ returns g c =
     let setup = c.self.inside.setup in
     let run = c.self.invariant.run in
     let count = c.rewrite.ensures.count ∙ ap length (sym run.words_are) ∙ words_stay form setup run.moves run.are in
-    let words = rewritten form.client setup.cap c.self.inside.opening.items c.rewrite.new.self.words c.self.invariant.opened count (λ place inside. c.rewrite.ensures.each place inside ∙ ap (λ ws. slice_index ws place) c.deref.ensures.value) in
+    let words = rewritten form.opening form.opens setup.cap c.self.inside.opening.items c.rewrite.new.self.words c.self.invariant.opened count (λ place inside. c.rewrite.ensures.each place inside ∙ ap (λ ws. slice_index ws place) c.deref.ensures.value) in
     let seats = with_items_is c.self.inside.seats c.renew_seats.new.seats (search rules) ∙ c.renew_seats.ensures.seats ∙ ap (λ l. new_seats setup 0 (map (λ seat. seat.file) l)) c.deref_mut.ensures.value in
     record {
       core = fresh_core (λ seat. seat.file) form setup _ _ _ _ _ c.self.inside.seats.items refl words seats c.self.invariant.count c.clear.ensures.items c.clear-2.ensures.items ∙ ap (λ v. core_new form v.setup v.files) c.self.view_is;

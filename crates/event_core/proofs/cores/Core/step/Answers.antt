@@ -7,7 +7,7 @@ use Rattle.run_invariant.proofs.Kept.Induction.{runs_are_kept}
 use Rattle.run_invariant.proofs.Kept.Runs.{queues_kept}
 use Rattle.event_core.specs.Cores.{core_stepped, core_turn}
 use Rattle.event_core.proofs.CoreLemmas.{is_over_by, next_core, next_turn, not_over_by, over_core, over_turn, seated}
-use Rattle.event_core.proofs.Rooms.{over_kept, room_to_note, stepped_kept}
+use Rattle.event_core.proofs.Rooms.{over_kept, room_for_lines, room_to_note, stepped_kept}
 use Rattle.event_core.specs.Noted.{marked}
 use Rattle.event_core.proofs.StepEvents.{goes_on_over, mark_told, none_is, tick_told, unmarked_told}
 use Rattle.event_core.proofs.cores.Core.step.Goals as goal
@@ -31,8 +31,8 @@ invariant_of-self g c =
 
 -- ---- a step that draws a tick
 
-pub draw-turn-requires-clause-room : goal.draw-turn-requires-clause-room
-draw-turn-requires-clause-room g c κs within =
+pub draw_tick-requires-clause-room : goal.draw_tick-requires-clause-room
+draw_tick-requires-clause-room g c κs within =
     let form = g.C.Normalized.form in
     let laws = g.met.C.Normalized.laws in
     let setup = c.self.inside.setup in
@@ -46,6 +46,10 @@ draw-turn-requires-clause-room g c κs within =
     refl refl refl few _ (search rules) in
     subst (λ es. vec_len c.self.inside.events + length es ≤ vec_capacity c.self.inside.events) (sym told) room
 
+pub draw_tick-requires-clause-lines : goal.draw_tick-requires-clause-lines
+draw_tick-requires-clause-lines g c κs within =
+    room_for_lines g.C.Normalized.form c.self.inside.setup _ _ _ _ _ _ _ c.self.invariant _ _ _ (seated _ _ _ _ _ _ c.self.view_is c.requires.seat) c.index_mut-at.ensures.value c.begin_next.ensures.machine c.begin_next.ensures.file c.begin_next.ensures.lines
+
 pub invariant_of-self-then-draws_tick : goal.invariant_of-self-then-draws_tick
 invariant_of-self-then-draws_tick g c =
     let form = g.C.Normalized.form in
@@ -53,29 +57,29 @@ invariant_of-self-then-draws_tick g c =
     let setup = c.self.inside.setup in
     let mech = c.begin_next.new.self.mech in
     let words = c.self.inside.cells.words in
-    let told = tick_told form mech words c.draw-turn.new.cells.words c.draw-turn.ensures.words (sym c.draws_tick.ensures ∙ c.if-draws_tick.true) in
+    let told = tick_told form mech words c.draw_tick.new.cells.words c.draw_tick.ensures.words (sym c.draws_tick.ensures ∙ c.if-draws_tick.true) in
     stepped_kept form setup _ _ _ _ _ _ _ c.self.invariant _ _ _ (seated _ _ _ _ _ _ c.self.view_is c.requires.seat) c.index_mut-at.ensures.value c.begin_next.ensures.machine c.begin_next.ensures.file
-    (queues_kept form laws (runs_are_kept form laws) setup) (c.begin_next.ensures.can (search rules)) c.draw-turn.new.at c.draw-turn.new.cells.words c.draw-turn.ensures.words c.draw-turn.ensures.mech
-    c.draw-turn.ensures.file c.draw-turn.ensures.number _ _ _ _ _ c.begin_next.ensures.lines c.draw-turn.ensures.lines c.keep.ensures.len c.keep.ensures.capacity
-    (c.draw-turn.ensures.items ∙ ap (λ es. c.self.inside.events.items ++ es) told) c.draw-turn.ensures.capacity
+    (queues_kept form laws (runs_are_kept form laws) setup) (c.begin_next.ensures.can (search rules)) c.draw_tick.new.at c.draw_tick.new.cells.words c.draw_tick.ensures.words c.draw_tick.ensures.mech
+    c.draw_tick.ensures.file c.draw_tick.ensures.number _ _ _ _ _ c.begin_next.ensures.lines c.draw_tick.ensures.lines c.draw_tick.ensures.count c.draw_tick.ensures.room
+    (c.draw_tick.ensures.items ∙ ap (λ es. c.self.inside.events.items ++ es) told) c.draw_tick.ensures.capacity
 
 pub returns-then-draws_tick-clause-core : goal.returns-then-draws_tick-clause-core
 returns-then-draws_tick-clause-core g c =
     let form = g.C.Normalized.form in
     let mech = c.begin_next.new.self.mech in
     let words = c.self.inside.cells.words in
-    let told = tick_told form mech words c.draw-turn.new.cells.words c.draw-turn.ensures.words (sym c.draws_tick.ensures ∙ c.if-draws_tick.true) in
+    let told = tick_told form mech words c.draw_tick.new.cells.words c.draw_tick.ensures.words (sym c.draws_tick.ensures ∙ c.if-draws_tick.true) in
     next_core form _ _ _ _ _ _ _ _ _ _ _ _ _ (seated _ _ _ _ _ _ c.self.view_is c.requires.seat) c.index_mut-at.ensures.value c.begin_next.ensures.machine c.begin_next.ensures.file
     (not_over_by _ _ c.begin_next.ensures.over c.if-not-begin_next.false)
-    c.draw-turn.ensures.words c.draw-turn.ensures.mech c.draw-turn.ensures.file c.draw-turn.ensures.turn
-    c.keep.ensures.items (c.draw-turn.ensures.items ∙ ap (λ es. c.self.inside.events.items ++ es) told)
+    c.draw_tick.ensures.words c.draw_tick.ensures.mech c.draw_tick.ensures.file refl
+    c.draw_tick.ensures.receipts (c.draw_tick.ensures.items ∙ ap (λ es. c.self.inside.events.items ++ es) told)
     ∙ ap (core_stepped form c.args.seat) c.self.view_is
 
 pub returns-then-draws_tick-clause-turn : goal.returns-then-draws_tick-clause-turn
 returns-then-draws_tick-clause-turn g c =
-    c.keep.ensures.turn
+    c.draw_tick.ensures.turn
     ∙ next_turn g.C.Normalized.form c.self.inside.setup _ _ _ _ _ _ c.begin_next.new.self _ (seated _ _ _ _ _ _ c.self.view_is c.requires.seat) c.index_mut-at.ensures.value c.begin_next.ensures.machine
-    (not_over_by _ _ c.begin_next.ensures.over c.if-not-begin_next.false) c.draw-turn.ensures.turn
+    (not_over_by _ _ c.begin_next.ensures.over c.if-not-begin_next.false) refl
     ∙ ap (core_turn g.C.Normalized.form c.args.seat) c.self.view_is
 
 -- ---- any other step

@@ -7,10 +7,10 @@ use Rattle.shared_memory.proofs.Closed.{closes}
 use Rattle.shared_memory.proofs.port.Shared.close.Goals as goal
 
 pub word-ticks-requires : goal.word-ticks-requires
-word-ticks-requires g c = let n = c.close_with-closed.ensures.counts.0 in let z = c.self.invariant.0 in let l = length-opening_words g.C.Normalized.form.client c.self.inside.table.shared.key.cap in (omega (arith, n, z, l), c.close_with-closed.ensures.values.0)
+word-ticks-requires g c = let n = c.close_with-closed.ensures.counts.0 in let z = c.self.invariant.0 in let l = length-opening_words g.C.Normalized.form.opening c.self.inside.table.shared.key.cap in (omega (arith, n, z, l), c.close_with-closed.ensures.values.0)
 
 pub word-claimed-requires : goal.word-claimed-requires
-word-claimed-requires g c = let n = c.close_with-closed.ensures.counts.0 in let z = c.self.invariant.0 in let l = length-opening_words g.C.Normalized.form.client c.self.inside.table.shared.key.cap in (omega (arith, n, z, l), c.close_with-closed.ensures.values.0)
+word-claimed-requires g c = let n = c.close_with-closed.ensures.counts.0 in let z = c.self.invariant.0 in let l = length-opening_words g.C.Normalized.form.opening c.self.inside.table.shared.key.cap in (omega (arith, n, z, l), c.close_with-closed.ensures.values.0)
 
 pub returns : goal.returns
 returns g c =

@@ -1,7 +1,6 @@
-use Rattle.std.proofs.Common.{ap, ◌∙◌}
-use Rattle.node_arena.specs.Opening.{opening_words}
+use Rattle.std.proofs.Common.{◌∙◌}
 use Rattle.shared_memory.proofs.Opens.{opens}
 use Rattle.shared_memory.proofs.port.Shared.make.Goals as goal
 
 pub of_words-requires : goal.of_words-requires
-of_words-requires g c = opens _ _ _ (c.as_slice.ensures.value ∙ c.in_ok-words.ensures.words ∙ ap (λ x. opening_words x c.args.setup.cap) (c.CLIENT.ensures ∙ g.met.C.Normalized.named))
+of_words-requires g c = opens _ _ _ (c.as_slice.ensures.value ∙ c.in_ok-words.ensures.words)

@@ -1,0 +1,5 @@
+pub mod Answered
+pub mod Answers
+pub mod Keys
+pub mod Ops
+pub mod Telling

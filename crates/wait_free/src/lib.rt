@@ -1,0 +1,22 @@
+//! Shared structures by the names of their calls: a queue, two sets and a map, each over one table of atomic words, for
+//! threads of one's own. Each thread has a handle, and a handle makes the calls of its structure and no others.
+#![tactic(auto)]
+
+pub use fast_slow_engine::Setup;
+pub use handles::{Handle, OpenError, Spent, close, open};
+pub use hash_set::{Buckets, HashSetHandle, SharedHashSet};
+pub use key::Key;
+pub use map::{MapHandle, SharedMap};
+pub use queue::{QueueHandle, SharedQueue};
+pub use refused::Refused;
+pub use set::{SetHandle, SharedSet};
+pub use shared_memory::{Shared, Totals};
+
+mod answers;
+pub mod hash_set;
+pub mod key;
+pub mod laws;
+pub mod map;
+pub mod queue;
+pub mod refused;
+pub mod set;
