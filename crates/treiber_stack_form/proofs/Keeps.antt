@@ -205,7 +205,7 @@ keeps world _ stack kept plain nothing = stack
 keeps world _ stack kept plain (elsewhere place word none) = still world _ stack kept plain (ap versioned_value (beside_word is_top world place word none TOP refl))
 keeps world _ stack kept plain (clears place some versioned listable) = still world _ stack kept plain (same_value world.words place)
 keeps world after stack kept plain (searches {seen = seen} search op since command asks knows requested) = subst IsStack (sym (went stack_form (asked search) world after seen requested).0) stack
-keeps world after stack kept plain (wraps wrap list stop command going follows requested) = absurd going
+keeps world after stack kept plain (wraps wrap list stop command going follows requested) = absurd follows
 keeps world _ stack kept plain (first list search since entry word offer fresh none needs listed same change) =
     entry_keeps world stack list word world.used fresh (ap world.used none ∙ stack.zero) (λ some. absurd (omega (arith, some, none))) search since entry offer (λ put. absurd (true≢false (sym put ∙ needs))) listed same change kept plain
 keeps world _ stack kept plain (first_of_block list search since entry word offer fresh some unused filled listed same change) =

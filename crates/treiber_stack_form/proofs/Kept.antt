@@ -57,7 +57,7 @@ facts =
       stays = λ word. tt;
       clears = λ word. tt;
       asks = λ world search op since asking knows. tt;
-      wraps = λ world wrap list stop going follows. absurd going;
+      wraps = λ world wrap list stop going follows. absurd follows;
       lists = λ world list search since j entry word low offer listed change. tt;
     }
 
@@ -94,7 +94,7 @@ plain_stay world _ nothing place some plain = refl
 plain_stay world _ (elsewhere at word none) place some plain = beside_word is_top world at word none place some
 plain_stay world _ (clears at here versioned listable) place some plain = word_beside at _ world.words place (λ same. plain (same ∙ eqb-true at TOP versioned))
 plain_stay world after (searches {seen = seen} search op since command asks knows requested) place some plain = ap (λ (w : World). w.words place) (went stack_form (asked search) world after seen requested).0
-plain_stay world after (wraps wrap list stop command going follows requested) place some plain = absurd going
+plain_stay world after (wraps wrap list stop command going follows requested) place some plain = absurd follows
 plain_stay world _ (first list search since entry word offer fresh none needs listed same change) place some plain =
     word_beside entry.target word world.words place (λ at. plain (at ∙ entry_at world list search since entry offer listed))
 plain_stay world _ (first_of_block list search since entry word offer fresh block unused filled listed same change) place some plain =

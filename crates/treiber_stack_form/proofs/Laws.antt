@@ -263,15 +263,15 @@ laws =
       lists = λ world search op since command knows ready. (refl, stack_exhausts op command.command);
       offers = λ world search op since block command stack knows ready small. offers world search op since block command knows ready small;
       same_entries = same_entries;
-      wrap_asks_well = λ world wrap list stop stack going follows. absurd going;
+      wrap_asks_well = λ world wrap list stop stack going follows. absurd follows;
       wrap_begun = begun_well;
-      wrap_fed = λ world after seen wrap list stop command stack going follows requested. absurd going;
+      wrap_fed = λ world after seen wrap list stop command stack going follows requested. absurd follows;
       dead_unchanged = λ world list change stack dead among. lost_unchanged stack_form world list change stack.made dead among;
       dead_first = λ world list search since entry stack dead offer fresh listed. lost_first stack_form world list entry dead listed;
       beside = λ world list entry stack adds. absurd (none_beside list adds);
       answers_fit = λ world after seen search op since command stack asks knows requested. found_fits search seen;
       begun_fits = λ world list search since stop stack offer stopped. begun_fits list.call.op list.entries stop;
-      wraps_fit = λ world after seen wrap list stop command stack going follows requested. absurd going;
+      wraps_fit = λ world after seen wrap list stop command stack going follows requested. absurd follows;
     }
 
 pub stack_changes_at_once : ChangesAtOnce stack_form

@@ -21,6 +21,7 @@ use Rattle.lin_report.specs.declared.calls.Outcome.{Outcome}
 use Rattle.normal_traits.specs.declared.form.Wrapped.{Wrapped}
 use Rattle.normal_traits.specs.declared.form.Wrapped.TheVariants as wrapped
 use Rattle.treiber_stack_form.specs.declared.states.StackWrap.{StackWrap}
+use Rattle.treiber_stack_form.specs.declared.states.StackWrap.TheVariants.{Over}
 
 -- the place of the next word of the node that a word names
 abbrev pub next_place : ℕ → ℕ
@@ -111,12 +112,13 @@ told_by op (Some entry) = told op entry.from
 abbrev pub wrap_begun : Op → List Entry → ℕ → Wrapped
 wrap_begun op entries stop = if stop == 0 then wrapped.Restart else wrapped.Done (told_by op (slice_get entries 0))
 
--- a wrap-up has no next step, so of what it asks and says nothing matters
-abbrev pub Wraps : StackWrap → Type 0
-Wraps wrap = ⊥
-
+-- a wrap-up never goes on. Asked all the same, it would load the top and be done: its functions are total
 abbrev pub wrap_asked : Request
 wrap_asked = Load TOP
 
 abbrev pub wrap_fed : Wrapped
 wrap_fed = wrapped.Done (Plain Done)
+
+-- so there is nothing that a wrap-up must be to be asked
+abbrev pub Wraps : StackWrap → Type 0
+Wraps Over = Unit {0}
