@@ -9,9 +9,9 @@ use Rattle.harris_list_form.specs.Search.{led, is_marked, next_place, key_place}
 use Rattle.harris_list_form.specs.Nodes.{is_node, node_key, next_at, key_at, node_rank, place_rank, rank_of, LAST_RANK, IsOf, IsLink, IsNamed}
 use Rattle.harris_list_form.specs.Path.{stands}
 use Rattle.harris_list_form.specs.Shape.{AreSorted}
-use Rattle.harris_list_form.proofs.Places.{same_next, start_not_next, rank_start, rank_next, rank_named, stands_start, stands_next, key_plain}
+use Rattle.harris_list_form.proofs.Held.Places.{same_next, start_not_next, rank_start, rank_next, rank_named, stands_start, stands_next, key_plain}
 use Rattle.node_arena.specs.MemoryMap.{reference_to}
-use Rattle.node_arena.proofs.PlaceLemmas.{block-reference_to}
+use Rattle.node_arena.proofs.PlacesApart.{block-reference_to}
 use Rattle.bucket_set.specs.BucketShape.{Reached, IsMember}
 use Rattle.bucket_set.specs.BucketShape.Reached.{begins, leads}
 use Rattle.normal_traits.proofs.Stays.{word_beside}

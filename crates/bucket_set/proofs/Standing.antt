@@ -10,7 +10,7 @@ use Rattle.normal_traits.specs.World.{World, held_after}
 use Rattle.harris_list_form.specs.Search.{is_marked, next_place, key_place}
 use Rattle.harris_list_form.specs.Nodes.{holds, next_at}
 use Rattle.harris_list_form.specs.Shape.{AreSorted}
-use Rattle.harris_list_form.proofs.Sets.{set_held}
+use Rattle.harris_list_form.proofs.Held.Sets.{set_held}
 use Rattle.bucket_set.specs.Buckets.{bucket_count, start_of, buckets}
 use Rattle.bucket_set.specs.BucketShape.{BucketShape, IsMember}
 use Rattle.bucket_set.specs.ProvedLaws.{counted, are_buckets}

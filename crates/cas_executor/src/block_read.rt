@@ -2,7 +2,7 @@
 ghost use Rattle.std.specs.Prelude.{◌≡◌, ℕ, ◌<◌, ◌^◌, ◌↔◌};
 ghost use Rattle.cas_executor.specs.BlockReads.{ReadWalk, IsReading, given_at, IsLast, read_at, read_fed, read_field, read_new, read_request, read_result};
 
-use node_arena::place_of;
+use node_arena::block_place;
 use node_arena::places::{ENTRY_FIELD, ENTRY_FIELDS, LENGTH_FIELD, OP_FIELD, VALUE_FIELD};
 use normal_traits::{Entry, List};
 use std::marker::Model;
@@ -74,7 +74,7 @@ impl BlockRead {
     {
         let read = ENTRY_FIELDS * self.list.len() as u32;
         Request::Load {
-            at: place_of(self.block, self.first_field() + read),
+            at: block_place(self.block, self.first_field() + read),
         }
     }
 

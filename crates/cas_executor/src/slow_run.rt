@@ -6,7 +6,7 @@ ghost use Rattle.cas_executor.specs.FastRuns.{IsShort};
 ghost use Rattle.cas_executor.specs.SlowRuns.{SlowWalk, IsWalking, StopsAt, at_step, decided, entry_state, installs, looked, past_entry, slow_execution, slow_fed, slow_request, state_place, state_word, step_after_decision, step_after_look, step_after_target};
 
 use crate::fast_run::Execution;
-use node_arena::place_of;
+use node_arena::block_place;
 use node_arena::places::STATE_FIELD;
 use normal_traits::{Entry, List};
 use std::marker::Model;
@@ -105,7 +105,7 @@ impl SlowRun {
         requires { IsWalking self.now }
         ensures { result ≡ state_place self.now.block self.now.next }
     {
-        place_of(self.block, STATE_FIELD + self.next)
+        block_place(self.block, STATE_FIELD + self.next)
     }
 
     /// The exchange of that state from pending.

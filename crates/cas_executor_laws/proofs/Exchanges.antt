@@ -3,17 +3,17 @@ use Rattle.std.proofs.Common.{◌≡◌, ◌≢◌, ◌∙◌, sym, ap, ℕ, tru
 use Rattle.std.proofs.lemmas.Bool.{cases_eq, eq-eqb, ne_eqb}
 use Rattle.step_memory.specs.declared.steps.Request.TheVariants.{Load, Exchange}
 use Rattle.step_memory.specs.declared.steps.Seen.{Seen}
-use Rattle.cas_executor_laws.specs.Parts.{IsMade}
+use Rattle.cas_executor_laws.specs.Parts.{RequestMade}
 
 -- a load changes nothing
-pub load_leaves : (at : ℕ) (words after : ℕ → ℕ) (seen : Seen) → IsMade (Load at) words after seen → (place : ℕ) → after place ≡ words place
+pub load_leaves : (at : ℕ) (words after : ℕ → ℕ) (seen : Seen) → RequestMade (Load at) words after seen → (place : ℕ) → after place ≡ words place
 load_leaves at words after seen made place =
     elim (cases_eq place at) [
       | inl same ↦ ap after same ∙ made.here ∙ sym (ap words same)
       | inr apart ↦ made.beside place apart
     ]
 
-pub load_saw : (at : ℕ) (words after : ℕ → ℕ) (seen : Seen) → IsMade (Load at) words after seen → seen.before ≡ words at
+pub load_saw : (at : ℕ) (words after : ℕ → ℕ) (seen : Seen) → RequestMade (Load at) words after seen → seen.before ≡ words at
 load_saw at words after seen made = ap (λ (s : Seen). s.before) made.tells
 
 -- an exchange wins or is lost
@@ -21,7 +21,7 @@ pub data Exchanged (at from to : ℕ) (words after : ℕ → ℕ) (seen : Seen) 
   won : words at ≡ from → after at ≡ to → ((place : ℕ) → place ≢ at → after place ≡ words place) → seen.won ≡ true → Exchanged at from to words after seen
   lost : words at ≢ from → ((place : ℕ) → after place ≡ words place) → seen.won ≡ false → Exchanged at from to words after seen
 
-pub exchange_did : (at from to : ℕ) (words after : ℕ → ℕ) (seen : Seen) → IsMade (Exchange at from to) words after seen → Exchanged at from to words after seen
+pub exchange_did : (at from to : ℕ) (words after : ℕ → ℕ) (seen : Seen) → RequestMade (Exchange at from to) words after seen → Exchanged at from to words after seen
 exchange_did at from to words after seen made =
     elim (cases_eq (words at) from) [
       | inl same ↦ won same (made.here ∙ ap (λ b. if b then to else words at) (eq-eqb (words at) from same)) made.beside (ap (λ (s : Seen). s.won) made.tells ∙ eq-eqb (words at) from same)

@@ -3,10 +3,10 @@ use Rattle.std.proofs.Common.{◌≡◌, ◌≢◌, ◌∙◌, refl, sym, ap, su
 use Rattle.std.proofs.lemmas.Bool.{cases_eq, eq-eqb, ne_eqb, lt-ltb}
 use Rattle.std.proofs.lemmas.Option.{slice_get_within}
 use Rattle.step_memory.specs.declared.steps.Seen.{Seen}
-use Rattle.step_memory.specs.Step.{place_of, words_after, seen_of}
+use Rattle.step_memory.specs.Step.{requested_place, words_after, seen_of}
 use Rattle.step_memory.proofs.Words.{length-words_after}
 use Rattle.word_fields.specs.Versioned.{versioned_bit, versioned_version, changed_word}
-use Rattle.word_fields.proofs.VersionedLemmas.{bit-changed, version-changed_below}
+use Rattle.word_fields.proofs.ChangedWords.{bit-changed, version-changed_below}
 use Rattle.normal_traits.specs.declared.lists.Entry.{Entry}
 use Rattle.cas_executor.specs.declared.fast_run.Execution.TheVariants.{Running}
 use Rattle.cas_executor.specs.declared.slow_run.SlowStep.{SlowStep}
@@ -17,16 +17,16 @@ use Rattle.cas_executor_laws.specs.ExecRuns.Act.{Steps, Changes}
 use Rattle.cas_executor_laws.specs.Entries.{Later}
 use Rattle.cas_executor_laws.specs.Entries.Turn.{stays, moves}
 use Rattle.cas_executor_laws.specs.Entries.Moves.{raised}
-use Rattle.cas_executor_laws.specs.Parts.{Offered, OwnsBits, OwnDeed, IsMade, Knows, Helps, ShowsTaken, TookBy, view_in, Site, IsSite}
-use Rattle.cas_executor_laws.proofs.EntryLemmas.{true≢false, at_from, shown_bit}
-use Rattle.cas_executor_laws.proofs.SiteLemmas.{all_later, shows_by_bits, entry_at, offered_kept, bits_kept, helps_kept}
+use Rattle.cas_executor_laws.specs.Parts.{Offered, OwnsBits, OwnDeed, RequestMade, Knows, Helps, ShowsTaken, TookBy, view_in, Site, IsSite}
+use Rattle.cas_executor_laws.proofs.OneEntry.{true≢false, at_from, shown_bit}
+use Rattle.cas_executor_laws.proofs.OfferedPartsKept.{all_later, shows_by_bits, entry_at, offered_kept, bits_kept, helps_kept}
 use Rattle.cas_executor_laws.proofs.RunTurns.{OwnTurn}
 use Rattle.cas_executor_laws.proofs.Exchanges.{exchange_did}
 use Rattle.cas_executor_laws.proofs.Exchanges.Exchanged.{won, lost}
-use Rattle.cas_executor_laws.proofs.RunLemmas.{deed_of, helps_after, request_is}
+use Rattle.cas_executor_laws.proofs.StepsAreDeeds.{deed_of, helps_after, request_is}
 use Rattle.cas_executor_laws.proofs.Sets.{at_set, beside_set, some_same, copy_at, all_three, first_fails, second_fails, third_fails, each_of_three}
 use Rattle.cas_executor_laws.proofs.Memories.{memory_of, step_made, word_set, word_beside}
-use Rattle.cas_executor_laws.proofs.WorldSites.{site_of, is_site, step_inside}
+use Rattle.cas_executor_laws.proofs.SitesInside.{site_of, is_site, step_inside}
 
 -- what a helper's step sees, and the words that it leaves
 abbrev pub seen_by : Helping → List ℕ → Seen
@@ -162,14 +162,14 @@ module _ (setup : ExecSetup) (can : CanOpen setup) (state : ExecState) (count : 
     knows : Knows site was took_before helper.walk
     knows = subst (λ e. Helps site was took_before helper.walk e) running (k.helps at helper here)
 
-    inside : place_of (slow_request helper.walk) < length state.words
+    inside : requested_place (slow_request helper.walk) < length state.words
     inside =
         let own = entry_at setup.entries helper.walk.next knows.within in
         let asks = request_is site good was was took_before took_before helper.walk seen knows own.0 own.1 in
-        subst (λ n. place_of (slow_request helper.walk) < n) (sym k.room)
-        (subst (λ r. place_of r < length setup.words) (sym asks) (step_inside setup can helper.walk.next own.0 knows.within own.1 helper.walk.step))
+        subst (λ n. requested_place (slow_request helper.walk) < n) (sym k.room)
+        (subst (λ r. requested_place r < length setup.words) (sym asks) (step_inside setup can helper.walk.next own.0 knows.within own.1 helper.walk.step))
 
-    made : IsMade (slow_request helper.walk) was now seen
+    made : RequestMade (slow_request helper.walk) was now seen
     made = step_made (slow_request helper.walk) state.words inside
 
     took_by : TookBy helper.walk seen took_before took_now
@@ -197,7 +197,7 @@ module _ (setup : ExecSetup) (can : CanOpen setup) (state : ExecState) (count : 
         let at_entry = entry_at setup.entries helper.walk.next knows.within in
         let asks = request_is site good was was took_before took_before helper.walk seen knows at_entry.0 at_entry.1 in
         let exchange : slow_request helper.walk ≡ step_request setup.block helper.walk.next at_entry.0 Install = asks ∙ ap (step_request setup.block helper.walk.next at_entry.0) (is_install helper.walk.step listed) in
-        let made' = subst (λ r. IsMade r was now seen) exchange made in
+        let made' = subst (λ r. RequestMade r was now seen) exchange made in
         elim (exchange_did _ _ _ was now seen made') [
           | won from there others saw ↦ count_none (count helper.walk.next) (at_from at_entry.0 (good.raised helper.walk.next at_entry.0 at_entry.1) (view_in site was took_before helper.walk.next at_entry.0) (k.offered.lives helper.walk.next at_entry.0 at_entry.1) from).1
           | lost differs same saw ↦ absurd (true≢false _ win saw)

@@ -6,7 +6,7 @@ use Rattle.cas_executor_laws.specs.ExecRuns.Act.{Steps, Changes}
 use Rattle.cas_executor_laws.specs.Entries.{View, Later}
 use Rattle.cas_executor_laws.specs.Parts.{view_in}
 use Rattle.cas_executor_laws.proofs.Memories.{memory_of}
-use Rattle.cas_executor_laws.proofs.WorldSites.{site_of}
+use Rattle.cas_executor_laws.proofs.SitesInside.{site_of}
 use Rattle.cas_executor_laws.proofs.Kept.{took_of, kept, run_later, change_later}
 
 -- an entry of a world

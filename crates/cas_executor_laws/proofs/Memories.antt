@@ -3,19 +3,19 @@ use Rattle.std.proofs.Common.{◌≡◌, ◌≢◌, ap, ℕ, ◌<◌, if◌then�
 use Rattle.std.proofs.lemmas.Bool.{lt-ltb}
 use Rattle.step_memory.specs.declared.steps.Request.{Request}
 use Rattle.step_memory.specs.declared.steps.Seen.{Seen}
-use Rattle.step_memory.specs.Step.{place_of, words_after, seen_at, seen_of}
+use Rattle.step_memory.specs.Step.{requested_place, words_after, seen_at, seen_of}
 use Rattle.step_memory.proofs.Words.{word_at_place, word_elsewhere}
-use Rattle.cas_executor_laws.specs.Parts.{IsMade}
+use Rattle.cas_executor_laws.specs.Parts.{RequestMade}
 
 -- the words by their places
 abbrev pub memory_of : List ℕ → ℕ → ℕ
 memory_of words at = slice_index words at
 
-told : (request : Request) (words : List ℕ) → place_of request < length words → seen_of request words ≡ seen_at request (memory_of words (place_of request))
+told : (request : Request) (words : List ℕ) → requested_place request < length words → seen_of request words ≡ seen_at request (memory_of words (requested_place request))
 unfolding seen_of
-told request words inside = ap (λ b. if b then seen_at request (memory_of words (place_of request)) else (let past : Seen = record { before = 0; won = false } in past)) (lt-ltb (place_of request) (length words) inside)
+told request words inside = ap (λ b. if b then seen_at request (memory_of words (requested_place request)) else (let past : Seen = record { before = 0; won = false } in past)) (lt-ltb (requested_place request) (length words) inside)
 
-pub step_made : (request : Request) (words : List ℕ) → place_of request < length words → IsMade request (memory_of words) (memory_of (words_after request words)) (seen_of request words)
+pub step_made : (request : Request) (words : List ℕ) → requested_place request < length words → RequestMade request (memory_of words) (memory_of (words_after request words)) (seen_of request words)
 step_made request words inside =
     record {
       here = word_at_place request words inside;

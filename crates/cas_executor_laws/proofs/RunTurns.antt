@@ -1,9 +1,9 @@
 -- What a step of a run does to each entry of its block.
 use Rattle.std.proofs.Common.{◌≡◌, ◌≢◌, ◌∙◌, refl, sym, ℕ, ◌+◌, ◌<◌, Bool, true, false, ◌⊎◌, inl, inr, List, length, Some, arith}
 use Rattle.step_memory.specs.declared.steps.Seen.{Seen}
-use Rattle.step_memory.specs.Step.{place_of}
+use Rattle.step_memory.specs.Step.{requested_place}
 use Rattle.node_arena.specs.declared.places.TheConstants.{STATE_FIELD}
-use Rattle.node_arena.proofs.PlaceLemmas.{same_field}
+use Rattle.node_arena.proofs.PlacesApart.{same_field}
 use Rattle.normal_traits.specs.declared.lists.Entry.{Entry}
 use Rattle.cas_executor.specs.declared.slow_run.SlowStep.{SlowStep}
 use Rattle.cas_executor.specs.declared.slow_run.SlowStep.TheVariants.{LoadState, Install, LoadTarget, Succeed, Fail, LoadDecision, Clear}
@@ -11,7 +11,7 @@ use Rattle.cas_executor.specs.SlowRuns.{installs, state_place, step_request}
 use Rattle.cas_executor_laws.specs.ExecRuns.{IsEntry}
 use Rattle.cas_executor_laws.specs.Entries.{View, Turn, LeavesBit}
 use Rattle.cas_executor_laws.specs.Entries.Turn.{stays, installs as turns_installed, succeeds, fails, clears}
-use Rattle.cas_executor_laws.specs.Parts.{Site, IsSite, IsMade, KnowsEntry, view_in}
+use Rattle.cas_executor_laws.specs.Parts.{Site, IsSite, RequestMade, KnowsEntry, view_in}
 use Rattle.cas_executor_laws.proofs.Exchanges.{load_leaves, exchange_did}
 use Rattle.cas_executor_laws.proofs.Exchanges.Exchanged.{won, lost}
 
@@ -41,7 +41,7 @@ module _ (site : Site) (is : IsSite site) (words after : ℕ → ℕ) (took took
   abbrev all_stays : ((place : ℕ) → after place ≡ words place) → took' j ≡ took j → OwnTurn entry (view_in site words took j entry) (view_in site after took' j entry)
   all_stays leaves same = record { turn = stays (leaves (state_place site.block j)) (leaves entry.target) same; leaves = tt }
 
-  pub own_turn : (step : SlowStep) → IsMade (step_request site.block j entry step) words after seen → KnowsEntry step entry (view_in site words took j entry)
+  pub own_turn : (step : SlowStep) → RequestMade (step_request site.block j entry step) words after seen → KnowsEntry step entry (view_in site words took j entry)
       → (installs step ≡ true → seen.won ≡ true → took' j ≡ true) → (installs step ≡ false ⊎ seen.won ≡ false → took' j ≡ took j)
       → OwnTurn entry (view_in site words took j entry) (view_in site after took' j entry)
   own_turn LoadState made knows wins same = all_stays (load_leaves _ words after seen made) (same (inl refl))
@@ -71,7 +71,7 @@ module _ (site : Site) (is : IsSite site) (words after : ℕ → ℕ) (took took
   -- ---- another entry
 
   -- the places of another entry are none of a step on this one
-  pub state_beside : (step : SlowStep) (i : ℕ) → i < length site.entries → i ≢ j → state_place site.block i ≢ place_of (step_request site.block j entry step)
+  pub state_beside : (step : SlowStep) (i : ℕ) → i < length site.entries → i ≢ j → state_place site.block i ≢ requested_place (step_request site.block j entry step)
   state_beside LoadState i within' apart = states_apart site.block i j (omega (arith, within', is.short)) few apart
   state_beside Succeed i within' apart = states_apart site.block i j (omega (arith, within', is.short)) few apart
   state_beside Fail i within' apart = states_apart site.block i j (omega (arith, within', is.short)) few apart
@@ -80,7 +80,7 @@ module _ (site : Site) (is : IsSite site) (words after : ℕ → ℕ) (took took
   state_beside LoadTarget i within' apart = λ e. is.outside i j entry (omega (arith, within', is.short)) listed (sym e)
   state_beside Clear i within' apart = λ e. is.outside i j entry (omega (arith, within', is.short)) listed (sym e)
 
-  pub target_beside : (step : SlowStep) (i : ℕ) (other : Entry) → IsEntry site.entries i other → i ≢ j → other.target ≢ place_of (step_request site.block j entry step)
+  pub target_beside : (step : SlowStep) (i : ℕ) (other : Entry) → IsEntry site.entries i other → i ≢ j → other.target ≢ requested_place (step_request site.block j entry step)
   target_beside LoadState i other listed' apart = is.outside j i other few listed'
   target_beside Succeed i other listed' apart = is.outside j i other few listed'
   target_beside Fail i other listed' apart = is.outside j i other few listed'
@@ -90,7 +90,7 @@ module _ (site : Site) (is : IsSite site) (words after : ℕ → ℕ) (took took
   target_beside Clear i other listed' apart = λ e. apart (is.apart i j other entry listed' listed e)
 
   -- so nothing of it changes
-  pub other_turn : (step : SlowStep) → IsMade (step_request site.block j entry step) words after seen → (i : ℕ) (other : Entry) → i < length site.entries → IsEntry site.entries i other → i ≢ j → took' i ≡ took i
+  pub other_turn : (step : SlowStep) → RequestMade (step_request site.block j entry step) words after seen → (i : ℕ) (other : Entry) → i < length site.entries → IsEntry site.entries i other → i ≢ j → took' i ≡ took i
       → OwnTurn other (view_in site words took i other) (view_in site after took' i other)
   other_turn step made i other within' listed' apart same =
       record {

@@ -3,7 +3,7 @@
 use Rattle.std.specs.Prelude.{◌≡◌, ◌≢◌, ℕ, ◌<◌, ◌≤◌, Bool, true, false, ◌⊎◌, List, length}
 use Rattle.step_memory.specs.declared.steps.Request.{Request}
 use Rattle.step_memory.specs.declared.steps.Seen.{Seen}
-use Rattle.step_memory.specs.Step.{place_of, word_after, seen_at}
+use Rattle.step_memory.specs.Step.{requested_place, word_after, seen_at}
 use Rattle.normal_traits.specs.declared.lists.Entry.{Entry}
 use Rattle.cas_executor.specs.declared.fast_run.Execution.{Execution}
 use Rattle.cas_executor.specs.declared.fast_run.Execution.TheVariants.{Running, Stopped}
@@ -70,10 +70,10 @@ pub record Deed (site : Site) (words : ℕ → ℕ) (took : ℕ → Bool) (after
   pub decided : (j : ℕ) → j < length site.entries → after (state_place site.block j) ≢ words (state_place site.block j) → (i : ℕ) → i < j → words (state_place site.block i) ≡ state_word Succeeded
 
 -- what an atomic step does to a memory that has its place, and what it tells
-pub record IsMade (request : Request) (words after : ℕ → ℕ) (seen : Seen) : Type 0 where
-  pub here : after (place_of request) ≡ word_after request (words (place_of request))
-  pub beside : (at : ℕ) → at ≢ place_of request → after at ≡ words at
-  pub tells : seen ≡ seen_at request (words (place_of request))
+pub record RequestMade (request : Request) (words after : ℕ → ℕ) (seen : Seen) : Type 0 where
+  pub here : after (requested_place request) ≡ word_after request (words (requested_place request))
+  pub beside : (at : ℕ) → at ≢ requested_place request → after at ≡ words at
+  pub tells : seen ≡ seen_at request (words (requested_place request))
 
 -- ---- helpers
 

@@ -2,7 +2,7 @@
 use Rattle.std.specs.Prelude.{◌≡◌, ℕ, zero, suc, ◌%◌, ◌^◌, List, [], ◌∷◌, ◌++◌, length, Some, None}
 use Rattle.arrayvec.specs.ArrayVec.{ArrayVec}
 use Rattle.step_memory.specs.declared.steps.Seen.{Seen}
-use Rattle.step_memory.specs.Step.{place_of}
+use Rattle.step_memory.specs.Step.{requested_place}
 use Rattle.node_arena.specs.declared.places.TheConstants.{OP_FIELD, VALUE_FIELD, LENGTH_FIELD}
 use Rattle.node_arena.specs.MemoryMap.{block_place}
 use Rattle.normal_traits.specs.declared.lists.Entry.{Entry}
@@ -66,11 +66,11 @@ ReadsBegin = (words : ℕ → ℕ) (block : ℕ) → IsReadOf words (read_new bl
 -- a load of the block's own word keeps that
 abbrev pub ReadsGoOn : Type 0
 ReadsGoOn =
-    (words : ℕ → ℕ) (walk : ReadWalk) (seen : Seen) → IsReading walk → IsReadOf words walk → seen.before ≡ words (place_of (read_request walk))
+    (words : ℕ → ℕ) (walk : ReadWalk) (seen : Seen) → IsReading walk → IsReadOf words walk → seen.before ≡ words (requested_place (read_request walk))
     → read_result walk seen ≡ None → IsReadOf words (read_fed walk seen)
 
 -- and what the read gives is what the block holds
 abbrev pub ReadsAreExact : Type 0
 ReadsAreExact =
-    (words : ℕ → ℕ) (walk : ReadWalk) (seen : Seen) (given : ℕ × ℕ × ArrayVec Entry) → IsReading walk → IsReadOf words walk → seen.before ≡ words (place_of (read_request walk))
+    (words : ℕ → ℕ) (walk : ReadWalk) (seen : Seen) (given : ℕ × ℕ × ArrayVec Entry) → IsReading walk → IsReadOf words walk → seen.before ≡ words (requested_place (read_request walk))
     → read_result walk seen ≡ Some given → given ≡ stored_in words walk.block

@@ -12,7 +12,7 @@ use Rattle.report_check.specs.Sayings.{verdict_text}
 use Rattle.report_check.specs.Verdicts.{verdict}
 use Rattle.checking.specs.declared.stops.Stop.{Stop}
 use Rattle.checking.specs.declared.stops.Stop.TheVariants.{Usage}
-use Rattle.checking.specs.Reading.{IsReportThere, AreNamesThere, OpensUntil, StopsAt}
+use Rattle.checking.specs.Reading.{IsReportThere, AreNamesThere, OpensUntil, StopsReading}
 use Rattle.checking.specs.Stops.{status_of, message_of}
 use Rattle.checking.specs.Words.{Check}
 
@@ -34,7 +34,7 @@ verdict_status (NotLegal objection) = 8
 -- why a call stops: its words ask for nothing that is served, or reading stopped at a file, or there was no memory
 abbrev pub StopsFor : Bool → (List ℕ → Option (List ℕ)) → Option Check → Stop → Type 0
 StopsFor tells held None stop = stop ≡ Usage
-StopsFor tells held (Some check) stop = StopsAt tells held check stop
+StopsFor tells held (Some check) stop = StopsReading tells held check stop
 
 -- which files were opened for what is asked
 abbrev pub OpensFor : {X : Type 0} → Option Check → ℕ → List Opening → List Opening → Result X Stop → Type 0

@@ -60,11 +60,11 @@ module _ (tells : Bool) (held : List ℕ → Option (List ℕ)) (check : Check) 
   Reaches file.Order = AcceptsReport
 
   -- why reading stopped
-  abbrev pub StopsAt : Stop → Type 0
-  StopsAt Usage = ⊥
-  StopsAt (Refused why) = Refuses why
-  StopsAt (ReadFault file) = Reaches file
-  StopsAt NoMemory = Unit {0}
+  abbrev pub StopsReading : Stop → Type 0
+  StopsReading Usage = ⊥
+  StopsReading (Refused why) = Refuses why
+  StopsReading (ReadFault file) = Reaches file
+  StopsReading NoMemory = Unit {0}
 
 -- the files up to this one were opened, in order and once, and there was no fault before the last of them was
 abbrev pub Opens : Check → CheckedFile → ℕ → List Opening → List Opening → Type 0

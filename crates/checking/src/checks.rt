@@ -5,7 +5,7 @@ ghost use Rattle.whole_files.specs.Outside.{Rose, AppendsPrefix, WritesMessage};
 ghost use Rattle.report_check.specs.Sayings.{verdict_text};
 ghost use Rattle.report_check.specs.declared.verdicts.Verdict.{Verdict};
 ghost use Rattle.checking.specs.Checking.{IsVerdictOn, OpensFor, StopsFor, verdict_status};
-ghost use Rattle.checking.specs.Reading.{FaultsAsTold, Opens, OpensUntil, Reaches, Refuses, StopsAt};
+ghost use Rattle.checking.specs.Reading.{FaultsAsTold, Opens, OpensUntil, Reaches, Refuses, StopsReading};
 ghost use Rattle.checking.specs.Stops.{status_of, file_of, USAGE_MESSAGE, NO_MEMORY_MESSAGE, refused_message, unread_message};
 ghost use Rattle.checking.specs.Words.{check_words, said};
 ghost use Rattle.checking.specs.declared.checked.CheckedFile.{CheckedFile};
@@ -28,7 +28,7 @@ fn check_files<F: Files>(
     files: &mut F,
 ) -> Result<Verdict, Stop>
     ensures verdict { IfOk result (IsVerdictOn (F.tells files.old) (F.held files.old) (said check.now)) }
-    ensures stops { IfErr result (StopsAt (F.tells files.old) (F.held files.old) (said check.now)) }
+    ensures stops { IfErr result (StopsReading (F.tells files.old) (F.held files.old) (said check.now)) }
     ensures faults { FaultsAsTold (F.faults files.old) (F.faults files.new) result }
     ensures opened { OpensUntil (said check.now) (F.faults files.old) (F.opened files.old) (F.opened files.new) result }
     ensures held { (n : List ℕ) → F.held files.new n ≡ F.held files.old n }

@@ -3,7 +3,7 @@ use Rattle.std.proofs.Common.{◌≡◌, ◌≢◌, ℕ, ◌+◌, ◌<◌, ◌�
 use Rattle.std.proofs.lemmas.Bool.{false≢true, le-leb, ne_eqb}
 use Rattle.node_arena.specs.declared.places.TheConstants.{FIRST_WORDS}
 use Rattle.node_arena.specs.MemoryMap.{block_place, node_place, block_at, field_at, reference_to, NamesNode, is_root_place}
-use Rattle.node_arena.proofs.PlaceLemmas.{block_place_behind, block_at-block_place, field_at-block_place, node_place-reference_to, node_place_behind, same_node, same_node_field}
+use Rattle.node_arena.proofs.PlacesApart.{block_place_behind, block_at-block_place, field_at-block_place, node_place-reference_to, node_place_behind, same_node, same_node_field}
 use Rattle.normal_traits.specs.World.{World, is_state, is_word}
 
 -- ---- a client's words

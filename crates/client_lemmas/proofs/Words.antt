@@ -2,7 +2,7 @@
 use Rattle.std.proofs.Common.{◌≡◌, ◌≢◌, ℕ, ◌^◌, ◌≤◌, ◌<◌, Bool, true, false, refl, sym, ap, ◌∙◌, subst, inl, inr, ◌⊎◌, arith}
 use Rattle.std.proofs.lemmas.Bool.{true≢false, cases_eq, eqb-false}
 use Rattle.word_fields.specs.Versioned.{versioned_value, versioned_bit, versioned_version, cleared_word, is_modified}
-use Rattle.word_fields.proofs.VersionedLemmas.{bit_below, version-cleared, cleared-clear}
+use Rattle.word_fields.proofs.ChangedWords.{bit_below, version-cleared, cleared-clear}
 use Rattle.normal_traits.specs.declared.lists.Entry.{Entry}
 use Rattle.normal_traits.specs.World.{World, is_word}
 use Rattle.normal_traits.specs.Steps.{IsExchanged, with_word}

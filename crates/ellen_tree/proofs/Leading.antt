@@ -7,7 +7,7 @@ use Rattle.tree_help.specs.Updates.{inner}
 use Rattle.ellen_tree_form.specs.Words.{is_internal}
 use Rattle.ellen_tree_form.specs.Shape.{Shape, IsNamed, OnWay, keys, child_of, is_left, way}
 use Rattle.ellen_tree_form.specs.Shape.OnWay.{root, below}
-use Rattle.ellen_tree_form.proofs.Ways.{InRange, way_in, next_in, children_of, inner_is, leaf_names}
+use Rattle.ellen_tree_form.proofs.Order.SwingWays.{InRange, way_in, next_in, children_of, inner_is, leaf_names}
 use Rattle.ellen_tree.specs.TreeShape.{IsEnd, TreeShape}
 
 module _ (world : World) (shape : Shape world) (key : ℕ) (limit : key < KEY_LIMIT) where

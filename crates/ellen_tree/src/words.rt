@@ -3,7 +3,7 @@ ghost use Rattle.std.specs.Prelude.{◌≡◌, ◌<◌, ◌^◌};
 ghost use Rattle.ellen_tree_form.specs.Words.{child_at, is_internal, key_at, leaf_key_at, leaf_value_at, update_at};
 
 use node_arena::places::{NODE_KEY, NODE_VALUE};
-use node_arena::{node_place, place_of};
+use node_arena::{block_place, node_place};
 
 /// The field of a block that has the key of its internal node, node 2.
 const INNER_KEY: u32 = 17;
@@ -28,7 +28,7 @@ pub fn child_at(node: u32, left: bool) -> u32
     requires { node < 2 ^ 22 }
     ensures { result ≡ child_at node left }
 {
-    place_of(node, if left { LEFT_CHILD } else { RIGHT_CHILD })
+    block_place(node, if left { LEFT_CHILD } else { RIGHT_CHILD })
 }
 
 /// The place of an internal node's update word.
@@ -37,7 +37,7 @@ pub fn update_at(node: u32) -> u32
     requires { node < 2 ^ 22 }
     ensures { result ≡ update_at node }
 {
-    place_of(node, UPDATE)
+    block_place(node, UPDATE)
 }
 
 /// The place of an internal node's key.
@@ -46,7 +46,7 @@ pub fn key_at(node: u32) -> u32
     requires { node < 2 ^ 22 }
     ensures { result ≡ key_at node }
 {
-    place_of(node, INNER_KEY)
+    block_place(node, INNER_KEY)
 }
 
 /// The place of a leaf's key.

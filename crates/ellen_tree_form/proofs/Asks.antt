@@ -3,10 +3,10 @@ use Rattle.std.proofs.Common.{◌≡◌, ℕ, ◌+◌, ◌*◌, ◌^◌, ◌<◌
 use Rattle.std.proofs.lemmas.Bool.{true≢false, le-leb, or_left, or_right}
 use Rattle.lin_report.specs.declared.calls.Op.{Op}
 use Rattle.word_fields.specs.Versioned.{versioned_value, versioned_bit, value_below}
-use Rattle.word_fields.proofs.VersionedLemmas.{bit-changed}
+use Rattle.word_fields.proofs.ChangedWords.{bit-changed}
 use Rattle.node_arena.specs.declared.places.TheConstants.{FIRST_WORDS}
 use Rattle.node_arena.specs.MemoryMap.{block_place, node_place, reference_to}
-use Rattle.node_arena.proofs.PlaceLemmas.{block_place_behind, field_at-block_place, node_place-reference_to}
+use Rattle.node_arena.proofs.PlacesApart.{block_place_behind, field_at-block_place, node_place-reference_to}
 use Rattle.normal_traits.specs.World.{Listed, World, is_word, no_root}
 use Rattle.normal_traits.specs.Laws.{AsksWell}
 use Rattle.tree_help.specs.declared.states.Flag.{Flag}
@@ -30,9 +30,9 @@ use Rattle.ellen_tree_form.specs.Knowledge.{Knows, Follows, FollowsInsert, Follo
 use Rattle.ellen_tree_form.specs.Form.{tree_form}
 use Rattle.ellen_tree_form.proofs.Fields.{field_word}
 use Rattle.ellen_tree_form.proofs.Plain.{both_ops}
-use Rattle.ellen_tree_form.proofs.Ways.{field_small}
-use Rattle.ellen_tree_form.proofs.Wraps.{own_block, state_below}
-use Rattle.ellen_tree_form.proofs.Swings.{removes}
+use Rattle.ellen_tree_form.proofs.Order.SwingWays.{field_small}
+use Rattle.ellen_tree_form.proofs.Helps.Wraps.{own_block, state_below}
+use Rattle.ellen_tree_form.proofs.Helps.Swings.{removes}
 
 -- ---- words
 

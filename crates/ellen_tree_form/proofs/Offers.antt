@@ -11,7 +11,7 @@ use Rattle.lin_report.specs.Commands.{KEY_LIMIT}
 use Rattle.lin_report.specs.Object.{IsCommandOf, map_object}
 use Rattle.node_arena.specs.declared.places.TheConstants.{FIRST_WORDS}
 use Rattle.node_arena.specs.MemoryMap.{block_place, field_at, reference_to}
-use Rattle.node_arena.proofs.PlaceLemmas.{field_at-block_place, same_field, node_place-reference_to}
+use Rattle.node_arena.proofs.PlacesApart.{field_at-block_place, same_field, node_place-reference_to}
 use Rattle.normal_traits.specs.World.{World}
 use Rattle.normal_traits.specs.Laws.{IsGoodEntry, IsGoodOffer, IsGoodStore}
 use Rattle.tree_help.specs.declared.states.TheConstants.{INSERTING, DELETING}
@@ -25,7 +25,7 @@ use Rattle.ellen_tree_form.specs.Knowledge.{Knows, HasPassed, IsClear}
 use Rattle.ellen_tree_form.specs.Form.{tree_form}
 use Rattle.ellen_tree_form.proofs.Fields.{field_word}
 use Rattle.ellen_tree_form.proofs.Asks.{update_versioned, update_listed}
-use Rattle.ellen_tree_form.proofs.Ways.{field_small}
+use Rattle.ellen_tree_form.proofs.Order.SwingWays.{field_small}
 use Rattle.client_lemmas.proofs.Offers.{one_entry}
 
 -- ---- stores by their fields

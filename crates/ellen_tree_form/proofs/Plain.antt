@@ -3,7 +3,7 @@ use Rattle.std.proofs.Common.{◌≡◌, ◌≢◌, ℕ, zero, suc, ◌+◌, ◌
 use Rattle.std.specs.Prelude.{◌==◌, if◌then◌else◌, slice_get, Some, None, IsTrue, All, nat_le}
 use Rattle.std.proofs.lemmas.Bool.{eqb-true, ne_eqb, or_left, or_right}
 use Rattle.word_fields.specs.Versioned.{versioned_value, versioned_bit, versioned_version, is_modified}
-use Rattle.word_fields.proofs.VersionedLemmas.{value-changed}
+use Rattle.word_fields.proofs.ChangedWords.{value-changed}
 use Rattle.lin_report.specs.declared.calls.Op.{Op}
 use Rattle.lin_report.specs.declared.calls.TheConstants.{SET, REM}
 use Rattle.lin_report.specs.Object.{map_object}
@@ -11,7 +11,7 @@ use Rattle.lin_report.specs.Commands.{may_exhaust}
 use Rattle.lin_report.specs.declared.calls.Reply.TheVariants.{Yes}
 use Rattle.node_arena.specs.declared.places.TheConstants.{FIRST_WORDS}
 use Rattle.node_arena.specs.MemoryMap.{block_place, field_at}
-use Rattle.node_arena.proofs.PlaceLemmas.{field_at-block_place, same_block}
+use Rattle.node_arena.proofs.PlacesApart.{field_at-block_place, same_block}
 use Rattle.step_memory.specs.declared.steps.Seen.{Seen}
 use Rattle.normal_traits.specs.declared.form.Found.TheVariants as found
 use Rattle.normal_traits.specs.declared.lists.Entry.{Entry}
@@ -30,7 +30,7 @@ use Rattle.ellen_tree_form.specs.Shape.OnWay.{root}
 use Rattle.ellen_tree_form.specs.Knowledge.{Knows, Dead, Keeps}
 use Rattle.ellen_tree_form.specs.Knowledge.Reaches.{on}
 use Rattle.ellen_tree_form.specs.Form.{tree_form}
-use Rattle.ellen_tree_form.proofs.Journal.{took_of, flagger_flagged}
+use Rattle.ellen_tree_form.proofs.Helps.Journal.{took_of, flagger_flagged}
 use Rattle.client_lemmas.proofs.Growing.{all_among}
 use Rattle.client_lemmas.proofs.Entries.{the_entry}
 

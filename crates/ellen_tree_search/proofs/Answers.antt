@@ -15,7 +15,7 @@ use Rattle.lin_report.specs.Commands.{KEY_LIMIT}
 use Rattle.lin_report.specs.Object.{IsCommandOf, map_object, map_apply, value_or_absent, yes_if}
 use Rattle.node_arena.specs.declared.places.TheConstants.{NODE_VALUE}
 use Rattle.node_arena.specs.MemoryMap.{block_at, node_place, reference_to}
-use Rattle.node_arena.proofs.PlaceLemmas.{block_at-node_place, block-reference_to}
+use Rattle.node_arena.proofs.PlacesApart.{block_at-node_place, block-reference_to}
 use Rattle.normal_traits.specs.World.{World, StandsFor, RightSince, held_after, first_changes}
 use Rattle.normal_traits.specs.Laws.{IsFixed}
 use Rattle.ellen_tree_form.specs.declared.states.Passed.{Passed}
@@ -24,8 +24,8 @@ use Rattle.ellen_tree_form.specs.Search.{leaf_of, told}
 use Rattle.ellen_tree_form.specs.Shape.{Shape}
 use Rattle.ellen_tree_form.specs.Knowledge.{HasLeaf}
 use Rattle.ellen_tree_form.specs.Form.{tree_form}
-use Rattle.ellen_tree_form.proofs.Later.{same_later}
-use Rattle.ellen_tree_steps.proofs.Lasting.{leaf_plain}
+use Rattle.ellen_tree_form.proofs.Steps.Later.{same_later}
+use Rattle.ellen_tree_steps.proofs.Lists.FlagsLast.{leaf_plain}
 
 -- ---- the map
 

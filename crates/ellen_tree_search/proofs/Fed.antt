@@ -20,8 +20,8 @@ use Rattle.ellen_tree_form.specs.Shape.{Shape}
 use Rattle.ellen_tree_form.specs.Knowledge.{Knows, Follows}
 use Rattle.ellen_tree_form.specs.Form.{tree_form}
 use Rattle.ellen_tree_form.proofs.Offers.{key_limit}
-use Rattle.ellen_tree_form.proofs.Later.{later}
-use Rattle.ellen_tree_form.proofs.Spares.{spares}
+use Rattle.ellen_tree_form.proofs.Steps.Later.{later}
+use Rattle.ellen_tree_form.proofs.Steps.Spares.{spares}
 use Rattle.ellen_tree_search.proofs.KnowsKept.{knows_kept}
 use Rattle.ellen_tree_search.proofs.Helping.{help_follows, help_fits_on}
 use Rattle.ellen_tree_search.proofs.Passing.{update_fed, child_fed}

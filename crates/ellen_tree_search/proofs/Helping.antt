@@ -3,7 +3,7 @@ use Rattle.std.proofs.Common.{◌≡◌, ◌≢◌, ℕ, ◌+◌, ◌*◌, ◌^�
 use Rattle.std.specs.Prelude.{◌==◌, if◌then◌else◌}
 use Rattle.std.proofs.lemmas.Bool.{eqb-true, eq-eqb, and_parts}
 use Rattle.word_fields.specs.Versioned.{versioned_value, versioned_bit, is_modified}
-use Rattle.word_fields.proofs.VersionedLemmas.{bit_below}
+use Rattle.word_fields.proofs.ChangedWords.{bit_below}
 use Rattle.node_arena.specs.MemoryMap.{block_place}
 use Rattle.step_memory.specs.declared.steps.Seen.{Seen}
 use Rattle.normal_traits.specs.World.{Listed, World}
@@ -30,13 +30,13 @@ use Rattle.ellen_tree_form.specs.Shape.{Shape, Flagged, HasFlag, HasMark, is_nod
 use Rattle.ellen_tree_form.specs.Knowledge.{Follows, FollowsInsert, FollowsDelete, FollowsMark, IsFlag}
 use Rattle.ellen_tree_form.specs.Form.{tree_form}
 use Rattle.ellen_tree_form.proofs.Plain.{marked_value}
-use Rattle.ellen_tree_form.proofs.Owners.{up_value}
-use Rattle.ellen_tree_form.proofs.Swings.{removes}
-use Rattle.ellen_tree_form.proofs.WrapFed.{insert_well, delete_well}
-use Rattle.ellen_tree_form.proofs.Later.{Later}
-use Rattle.ellen_tree_form.proofs.Spares.{Spares}
-use Rattle.ellen_tree_form.proofs.Kept.{follows_later}
-use Rattle.ellen_tree_steps.proofs.Waiting.{flag_states}
+use Rattle.ellen_tree_form.proofs.Helps.Owners.{up_value}
+use Rattle.ellen_tree_form.proofs.Helps.Swings.{removes}
+use Rattle.ellen_tree_form.proofs.Helps.WrapFed.{insert_well, delete_well}
+use Rattle.ellen_tree_form.proofs.Steps.Later.{Later}
+use Rattle.ellen_tree_form.proofs.Steps.Spares.{Spares}
+use Rattle.ellen_tree_form.proofs.Helps.FollowedStays.{follows_later}
+use Rattle.ellen_tree_steps.proofs.Lists.Waiting.{flag_states}
 use Rattle.ellen_tree_search.proofs.Known.{flag_is}
 
 -- the update word of the node that has a child's place

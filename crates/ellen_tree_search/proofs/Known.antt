@@ -3,7 +3,7 @@ use Rattle.std.proofs.Common.{◌≡◌, ◌≢◌, ℕ, ◌+◌, ◌*◌, Bool,
 use Rattle.std.specs.Prelude.{◌==◌, if◌then◌else◌}
 use Rattle.std.proofs.lemmas.Bool.{eq-eqb, ne_eqb}
 use Rattle.word_fields.specs.Versioned.{versioned_value, versioned_bit, value_below}
-use Rattle.word_fields.proofs.VersionedLemmas.{cleared-clear}
+use Rattle.word_fields.proofs.ChangedWords.{cleared-clear}
 use Rattle.normal_traits.specs.World.{Listed, World}
 use Rattle.tree_help.specs.declared.states.Flag.{Flag}
 use Rattle.tree_help.specs.declared.states.Help.TheVariants as helps
@@ -18,8 +18,8 @@ use Rattle.ellen_tree_form.specs.Search.{flag_of}
 use Rattle.ellen_tree_form.specs.Shape.{Shape, HasFlag, HasMark, IsFlagger, Inserts, Removes, is_node, flags_at, flag_state}
 use Rattle.ellen_tree_form.specs.Knowledge.{Follows, IsFlag, IsKnown}
 use Rattle.ellen_tree_form.proofs.Plain.{marked_value, both_ops}
-use Rattle.ellen_tree_form.proofs.Owners.{up_value}
-use Rattle.ellen_tree_steps.proofs.Waiting.{up_alive}
+use Rattle.ellen_tree_form.proofs.Helps.Owners.{up_value}
+use Rattle.ellen_tree_steps.proofs.Lists.Waiting.{up_alive}
 
 -- ---- help of a word by its state
 

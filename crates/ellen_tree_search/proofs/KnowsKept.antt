@@ -19,27 +19,27 @@ use Rattle.ellen_tree_form.specs.Shape.{Shape, is_node, is_left, flag_state}
 use Rattle.ellen_tree_form.specs.Knowledge.{Knows, Learnt, Reaches, IsKnown, HasPassed, CameFrom, IsAt, HasLeaf, SawUpdate}
 use Rattle.ellen_tree_form.specs.Form.{tree_form}
 use Rattle.ellen_tree_form.proofs.Plain.{both_ops, marked_value}
-use Rattle.ellen_tree_form.proofs.Owners.{up_value}
-use Rattle.ellen_tree_form.proofs.Ways as swung
-use Rattle.ellen_tree_form.proofs.InsertWays as linked
-use Rattle.ellen_tree_form.proofs.Ways.{child_same, child_update, field_small}
-use Rattle.ellen_tree_form.proofs.Wraps.{with_other}
+use Rattle.ellen_tree_form.proofs.Helps.Owners.{up_value}
+use Rattle.ellen_tree_form.proofs.Order.SwingWays as swung
+use Rattle.ellen_tree_form.proofs.Order.InsertWays as linked
+use Rattle.ellen_tree_form.proofs.Order.SwingWays.{child_same, child_update, field_small}
+use Rattle.ellen_tree_form.proofs.Helps.Wraps.{with_other}
 use Rattle.ellen_tree_form.proofs.Asks.{node_word}
 use Rattle.ellen_tree_form.proofs.Offers.{key_limit}
-use Rattle.ellen_tree_form.proofs.Later.{Later, later, seen_later, passed_on}
-use Rattle.ellen_tree_form.proofs.Spares.{Spares, spares}
-use Rattle.ellen_tree_form.proofs.Kept.{follows_later}
+use Rattle.ellen_tree_form.proofs.Steps.Later.{Later, later, seen_later, passed_on}
+use Rattle.ellen_tree_form.proofs.Steps.Spares.{Spares, spares}
+use Rattle.ellen_tree_form.proofs.Helps.FollowedStays.{follows_later}
 use Rattle.ellen_tree_steps.specs.Effects.{Links, Swings, Effect}
 use Rattle.ellen_tree_steps.specs.Effects.Effect.{quiet, sets, links, marks, swings, ends}
-use Rattle.ellen_tree_steps.proofs.Lasting.{node_later, key_later, left_later, leaf_field_later}
-use Rattle.ellen_tree_steps.proofs.Told.{length_later, was_told_later}
-use Rattle.ellen_tree_steps.proofs.Asides.{reaches_stays}
-use Rattle.ellen_tree_steps.proofs.KeptQuiet.{child_quiet}
-use Rattle.ellen_tree_steps.proofs.KeptSwing.{apart}
-use Rattle.ellen_tree_steps.proofs.SwingForm.{to_gone, leaf_out}
-use Rattle.ellen_tree_steps.proofs.LinkForm as new
-use Rattle.ellen_tree_steps.proofs.ChildWords.{child_cases}
-use Rattle.ellen_tree_steps.proofs.Waiting.{up_dirty}
+use Rattle.ellen_tree_steps.proofs.Lists.FlagsLast.{node_later, key_later, left_later, leaf_field_later}
+use Rattle.ellen_tree_steps.proofs.Lists.Told.{length_later, was_told_later}
+use Rattle.ellen_tree_steps.proofs.Order.Asides.{reaches_stays}
+use Rattle.ellen_tree_steps.proofs.Shape.KeptQuiet.{child_quiet}
+use Rattle.ellen_tree_steps.proofs.Shape.KeptSwing.{apart}
+use Rattle.ellen_tree_steps.proofs.Order.SwingForm.{to_gone, leaf_out}
+use Rattle.ellen_tree_steps.proofs.Order.LinkForm as new
+use Rattle.ellen_tree_steps.proofs.Words.ChildWords.{child_cases}
+use Rattle.ellen_tree_steps.proofs.Lists.Waiting.{up_dirty}
 use Rattle.ellen_tree_steps.proofs.Steps.{effect_of}
 
 module _ (world after : World) (shape : Shape world) (l : Later world after) (s : Spares world after) where

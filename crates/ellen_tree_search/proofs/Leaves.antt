@@ -3,7 +3,7 @@ use Rattle.std.proofs.Common.{◌≡◌, ◌≢◌, ℕ, ◌≤◌, Bool, true, 
 use Rattle.std.specs.Prelude.{◌==◌, if◌then◌else◌, Some, None}
 use Rattle.std.proofs.lemmas.Bool.{eqb-true, eq-eqb, and_parts, true≢false}
 use Rattle.word_fields.specs.Versioned.{versioned_bit, is_modified}
-use Rattle.word_fields.proofs.VersionedLemmas.{bit_below}
+use Rattle.word_fields.proofs.ChangedWords.{bit_below}
 use Rattle.lin_report.specs.declared.calls.Op.{Op}
 use Rattle.lin_report.specs.Object.{IsCommandOf, map_object}
 use Rattle.normal_traits.specs.declared.form.Found.{Found}

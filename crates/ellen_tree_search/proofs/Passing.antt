@@ -18,8 +18,8 @@ use Rattle.ellen_tree_form.specs.Shape.{Shape, IsBelow, is_node, made_node, chil
 use Rattle.ellen_tree_form.specs.Shape.OnWay.{below}
 use Rattle.ellen_tree_form.specs.Knowledge.{Learnt, Reaches, WasTold, HasPassed, IsAt, SawUpdate}
 use Rattle.ellen_tree_form.specs.Knowledge.Reaches.{on, off, told}
-use Rattle.ellen_tree_form.proofs.Ways.{inner_same, inner_is, inner_block, leaf_names, told_now}
-use Rattle.ellen_tree_steps.proofs.Waiting.{brought}
+use Rattle.ellen_tree_form.proofs.Order.SwingWays.{inner_same, inner_is, inner_block, leaf_names, told_now}
+use Rattle.ellen_tree_steps.proofs.Lists.Waiting.{brought}
 use Rattle.ellen_tree_search.proofs.Known.{known_now}
 use Rattle.client_lemmas.proofs.Growing.{first_all}
 

@@ -3,11 +3,11 @@ use Rattle.std.proofs.Common.{◌≡◌, ℕ, ◌+◌, ◌*◌, ◌^◌, ◌<◌
 use Rattle.std.specs.Prelude.{◌==◌, nat_lt, Some, None}
 use Rattle.std.proofs.lemmas.Bool.{eq-eqb, ne_eqb}
 use Rattle.word_fields.specs.Versioned.{versioned_value, versioned_version, value_below}
-use Rattle.word_fields.proofs.VersionedLemmas.{value-changed, changed_below}
+use Rattle.word_fields.proofs.ChangedWords.{value-changed, changed_below}
 use Rattle.lin_report.specs.declared.calls.Reply.TheVariants.{Yes}
 use Rattle.lin_report.specs.Object.{map_object, map_apply}
 use Rattle.step_memory.specs.declared.steps.Seen.{Seen}
-use Rattle.node_arena.proofs.PlaceLemmas.{block_at-block_place}
+use Rattle.node_arena.proofs.PlacesApart.{block_at-block_place}
 use Rattle.normal_traits.specs.declared.lists.Entry.{Entry}
 use Rattle.normal_traits.specs.World.{Listed, World, held_after}
 use Rattle.normal_traits.specs.World.Maker.{Beside}
@@ -25,11 +25,11 @@ use Rattle.ellen_tree_form.specs.Shape.{Shape, Flagged, Removes, RemoveStands, C
 use Rattle.ellen_tree_form.specs.Knowledge.{FollowsInsert, FollowsDelete, IsFlag}
 use Rattle.ellen_tree_form.specs.Form.{tree_form}
 use Rattle.ellen_tree_form.proofs.Plain.{update_same, both_ops, marked_value}
-use Rattle.ellen_tree_form.proofs.Ways.{field_small, child_same}
-use Rattle.ellen_tree_form.proofs.Wraps.{own_block, no_child}
-use Rattle.ellen_tree_form.proofs.Owners.{adds_own, swing_stands, child_is, up_block}
-use Rattle.ellen_tree_form.proofs.Swings.{removes, swing_yes}
-use Rattle.ellen_tree_form.proofs.Links.{link_yes, link_waits}
+use Rattle.ellen_tree_form.proofs.Order.SwingWays.{field_small, child_same}
+use Rattle.ellen_tree_form.proofs.Helps.Wraps.{own_block, no_child}
+use Rattle.ellen_tree_form.proofs.Helps.Owners.{adds_own, swing_stands, child_is, up_block}
+use Rattle.ellen_tree_form.proofs.Helps.Swings.{removes, swing_yes}
+use Rattle.ellen_tree_form.proofs.Helps.Links.{link_yes, link_waits}
 use Rattle.ellen_tree_form.proofs.Asks.{inserts}
 use Rattle.ellen_tree_steps.specs.Effects.{IsQuiet, IsBeside, Effect}
 use Rattle.ellen_tree_steps.specs.Effects.Effect.{quiet, links, marks, swings, ends}

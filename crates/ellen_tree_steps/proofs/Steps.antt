@@ -3,7 +3,7 @@ use Rattle.std.proofs.Common.{◌≡◌, ℕ, ◌+◌, ◌*◌, ◌^◌, ◌<◌
 use Rattle.std.specs.Prelude.{slice_get, Some}
 use Rattle.std.proofs.lemmas.Bool.{true≢false, cases_eq}
 use Rattle.word_fields.specs.Versioned.{cleared_word}
-use Rattle.word_fields.proofs.VersionedLemmas.{changed_below}
+use Rattle.word_fields.proofs.ChangedWords.{changed_below}
 use Rattle.lin_report.specs.declared.calls.Op.{Op}
 use Rattle.step_memory.specs.declared.steps.Request.TheVariants.{Load}
 use Rattle.step_memory.specs.declared.steps.Seen.{Seen}
@@ -31,19 +31,19 @@ use Rattle.ellen_tree_form.specs.Shape.{Shape, IsFlagger, flag_state, flags_at}
 use Rattle.ellen_tree_form.specs.Knowledge.{Knows, Follows, FollowsInsert, FollowsDelete, FollowsMark}
 use Rattle.ellen_tree_form.specs.Form.{tree_form}
 use Rattle.ellen_tree_form.proofs.Plain.{both_ops, offered_entries}
-use Rattle.ellen_tree_form.proofs.Wraps.{with_here, with_other, state_below}
-use Rattle.ellen_tree_form.proofs.Later.{Later, later}
-use Rattle.ellen_tree_form.proofs.Spares.{Spares, spares}
+use Rattle.ellen_tree_form.proofs.Helps.Wraps.{with_here, with_other, state_below}
+use Rattle.ellen_tree_form.proofs.Steps.Later.{Later, later}
+use Rattle.ellen_tree_form.proofs.Steps.Spares.{Spares, spares}
 use Rattle.ellen_tree_steps.specs.Effects.{Effect}
 use Rattle.ellen_tree_steps.specs.Effects.Effect.{quiet, sets, links, marks, swings, ends}
 use Rattle.ellen_tree_steps.proofs.Exchanges.{same_quiet, link_effect, swing_effect, mark_effect, end_effect}
-use Rattle.ellen_tree_steps.proofs.Setting.{won_by, cleared_fits, flagger_insert, flagger_remove}
-use Rattle.ellen_tree_steps.proofs.KeptQuiet.{shape_quiet}
-use Rattle.ellen_tree_steps.proofs.KeptSet.{shape_set}
-use Rattle.ellen_tree_steps.proofs.KeptLink.{shape_link}
-use Rattle.ellen_tree_steps.proofs.KeptMark.{shape_mark}
-use Rattle.ellen_tree_steps.proofs.KeptSwing.{shape_swing}
-use Rattle.ellen_tree_steps.proofs.KeptEnd.{shape_end}
+use Rattle.ellen_tree_steps.proofs.Lists.Setting.{won_by, cleared_fits, flagger_insert, flagger_remove}
+use Rattle.ellen_tree_steps.proofs.Shape.KeptQuiet.{shape_quiet}
+use Rattle.ellen_tree_steps.proofs.Shape.KeptSet.{shape_set}
+use Rattle.ellen_tree_steps.proofs.Shape.KeptLink.{shape_link}
+use Rattle.ellen_tree_steps.proofs.Shape.KeptMark.{shape_mark}
+use Rattle.ellen_tree_steps.proofs.Shape.KeptSwing.{shape_swing}
+use Rattle.ellen_tree_steps.proofs.Shape.KeptEnd.{shape_end}
 use Rattle.client_lemmas.proofs.Entries.{the_entry, no_second}
 
 -- ---- requests

@@ -1,7 +1,7 @@
-pub mod SeatLemmas
+pub mod SeatsStay
 pub mod Seating
-pub mod CoreLemmas
-pub mod PendingLemmas
+pub mod StepsAreMoves
+pub mod PendingGathered
 pub mod Rooms
 pub mod Publications
 pub mod StepEvents

@@ -16,7 +16,7 @@ use Rattle.run_queue.specs.Premises.{KeepsQueue}
 use Rattle.run_overtaking.proofs.EventRoom.{events_fit}
 use Rattle.event_core.specs.Cores.{HaveBegun, IsCore, IsRun}
 use Rattle.event_core.specs.Seats.{Seat, command_of, is_over, lines_owed}
-use Rattle.event_core.proofs.CoreLemmas.{mech_at, over_stays, put_same, seat_at}
+use Rattle.event_core.proofs.StepsAreMoves.{mech_at, over_stays, put_same, seat_at}
 
 module _ {S W : Type 0} where
   -- ---- calls begun

@@ -14,7 +14,7 @@ use Rattle.node_arena.specs.Opening.{opening_words}
 use Rattle.lin_report.specs.declared.calls.Receipt.{Receipt}
 use Rattle.lin_report.specs.declared.events.Event.{Event}
 use Rattle.event_core.specs.Cores.{HaveBegun, IsCore, IsRun, core_new, core_of, new_seats}
-use Rattle.event_core.proofs.CoreLemmas.{rebuilt}
+use Rattle.event_core.proofs.StepsAreMoves.{rebuilt}
 
 -- so many seats stand, and the others come from the files that are left
 pub record Seating {S W : Type 0} {F : Type 0} (commands : F → List Op) (form : NormalForm S W) (setup : Setup) (seats : List (Seat S W)) (room : ℕ) (rest files : List F) : Type 0 where

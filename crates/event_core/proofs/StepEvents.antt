@@ -6,7 +6,7 @@ use Rattle.std.proofs.lemmas.Bool.{and_parts, cases_Bool, cases_eq, eq-eqb, eqb-
 use Rattle.lin_report.specs.declared.events.Event.{Event}
 use Rattle.step_memory.specs.declared.steps.Request.{Request}
 use Rattle.step_memory.specs.declared.steps.Request.TheVariants.{Load, Store, Exchange, Add}
-use Rattle.step_memory.specs.Step.{place_of, words_after}
+use Rattle.step_memory.specs.Step.{requested_place, words_after}
 use Rattle.step_memory.proofs.Words.{load_keeps, word_elsewhere}
 use Rattle.word_fields.specs.Records.{record_phase, record_number}
 use Rattle.word_fields.specs.Seats.{queue_seats}
@@ -101,7 +101,7 @@ outside place s same few without =
 
 module _ (request : Request) (words : List ℕ) where
   abbrev place : ℕ
-  place = place_of request
+  place = requested_place request
 
   abbrev words' : List ℕ
   words' = words_after request words
@@ -146,7 +146,7 @@ module _ (request : Request) (words : List ℕ) where
   step_noted mech = ap (λ es. es ++ (option_to_list (mech_event mech) ++ published (queue_word words) (record_word_of words') (queue_seats (queue_word words')))) completed_is
       ∙ ap (λ es. option_to_list (completed_at place (slice_index words place) (slice_index words' place)) ++ (option_to_list (mech_event mech) ++ es)) published_is
 
-module _ {S W : Type 0} (form : NormalForm S W) (mech : Mech S W) (words words' now now' : List ℕ) (request : Request) (place before : ℕ) (tick : Option Event) (asks : request ≡ mech_request form mech) (at : place ≡ place_of request)
+module _ {S W : Type 0} (form : NormalForm S W) (mech : Mech S W) (words words' now now' : List ℕ) (request : Request) (place before : ℕ) (tick : Option Event) (asks : request ≡ mech_request form mech) (at : place ≡ requested_place request)
     (same : now ≡ words) (found : before ≡ slice_index now place) (left : words' ≡ words_after request words) (same' : now' ≡ words') (drawn : tick ≡ mech_event mech) where
   -- what is noted of a step is what it tells
   pub noted_step : noted tick place before now' ≡ step_events mech words words'
@@ -207,11 +207,11 @@ module _ {S W : Type 0} (form : NormalForm S W) where
         there = published (queue_word words) (record_word_of words) (queue_seats (queue_word words))
 
     -- nor is it by a step beyond the records
-    beyond_told : (request : Request) → nat_le (RECORDS + 8) (place_of request) ≡ true → step_events mech words (words_after request words) ≡ []
+    beyond_told : (request : Request) → nat_le (RECORDS + 8) (requested_place request) ≡ true → step_events mech words (words_after request words) ≡ []
     beyond_told request beyond =
         step_noted request words mech
-        ∙ ap (λ t. noted t (place_of request) (slice_index words (place_of request)) (words_after request words)) drawn
-        ∙ none_noted (place_of request) (slice_index words (place_of request)) (words_after request words) (leb-true (RECORDS + 8) (place_of request) beyond)
+        ∙ ap (λ t. noted t (requested_place request) (slice_index words (requested_place request)) (words_after request words)) drawn
+        ∙ none_noted (requested_place request) (slice_index words (requested_place request)) (words_after request words) (leb-true (RECORDS + 8) (requested_place request) beyond)
 
     nothing_told : (request : Request) → tells_nothing request ≡ true → step_events mech words (words_after request words) ≡ []
     nothing_told (Load at) nothing = ap (step_events mech words) (load_keeps at words) ∙ same_told
@@ -248,7 +248,7 @@ module _ {S W : Type 0} (form : NormalForm S W) where
 
   -- a tick is drawn at the tick counter, where nothing else is told
   tick_alone : (phase : Phase S W) (mech : Mech S W) (before : ℕ) (words : List ℕ) → is_some (event_in phase mech) ≡ true
-      → noted (event_in phase mech) (place_of (request_in form phase mech)) before words ≡ option_to_list (event_in phase mech)
+      → noted (event_in phase mech) (requested_place (request_in form phase mech)) before words ≡ option_to_list (event_in phase mech)
   tick_alone Begin mech before words some = refl
   tick_alone (End reply) mech before words some = refl
   tick_alone Idle mech before words some = absurd (search rules)
@@ -264,14 +264,14 @@ module _ {S W : Type 0} (form : NormalForm S W) where
   tick_alone (Value reference) mech before words some = absurd (search rules)
 
   module _ (mech : Mech S W) (words now : List ℕ) (left : now ≡ words_after (mech_request form mech) words) where
-    told : step_events mech words now ≡ noted (mech_event mech) (place_of (mech_request form mech)) (slice_index words (place_of (mech_request form mech))) now
+    told : step_events mech words now ≡ noted (mech_event mech) (requested_place (mech_request form mech)) (slice_index words (requested_place (mech_request form mech))) now
     told =
         ap (step_events mech words) left ∙ step_noted (mech_request form mech) words mech
-        ∙ ap (noted (mech_event mech) (place_of (mech_request form mech)) (slice_index words (place_of (mech_request form mech)))) (sym left)
+        ∙ ap (noted (mech_event mech) (requested_place (mech_request form mech)) (slice_index words (requested_place (mech_request form mech)))) (sym left)
 
     -- a step that draws a tick tells that alone
     pub tick_told : is_some (mech_event mech) ≡ true → option_to_list (mech_event mech) ≡ step_events mech words now
-    tick_told some = sym (told ∙ tick_alone mech.phase mech (slice_index words (place_of (mech_request form mech))) now some)
+    tick_told some = sym (told ∙ tick_alone mech.phase mech (slice_index words (requested_place (mech_request form mech))) now some)
 
     module _ (none : is_some (mech_event mech) ≡ false) where
       pub goes_on_over : ends mech.phase ≡ false
@@ -281,7 +281,7 @@ module _ {S W : Type 0} (form : NormalForm S W) where
       pub mark_told : (mark : Mark) → Some mark ≡ mark_of (mech_request form mech) words → marked mark now ≡ step_events mech words now
       mark_told mark is =
           ap (λ m. marked m now) (the_mark (tells_nothing (mech_request form mech)) mark _ is)
-          ∙ sym (told ∙ ap (λ t. noted t (place_of (mech_request form mech)) (slice_index words (place_of (mech_request form mech))) now) (undrawn mech.phase mech none).0)
+          ∙ sym (told ∙ ap (λ t. noted t (requested_place (mech_request form mech)) (slice_index words (requested_place (mech_request form mech))) now) (undrawn mech.phase mech none).0)
 
       -- one without a mark tells nothing
       pub unmarked_told : None ≡ mark_of (mech_request form mech) words → step_events mech words now ≡ []

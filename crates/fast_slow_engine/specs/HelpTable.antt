@@ -6,8 +6,8 @@ use Rattle.lin_report.specs.declared.calls.Outcome.TheVariants.{Plain}
 use Rattle.step_memory.specs.declared.steps.Request.{Request}
 use Rattle.step_memory.specs.declared.steps.Request.TheVariants.{Load, Exchange, Add}
 use Rattle.step_memory.specs.declared.steps.Seen.{Seen}
-use Rattle.word_fields.specs.declared.records.Phase as marks
-use Rattle.word_fields.specs.declared.records.Phase.TheVariants as record_phases
+use Rattle.word_fields.specs.declared.records.RecordPhase as marks
+use Rattle.word_fields.specs.declared.records.RecordPhase.TheVariants as record_phases
 use Rattle.word_fields.specs.Announced.{op_number, value_number}
 use Rattle.word_fields.specs.Records.{record_phase, record_number, packed_record, record_of}
 use Rattle.node_arena.specs.declared.places.TheConstants.{QUEUE, CLAIMS}
@@ -131,7 +131,7 @@ module _ {S W : Type 0} (form : NormalForm S W) where
   read_work read (Some given) word = given_work (announced_op given.0 given.1) given.2.items word
 
   -- the head was found there: what is done depends on the word's phase
-  abbrev pub first_work : marks.Phase → ℕ → Work S W
+  abbrev pub first_work : marks.RecordPhase → ℕ → Work S W
   first_work record_phases.Executing word = work.Read (read_new (named_block word))
   first_work record_phases.Wrapping word = work.Read (read_new (named_block word))
   first_work _ word = work.Op

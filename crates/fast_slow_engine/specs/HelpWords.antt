@@ -4,8 +4,8 @@ use Rattle.lin_report.specs.declared.calls.Op.{Op}
 use Rattle.lin_report.specs.declared.calls.Reply.TheVariants as reply
 use Rattle.lin_report.specs.declared.calls.Outcome.{Outcome}
 use Rattle.lin_report.specs.declared.calls.Outcome.TheVariants.{Plain, ValueOf}
-use Rattle.word_fields.specs.declared.records.Phase as marks
-use Rattle.word_fields.specs.declared.records.Phase.TheVariants as record_phases
+use Rattle.word_fields.specs.declared.records.RecordPhase as marks
+use Rattle.word_fields.specs.declared.records.RecordPhase.TheVariants as record_phases
 use Rattle.word_fields.specs.Announced.{op_code, op_key, announced_value}
 use Rattle.word_fields.specs.Payloads.{payload_block, payload_stop, wrapping_payload}
 use Rattle.word_fields.specs.Records.{record_number, record_round, record_payload, record_word, record_of}
@@ -36,7 +36,7 @@ abbrev pub told_word : ℕ → Outcome → ℕ
 told_word word outcome = completed_word (record_of word) (fitted outcome)
 
 -- whether a record in this phase names a block whose list is executed
-abbrev pub is_executing : marks.Phase → Bool
+abbrev pub is_executing : marks.RecordPhase → Bool
 is_executing record_phases.Executing = true
 is_executing _ = false
 

@@ -16,7 +16,7 @@ use Rattle.step_memory.specs.declared.steps.Request.TheVariants.{Load, Store, Ad
 use Rattle.step_memory.specs.declared.steps.Seen.{Seen}
 use Rattle.word_fields.specs.Announced.{op_word, value_word}
 use Rattle.node_arena.specs.declared.places.TheConstants.{TICKS, QUEUE, CLAIMS, NODE_VALUE}
-use Rattle.word_fields.specs.declared.records.Phase.TheVariants as record_phase
+use Rattle.word_fields.specs.declared.records.RecordPhase.TheVariants as record_phase
 use Rattle.word_fields.specs.Records.{record_word}
 use Rattle.node_arena.specs.MemoryMap.{node_place, op_place, value_place, record_place}
 use Rattle.help_queue.specs.declared.enter.Entering.{Entering}

@@ -15,7 +15,7 @@ use cas_executor::{Execution, SlowRun};
 use lin_report::Op;
 use normal_traits::{List, Normalized, Wrapped};
 use step_memory::Seen;
-use word_fields::{Phase as RecordPhase, RecordWord};
+use word_fields::{RecordPhase, RecordWord};
 
 /// Goes on by what has come of a wrap-up that is in this state.
 fn wrapped<C: Normalized>(

@@ -7,7 +7,7 @@ use normal_traits::List;
 use op_record::complete;
 use step_memory::Request;
 use word_fields::payloads::{self, pack_wrapping};
-use word_fields::{OpWord, Phase as RecordPhase, RecordWord, ValueWord};
+use word_fields::{OpWord, RecordPhase, RecordWord, ValueWord};
 
 /// The operation of an op word and a value word.
 pub fn announced_op(op: u64, value: u64) -> Op

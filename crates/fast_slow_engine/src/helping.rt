@@ -32,7 +32,7 @@ use node_arena::places::QUEUE;
 use node_arena::{op_place, record_place, value_place};
 use normal_traits::{Normalized, Stores};
 use step_memory::{Request, Seen};
-use word_fields::{OpWord, Phase as RecordPhase, RecordWord, ValueWord};
+use word_fields::{OpWord, RecordPhase, RecordWord, ValueWord};
 
 /// The seat that is helped, and its record as it was loaded.
 #[derive(Clone, Copy, Debug, PartialEq, Eq)]

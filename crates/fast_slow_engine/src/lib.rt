@@ -2,6 +2,7 @@
 #![tactic(auto)]
 
 pub use call::Call;
+pub use contention::Contention;
 pub use fast::{fill_for, spend};
 pub use help::{Help, Helping, Work, WorkTurn};
 pub use machine::Machine;
@@ -11,6 +12,7 @@ pub use setup::{Setup, Turn};
 pub use tried::Tried;
 
 pub mod call;
+pub mod contention;
 mod doing;
 mod executing;
 mod fast;
@@ -27,4 +29,6 @@ pub mod setup;
 mod slow;
 mod steps;
 pub mod stores;
+#[cfg(test)]
+mod tests;
 pub mod tried;

@@ -4,6 +4,7 @@ ghost use Rattle.lin_report.specs.declared.calls.Receipt.{Receipt};
 ghost use Rattle.fast_slow_engine.specs.declared.setup.Turn.{Turn};
 
 use crate::call::Call;
+use crate::contention::Contention;
 use crate::doing::{Doing, Room};
 use crate::fast::try_again;
 use crate::phases::{Applying, Generating};
@@ -13,7 +14,7 @@ use crate::setup::{Setup, Turn};
 use crate::steps::go_on;
 use crate::tried::Tried;
 use lin_report::{Event, EventKind, Op, Path, PendingCall, Receipt};
-use normal_traits::{Contention, Normalized, Stores};
+use normal_traits::{Normalized, Stores};
 use std::marker::Model;
 use step_memory::{Request, Seen};
 

@@ -3,7 +3,7 @@ ghost use Rattle.std.specs.Prelude.{◌≡◌, ◌+◌, ◌<◌, ◌≤◌, ◌^
 ghost use Rattle.fast_slow_engine.specs.OfferStores.{call_stores, entry_stores, note_stores};
 
 use lin_report::Op;
-use node_arena::place_of;
+use node_arena::block_place;
 use node_arena::places::{
     ENTRY_FIELD, ENTRY_FIELDS, LENGTH_FIELD, OP_FIELD, OWNER_FIELD, VALUE_FIELD,
 };
@@ -20,18 +20,18 @@ pub fn store_call(stores: &mut Stores, block: u32, seat: u32, number: u16, op: O
     ensures { stores.new.items ≡ call_stores block seat number op }
 {
     stores.clear();
-    stores.push((place_of(block, OWNER_FIELD), pack_owner(seat, number)));
+    stores.push((block_place(block, OWNER_FIELD), pack_owner(seat, number)));
     let op_word = OpWord {
         code: op.code,
         number,
         key: op.key,
     };
-    stores.push((place_of(block, OP_FIELD), op_word.pack()));
+    stores.push((block_place(block, OP_FIELD), op_word.pack()));
     let value_word = ValueWord {
         number,
         value: op.value,
     };
-    stores.push((place_of(block, VALUE_FIELD), value_word.pack()));
+    stores.push((block_place(block, VALUE_FIELD), value_word.pack()));
 }
 
 /// The same with the length of the list.
@@ -43,7 +43,7 @@ pub fn store_notes(stores: &mut Stores, block: u32, seat: u32, number: u16, op: 
     ensures { stores.new.items ≡ note_stores block seat number op length }
 {
     store_call(stores, block, seat, number, op);
-    stores.push((place_of(block, LENGTH_FIELD), u64::from(length)));
+    stores.push((block_place(block, LENGTH_FIELD), u64::from(length)));
 }
 
 /// Puts the three words of entry j last, where there is one.
@@ -57,7 +57,7 @@ pub fn store_entry(stores: &mut Stores, block: u32, j: u32, list: &List)
         return;
     };
     let field = ENTRY_FIELD + ENTRY_FIELDS * j;
-    stores.push((place_of(block, field), u64::from(entry.target)));
-    stores.push((place_of(block, field + 1), entry.from));
-    stores.push((place_of(block, field + 2), entry.to));
+    stores.push((block_place(block, field), u64::from(entry.target)));
+    stores.push((block_place(block, field + 1), entry.from));
+    stores.push((block_place(block, field + 2), entry.to));
 }

@@ -9,9 +9,9 @@ use Rattle.lin_report.specs.declared.calls.Reply.{Reply}
 use Rattle.lin_report.specs.declared.calls.Reply.TheVariants.{Yes, No}
 use Rattle.lin_report.specs.declared.calls.TheConstants.{SET, REM}
 use Rattle.lin_report.specs.Object.{map_apply, set_absent, value_or_absent, yes_if}
-use Rattle.node_arena.proofs.PlaceLemmas.{same_field, same_block}
+use Rattle.node_arena.proofs.PlacesApart.{same_field, same_block}
 use Rattle.word_fields.specs.Versioned.{versioned_value, versioned_bit}
-use Rattle.word_fields.proofs.VersionedLemmas.{value-changed, bit-changed}
+use Rattle.word_fields.proofs.ChangedWords.{value-changed, bit-changed}
 use Rattle.flagged_register_form.specs.Register.{FLAG, REGISTER, note_place, flag_value, flag_word, is_in, toggles, decided, decided_value, decision_place, toggled_value, value_at}
 use Rattle.client_lemmas.proofs.Words.{value_small}
 

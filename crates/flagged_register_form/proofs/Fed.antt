@@ -3,10 +3,10 @@ use Rattle.std.proofs.Common.{◌||◌, ◌≡◌, ◌≢◌, ℕ, ◌+◌, ◌/
 use Rattle.std.specs.Prelude.{◌==◌, if◌then◌else◌}
 use Rattle.std.proofs.lemmas.Bool.{eqb-true, eq-eqb, or_left, or_right}
 use Rattle.node_arena.specs.MemoryMap.{field_at}
-use Rattle.node_arena.proofs.PlaceLemmas.{field_at-block_place}
+use Rattle.node_arena.proofs.PlacesApart.{field_at-block_place}
 use Rattle.lin_report.specs.declared.calls.TheConstants.{GET}
 use Rattle.word_fields.specs.Versioned.{versioned_value, versioned_bit, versioned_version, cleared_word, changed_word}
-use Rattle.word_fields.proofs.VersionedLemmas.{cleared-clear}
+use Rattle.word_fields.proofs.ChangedWords.{cleared-clear}
 use Rattle.lin_report.specs.declared.calls.Op.{Op}
 use Rattle.lin_report.specs.declared.calls.Reply.TheVariants.{Yes}
 use Rattle.lin_report.specs.Object.{map_object, map_apply, IsCommandOf}

@@ -3,7 +3,7 @@ use Rattle.std.specs.Prelude.{if◌then◌else◌, ◌==◌, Some, None}
 use Rattle.std.proofs.lemmas.Bool.{eq-eqb}
 use Rattle.std.proofs.Common.{subst, ◌/◌, ◌≡◌, ◌≢◌, ℕ, ◌+◌, ◌<◌, ◌≤◌, true, false, length, sym, ap, ◌∙◌, inl, inr, ◌⊎◌, arith, Bool, None}
 use Rattle.word_fields.specs.Versioned.{versioned_value, versioned_bit, versioned_version, changed_word}
-use Rattle.word_fields.proofs.VersionedLemmas.{version-cleared, value-cleared}
+use Rattle.word_fields.proofs.ChangedWords.{version-cleared, value-cleared}
 use Rattle.lin_report.specs.declared.calls.Op.{Op}
 use Rattle.normal_traits.specs.World.{Listed, Won, Change, World, Among}
 use Rattle.normal_traits.specs.Steps.{with_word}

@@ -15,7 +15,7 @@ use Rattle.lin_report.specs.Object.{map_apply, set_absent, value_or_absent, yes_
 use Rattle.lin_report.specs.Commands.{takes_key, may_exhaust, KEY_LIMIT}
 use Rattle.node_arena.specs.declared.places.TheConstants.{NODE_VALUE}
 use Rattle.node_arena.specs.MemoryMap.{node_place, block_at}
-use Rattle.node_arena.proofs.PlaceLemmas.{node_place-reference_to, block_at-block_place, field_at-block_place}
+use Rattle.node_arena.proofs.PlacesApart.{node_place-reference_to, block_at-block_place, field_at-block_place}
 use Rattle.word_fields.specs.Versioned.{versioned_value}
 use Rattle.normal_traits.specs.World.{World, StandsFor}
 use Rattle.normal_traits.specs.Laws.{IsFixed}

@@ -3,9 +3,9 @@ use Rattle.std.proofs.Common.{◌≡◌, ◌≢◌, ℕ, ◌+◌, ◌/◌, ◌<�
 use Rattle.std.specs.Prelude.{◌==◌, if◌then◌else◌, slice_get, Some, None}
 use Rattle.std.proofs.lemmas.Bool.{eq-eqb, ne_eqb, eqb-true}
 use Rattle.node_arena.specs.MemoryMap.{block_place, block_at}
-use Rattle.node_arena.proofs.PlaceLemmas.{block_at-block_place}
+use Rattle.node_arena.proofs.PlacesApart.{block_at-block_place}
 use Rattle.word_fields.specs.Versioned.{versioned_value, versioned_version, changed_word, cleared_word}
-use Rattle.word_fields.proofs.VersionedLemmas.{value-cleared}
+use Rattle.word_fields.proofs.ChangedWords.{value-cleared}
 use Rattle.lin_report.specs.declared.calls.Op.{Op}
 use Rattle.lin_report.specs.Object.{map_object}
 use Rattle.step_memory.specs.declared.steps.Request.TheVariants.{Load, Exchange}

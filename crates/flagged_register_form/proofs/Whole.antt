@@ -13,7 +13,7 @@ use Rattle.lin_report.specs.Object.{map_object}
 use Rattle.lin_report.specs.Commands.{may_exhaust}
 use Rattle.node_arena.specs.Opening.{opening_word}
 use Rattle.node_arena.specs.MemoryMap.{block_place, field_at}
-use Rattle.node_arena.proofs.PlaceLemmas.{field_at-block_place, same_field}
+use Rattle.node_arena.proofs.PlacesApart.{field_at-block_place, same_field}
 use Rattle.step_memory.specs.declared.steps.Seen.{Seen}
 use Rattle.normal_traits.specs.declared.form.Found.TheVariants as found
 use Rattle.normal_traits.specs.declared.form.Wrapped.TheVariants as wrapped
@@ -283,32 +283,34 @@ beside world list entry shape e = by_test (entry.target == REGISTER) e
 
 pub flagged_laws : Laws flagged_form
 flagged_laws = record {
+  of_world = record {
+    effective = λ world newer older' change shape e. effective newer older' world.changes change shape.effective e;
+    one_change_a_list = λ world shape. shape.one_list;
+    one_change_a_block = λ world shape. shape.one_block;
+    causes_differ = λ world shape. shape.causes_differ;
+    causes_bounded = λ world shape. all_among (λ (won : Won). (world.used won.cause.block ≡ true) × (won.cause.kind < 8)) world.journal (λ item among. bounded world item.cause (shape.spent item among));
+    begins_asking = λ op command. tt;
+    begins_knowing = λ world op command shape. (omega arith, refl);
+    notes_plain = λ block field some low. note_plain block field low;
+    search_asks_well = λ world search op since command shape asking knows. search_asks world shape search op since asking knows;
+    contends = λ search seen asking e. absurd (contends search seen e);
+    lists = λ world search op since command knows ready. lists world search op since knows ready;
+    offers = λ world search op since block command shape knows ready small. offers world search op since block shape knows ready small;
+    same_entries = λ search op block other e. absurd cc;
+    wrap_asks_well = λ world help list stop shape asking follows. help_asks world shape help list follows;
+    wrap_begun = λ world list search since stop shape offered stopped. wrap_begun world list search since stop shape offered stopped;
+    dead_unchanged = λ world list change shape dead among. dead_unchanged world list change shape dead among;
+    dead_first = λ world list search since entry shape dead offered fresh listed'. dead_first world list search since entry dead offered fresh listed';
+    beside = λ world list entry shape e. beside world list entry shape e;
+    begun_fits = λ world list search since stop shape offered stopped. begun_fits list.call.op list.entries stop;
+  };
   opens = opens;
   shape_kept = λ world after shape step. effect_keeps world after shape (effect_of world after shape step);
-  effective = λ world newer older' change shape e. effective newer older' world.changes change shape.effective e;
-  one_change_a_list = λ world shape. shape.one_list;
-  one_change_a_block = λ world shape. shape.one_block;
-  causes_differ = λ world shape. shape.causes_differ;
-  causes_bounded = λ world shape. all_among (λ (won : Won). (world.used won.cause.block ≡ true) × (won.cause.kind < 8)) world.journal (λ item among. bounded world item.cause (shape.spent item among));
-  begins_asking = λ op command. tt;
-  begins_knowing = λ world op command shape. (omega arith, refl);
-  notes_plain = λ block field some low. note_plain block field low;
   knows_kept = λ world after search op since command shape knows step. knows_later world after shape (later world after shape (effect_of world after shape step)) search op since knows;
   follows_kept = λ world after help list stop shape follows step. helps_later world after shape (later world after shape (effect_of world after shape step)) help list follows;
   dead_kept = λ world after list shape dead step. dead_later world after list shape dead (effect_of world after shape step);
-  search_asks_well = λ world search op since command shape asking knows. search_asks world shape search op since asking knows;
   search_fed = λ world after seen search op since command shape asking knows r. search_fed_well world after seen search op since command shape asking knows r;
-  contends = λ search seen asking e. absurd (contends search seen e);
-  lists = λ world search op since command knows ready. lists world search op since knows ready;
-  offers = λ world search op since block command shape knows ready small. offers world search op since block shape knows ready small;
-  same_entries = λ search op block other e. absurd cc;
-  wrap_asks_well = λ world help list stop shape asking follows. help_asks world shape help list follows;
-  wrap_begun = λ world list search since stop shape offered stopped. wrap_begun world list search since stop shape offered stopped;
   wrap_fed = λ world after seen help list stop command shape asking follows r. wrap_fed_well world after seen list shape help stop follows r;
-  dead_unchanged = λ world list change shape dead among. dead_unchanged world list change shape dead among;
-  dead_first = λ world list search since entry shape dead offered fresh listed'. dead_first world list search since entry dead offered fresh listed';
-  beside = λ world list entry shape e. beside world list entry shape e;
   answers_fit = λ world after seen search op since command shape asking knows r. found_fits search seen;
-  begun_fits = λ world list search since stop shape offered stopped. begun_fits list.call.op list.entries stop;
   wraps_fit = λ world after seen help list stop command shape asking follows r. wrapped_fits help seen;
 }

@@ -7,7 +7,7 @@ use Rattle.normal_traits.specs.NormalForm.{NormalForm}
 use Rattle.fast_slow_engine.specs.Mechs.{Mech}
 use Rattle.fast_slow_engine.specs.PhaseTable.{rests}
 use Rattle.fast_slow_engine.specs.Runs.{run_of}
-use Rattle.run_laws.proofs.SeatLemmas.{seats_stay}
+use Rattle.run_laws.proofs.MachinesKept.{seats_stay}
 use Rattle.move_orders.specs.SeatLines.{lines_down, lines_of, ops_of}
 use Rattle.shared_memory.specs.declared.view.View.{View}
 use Rattle.shared_memory.specs.Closing.{Closes, lines_in}

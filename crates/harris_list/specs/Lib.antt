@@ -1,3 +1,3 @@
 pub mod ProvedLaws
-pub mod Walks
+pub mod WalkEnds
 pub mod Ways

@@ -9,7 +9,7 @@ ghost use Rattle.harris_list_form.specs.declared.states.ListSearch.TheVariants.{
 ghost use Rattle.harris_list_form.specs.Form.{list_form};
 ghost use Rattle.harris_list.specs.declared.way.Stage.TheVariants as stage;
 ghost use Rattle.harris_list.specs.Ways.{search_at};
-ghost use Rattle.harris_list.specs.Walks.{arrived};
+ghost use Rattle.harris_list.specs.WalkEnds.{arrived};
 
 use crate::deciding::{End, finish, move_on};
 use crate::list_steps::ListSteps;

@@ -9,7 +9,7 @@ ghost use Rattle.harris_list_form.specs.Search.{Asks, IsReady};
 ghost use Rattle.harris_list_form.specs.Form.{list_form};
 ghost use Rattle.harris_list.specs.declared.way.Stage.TheVariants as stage;
 ghost use Rattle.harris_list.specs.Ways.{search_at};
-ghost use Rattle.harris_list.specs.Walks.{least_arrived};
+ghost use Rattle.harris_list.specs.WalkEnds.{least_arrived};
 
 use crate::least::{keyed, meet, move_to, unlinked};
 use crate::list_steps::ListSteps;

@@ -10,7 +10,7 @@ use word_fields::VersionedWord;
 
 /// The value of a word.
 #[inline(always)]
-#[tactic(auto, using(word_fields::proofs::VersionedLemmas::versioned_words))]
+#[tactic(auto, using(word_fields::proofs::ChangedWords::versioned_words))]
 fn value_of(word: u64) -> u32
     ensures value { result ≡ versioned_value word }
     ensures small { result < 2 ^ 24 }

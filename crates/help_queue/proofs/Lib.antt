@@ -1,2 +1,2 @@
-pub mod GatherLemmas
-pub mod AnswerLemmas
+pub mod SeatsGathered
+pub mod StepsThatEnd

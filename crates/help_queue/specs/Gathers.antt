@@ -4,8 +4,8 @@ use Rattle.std.specs.Prelude.{◌≡◌, ℕ, zero, suc, ◌+◌, ◌-◌, ◌%�
 use Rattle.std.specs.List.{list_any}
 use Rattle.step_memory.specs.declared.steps.Request.{Request}
 use Rattle.step_memory.specs.declared.steps.Request.TheVariants.{Load, Exchange}
-use Rattle.word_fields.specs.declared.records.Phase.{Phase}
-use Rattle.word_fields.specs.declared.records.Phase.TheVariants.{Idle, Generate, Executing, Wrapping, Completed}
+use Rattle.word_fields.specs.declared.records.RecordPhase.{RecordPhase}
+use Rattle.word_fields.specs.declared.records.RecordPhase.TheVariants.{Idle, Generate, Executing, Wrapping, Completed}
 use Rattle.word_fields.specs.Records.{record_phase}
 use Rattle.word_fields.specs.Seats.{AreSeats, queue_seats}
 use Rattle.word_fields.specs.Queues.{queue_version, queue_word}
@@ -30,7 +30,7 @@ abbrev pub leads : ℕ → ℕ → Bool
 leads word seat = is_first seat (queue_seats word)
 
 -- a record in this phase is open: its call is published or about to be, and isn't completed
-abbrev pub is_open : Phase → Bool
+abbrev pub is_open : RecordPhase → Bool
 is_open Idle = false
 is_open Generate = true
 is_open Executing = true

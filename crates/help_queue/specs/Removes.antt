@@ -4,7 +4,7 @@ use Rattle.std.specs.Prelude.{◌≡◌, ℕ, ◌<◌, ◌≤◌, ◌^◌, ◌==
 use Rattle.step_memory.specs.declared.steps.Request.{Request}
 use Rattle.step_memory.specs.declared.steps.Request.TheVariants.{Load}
 use Rattle.step_memory.specs.declared.steps.Seen.{Seen}
-use Rattle.word_fields.specs.declared.records.Phase.TheVariants.{Completed}
+use Rattle.word_fields.specs.declared.records.RecordPhase.TheVariants.{Completed}
 use Rattle.word_fields.specs.Records.{record_phase, record_number}
 use Rattle.node_arena.specs.declared.places.TheConstants.{QUEUE}
 use Rattle.node_arena.specs.MemoryMap.{record_place}

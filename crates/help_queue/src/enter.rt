@@ -14,7 +14,7 @@ use node_arena::places::QUEUE;
 use op_record::outcome_of;
 use std::marker::Model;
 use step_memory::{Request, Seen};
-use word_fields::{Phase, RecordWord};
+use word_fields::{RecordPhase, RecordWord};
 
 /// What has come of entering.
 #[derive(Clone, Copy, Debug, PartialEq, Eq)]
@@ -47,7 +47,7 @@ pub fn outcome_or_done(word: u64) -> Outcome
 pub fn is_completed(word: u64) -> bool
     ensures { result ≡ Outcomes.is_completed (record_phase word) }
 {
-    RecordWord::unpack(word).phase == Phase::Completed
+    RecordWord::unpack(word).phase == RecordPhase::Completed
 }
 
 /// The owner of an announced call, that enters its seat into the queue word with all seats that it finds to

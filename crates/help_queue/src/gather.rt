@@ -12,7 +12,7 @@ use node_arena::record_place;
 use std::marker::Model;
 use step_memory::Request;
 use word_fields::queues::{head, members};
-use word_fields::{Phase, QueueWord, RecordWord};
+use word_fields::{QueueWord, RecordPhase, RecordWord};
 
 /// Whether a seat is among these.
 pub fn is_among(seat: u32, seats: &[u8]) -> bool
@@ -41,17 +41,17 @@ pub fn leads(word: u64, seat: u32) -> bool
 }
 
 /// Whether the call of a record in this phase isn't completed.
-pub fn is_open(phase: Phase) -> bool
+pub fn is_open(phase: RecordPhase) -> bool
     ensures { result ≡ is_open phase }
 {
     match phase {
-        Phase::Generate | Phase::Executing | Phase::Wrapping => true,
-        Phase::Idle | Phase::Completed => false,
+        RecordPhase::Generate | RecordPhase::Executing | RecordPhase::Wrapping => true,
+        RecordPhase::Idle | RecordPhase::Completed => false,
     }
 }
 
 /// The first seat from AT on, below SEATS, that a queue word doesn't hold, or SEATS where it holds them all.
-#[tactic(auto, using(crate::proofs::GatherLemmas::walk))]
+#[tactic(auto, using(crate::proofs::SeatsGathered::walk))]
 fn first_out(word: u64, at: u32, seats: u32) -> u32
     requires begun { at ≤ seats }
     requires few { seats ≤ 8 }
@@ -178,7 +178,7 @@ impl Gather {
     }
 
     /// The queue word with these of its seats, the found ones behind them, and the version one higher.
-    #[tactic(auto, using(crate::proofs::GatherLemmas::written))]
+    #[tactic(auto, using(crate::proofs::SeatsGathered::written))]
     fn with(&self, kept: ArrayVec<u8, 8>, version: u32) -> u64
         requires { AreSeats (kept.items ++ self.now.found) }
         ensures word { result ≡ queue_word (kept.items ++ self.now.found) ((version + 1) % 2 ^ 32) }
@@ -193,7 +193,7 @@ impl Gather {
     }
 
     /// The word that enters the found seats.
-    #[tactic(auto, using(crate::proofs::GatherLemmas::are_behind))]
+    #[tactic(auto, using(crate::proofs::SeatsGathered::are_behind))]
     pub fn entered(&self) -> u64
         ensures word { result ≡ entered_word self.now }
         ensures seats { queue_seats result ≡ queue_seats self.now.word ++ self.now.found }
@@ -204,7 +204,7 @@ impl Gather {
     }
 
     /// The word that removes the head, and enters the found seats.
-    #[tactic(auto, using(crate::proofs::GatherLemmas::are_behind))]
+    #[tactic(auto, using(crate::proofs::SeatsGathered::are_behind))]
     pub fn removed(&self) -> u64
         ensures word { result ≡ removed_word self.now }
         ensures seats { queue_seats result ≡ drop 1 (queue_seats self.now.word) ++ self.now.found }

@@ -4,7 +4,7 @@ ghost use Rattle.help_queue.specs.Heads.{head_of, is_other, record_met};
 
 use crate::Remove;
 use word_fields::queues::head;
-use word_fields::{Phase, RecordWord};
+use word_fields::{RecordPhase, RecordWord};
 
 /// The head of a queue word.
 pub fn head_of(word: u64) -> Option<u32>
@@ -31,7 +31,7 @@ pub fn removal_of(word: u64, seat: u32, seats: u32) -> Option<Remove>
 {
     let record = RecordWord::unpack(word);
     match record.phase {
-        Phase::Idle | Phase::Completed => Some(Remove::new(seat, record.number, seats)),
-        Phase::Generate | Phase::Executing | Phase::Wrapping => None,
+        RecordPhase::Idle | RecordPhase::Completed => Some(Remove::new(seat, record.number, seats)),
+        RecordPhase::Generate | RecordPhase::Executing | RecordPhase::Wrapping => None,
     }
 }

@@ -4,5 +4,5 @@ pub mod Totals
 pub mod Scenes
 pub mod Knowledge
 pub mod Frames
-pub mod GhostLemmas
+pub mod GhostsAfterSteps
 pub mod SceneLaws

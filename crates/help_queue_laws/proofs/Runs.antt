@@ -1,4 +1,4 @@
 -- All steps of a world, and the laws of its runs.
-pub mod RunLemmas
-pub mod WorldLemmas
-pub mod LawLemmas
+pub mod EveryRunHolds
+pub mod StepsOfCode
+pub mod LawsOfRuns

@@ -2,9 +2,9 @@
 pub mod Results
 pub mod GatherSteps
 pub mod EnterSteps
-pub mod HelpSteps
+pub mod HelpsWithoutChange
 pub mod WonSteps
-pub mod CallSteps
+pub mod AnnounceAndCollect
 pub mod OwnerSteps
 pub mod HelperSteps
-pub mod CallerSteps
+pub mod EveryStep

@@ -11,21 +11,31 @@ use lin_report::{Outcome, Reply};
 use op_record::outcome_of;
 use word_fields::owners::pack_owner;
 use word_fields::payloads::pack_wrapping;
-use word_fields::{OpWord, Phase, QueueWord, RecordWord, ValueWord, VersionedWord};
+use word_fields::{OpWord, QueueWord, RecordPhase, RecordWord, ValueWord, VersionedWord};
 
 #[test]
 fn records_name_their_phase_call_and_block(rt: HostRuntime) {
     for (word, phase, number, payload) in [
-        (GENERATE_1, Phase::Generate, 1, 0),
-        (EXECUTING_1, Phase::Executing, 1, 1),
-        (EXECUTING_1_IN_2, Phase::Executing, 1, 2),
-        (WRAPPING_1, Phase::Wrapping, 1, pack_wrapping(1, 1)),
-        (WRAPPING_1_IN_2, Phase::Wrapping, 1, pack_wrapping(2, 1)),
-        (GENERATE_2, Phase::Generate, 2, 0),
-        (EXECUTING_2, Phase::Executing, 2, 2),
-        (WRAPPING_2, Phase::Wrapping, 2, pack_wrapping(2, 1)),
-        (WRAPPING_2_BOTH, Phase::Wrapping, 2, pack_wrapping(2, 2)),
-        (GENERATE_3, Phase::Generate, 3, 0),
+        (GENERATE_1, RecordPhase::Generate, 1, 0),
+        (EXECUTING_1, RecordPhase::Executing, 1, 1),
+        (EXECUTING_1_IN_2, RecordPhase::Executing, 1, 2),
+        (WRAPPING_1, RecordPhase::Wrapping, 1, pack_wrapping(1, 1)),
+        (
+            WRAPPING_1_IN_2,
+            RecordPhase::Wrapping,
+            1,
+            pack_wrapping(2, 1),
+        ),
+        (GENERATE_2, RecordPhase::Generate, 2, 0),
+        (EXECUTING_2, RecordPhase::Executing, 2, 2),
+        (WRAPPING_2, RecordPhase::Wrapping, 2, pack_wrapping(2, 1)),
+        (
+            WRAPPING_2_BOTH,
+            RecordPhase::Wrapping,
+            2,
+            pack_wrapping(2, 2),
+        ),
+        (GENERATE_3, RecordPhase::Generate, 3, 0),
     ] {
         let record = RecordWord::unpack(word);
         assert!(rt; record.phase == phase && record.number == number && record.round == 0);

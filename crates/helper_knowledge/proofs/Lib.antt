@@ -1,6 +1,6 @@
 pub mod Offers
 pub mod Kept
 pub mod Own
-pub mod Won
+pub mod WonExchanges
 pub mod Queue
-pub mod LawLemmas
+pub mod LawsOfHelpers

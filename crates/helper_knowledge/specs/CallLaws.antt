@@ -20,7 +20,7 @@ use Rattle.offered_blocks.specs.Blocks.{Offer}
 use Rattle.move_kinds.specs.Owned.{RecordKnown}
 use Rattle.run_queue.specs.QueueLaws.{Wins}
 use Rattle.run_queue.specs.QueueRuns.{EachSeat, EveryRun}
-use Rattle.helper_knowledge.specs.Callers.{Follows, called, caller_of}
+use Rattle.helper_knowledge.specs.Callers.{KeepsCall, called, caller_of}
 use Rattle.helper_knowledge.specs.Meetings.{Meets}
 
 -- the word that a helper has loaded of its head's record, behind its look at the head, has at most the number that the
@@ -54,5 +54,5 @@ module _ {S W : Type 0} (form : NormalForm S W) where
   abbrev pub CallsFollow : Type 0
   CallsFollow =
       (mech : Mech S W) (op : Op) (seen : Seen) (count number : ℕ)
-      → Follows (caller_of (called mech) count) (caller_of (called (mech_fed form mech seen)) count) number
-      × ((now : ℕ) → number ≤ mech.number → Follows (caller_of (called mech) count) (caller_of (called (mech_fed form (begun (Some op) mech) seen)) now) number)
+      → KeepsCall (caller_of (called mech) count) (caller_of (called (mech_fed form mech seen)) count) number
+      × ((now : ℕ) → number ≤ mech.number → KeepsCall (caller_of (called mech) count) (caller_of (called (mech_fed form (begun (Some op) mech) seen)) now) number)

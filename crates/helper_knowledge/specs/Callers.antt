@@ -25,8 +25,8 @@ IfStill caller number P = caller.number ≡ number → P
 
 -- a seat that makes the call of this number after a move has made it before: so what holds of it as long as it is made
 -- is kept
-abbrev pub Follows : Caller → Caller → ℕ → Type 0
-Follows caller caller' number = caller'.number ≡ number → caller' ≡ caller
+abbrev pub KeepsCall : Caller → Caller → ℕ → Type 0
+KeepsCall caller caller' number = caller'.number ≡ number → caller' ≡ caller
 
 -- the op word and the value word of a seat, where they have the number of its call, are those of that call
 pub record HasAnnounced (world : World) (seat : ℕ) (caller : Caller) : Type 0 where

@@ -3,7 +3,7 @@ use Rattle.std.specs.Prelude.{◌≡◌, ℕ, ◌+◌, ◌^◌, ◌<◌, ◌≤�
 use Rattle.lin_report.specs.declared.calls.Op.{Op}
 use Rattle.lin_report.specs.Object.{IsCommandOf}
 use Rattle.step_memory.specs.declared.steps.Seen.{Seen}
-use Rattle.step_memory.specs.Step.{place_of}
+use Rattle.step_memory.specs.Step.{requested_place}
 use Rattle.word_fields.specs.Records.{record_phase, record_number}
 use Rattle.node_arena.specs.declared.places.TheConstants.{CLAIMS}
 use Rattle.node_arena.specs.MemoryMap.{op_place, value_place}
@@ -14,7 +14,7 @@ use Rattle.normal_traits.specs.NormalForm.{NormalForm}
 use Rattle.normal_traits.specs.Steps.{Requested, put_word}
 use Rattle.cas_executor.specs.BlockReads.{read_request}
 use Rattle.cas_executor.specs.SlowRuns.{slow_request}
-use Rattle.cas_executor_laws.specs.Parts.{IsMade}
+use Rattle.cas_executor_laws.specs.Parts.{RequestMade}
 use Rattle.fast_slow_engine.specs.declared.phases.Generating.TheVariants.{Search, LookForBlock, Claim}
 use Rattle.fast_slow_engine.specs.declared.help.Work.{Work}
 use Rattle.fast_slow_engine.specs.declared.help.Work.TheVariants as work
@@ -64,7 +64,7 @@ module _ {S W : Type 0} (form : NormalForm S W) (world after : World) (offers : 
   Steps (work.Generate op search Claim) = ((claims : ℕ) × (after ≡ put_word CLAIMS claims world)) × (own'.since ≡ own.since) × (seen.before < cap → NamesList search op (seen.before + 1))
   Steps (work.Fill stores made) = (own'.filled ≡ own.filled) × ((store : ℕ × ℕ) → slice_get stores.items made ≡ Some store → after ≡ put_word store.0 store.1 world)
   Steps (work.Advance to) = after ≡ world
-  Steps (work.Read read) = (after ≡ world) × (seen.before ≡ world.words (place_of (read_request read)))
+  Steps (work.Read read) = (after ≡ world) × (seen.before ≡ world.words (requested_place (read_request read)))
   Steps (work.Execute run) =
-      IsMade (slow_request run) world.words after.words seen × ((offer : Offer S) → offers (named_block word) ≡ Some offer → after ≡ ran_world form world offer run seen after.words)
+      RequestMade (slow_request run) world.words after.words seen × ((offer : Offer S) → offers (named_block word) ≡ Some offer → after ≡ ran_world form world offer run seen after.words)
   Steps (work.Wrap wrap) = Requested form (form.wrap_request_of wrap) world after seen

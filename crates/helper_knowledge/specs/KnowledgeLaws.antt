@@ -1,7 +1,7 @@
 -- What is so of helpers and of what they know, of any structure in normalized form.
 use Rattle.std.specs.Prelude.{◌≡◌, ◌≢◌, ℕ, ◌^◌, ◌<◌, true, List, length, Option, Some}
 use Rattle.step_memory.specs.declared.steps.Seen.{Seen}
-use Rattle.word_fields.specs.declared.records.Phase.{Phase}
+use Rattle.word_fields.specs.declared.records.RecordPhase.{RecordPhase}
 use Rattle.word_fields.specs.Records.{record_number}
 use Rattle.normal_traits.specs.World.{Called, World, is_word}
 use Rattle.normal_traits.specs.NormalForm.{NormalForm}
@@ -13,7 +13,7 @@ use Rattle.offered_blocks.specs.Holds.{HasOffers}
 use Rattle.offered_blocks.specs.OtherSteps.{IsSpare}
 use Rattle.move_kinds.specs.Contents.{HasContents}
 use Rattle.move_kinds.specs.Kinds.{Kind}
-use Rattle.helper_knowledge.specs.Callers.{Caller, Follows, caller_of}
+use Rattle.helper_knowledge.specs.Callers.{Caller, KeepsCall, caller_of}
 use Rattle.helper_knowledge.specs.Carried.{Carried}
 use Rattle.helper_knowledge.specs.HelperStep.{HandIsSpare, RestsOn, Steps, UsedSmall}
 use Rattle.helper_knowledge.specs.Knowing.{KnowsOffer}
@@ -29,13 +29,13 @@ module _ {S W : Type 0} (form : NormalForm S W) where
   abbrev pub KnowledgeKept : Type 0
   KnowledgeKept =
       (world after : World) (offers offers' : ℕ → Option (Offer S)) (mover : ℕ) (hand other : Option ℕ) → HasOffers form world offers → Kind form world after offers offers' mover hand → HandsApart world offers hand other
-      → (caller caller' : Caller) (head word : ℕ) (own : Carried S) (does : Work S W) → Follows caller caller' (record_number word) → CanWork form does
+      → (caller caller' : Caller) (head word : ℕ) (own : Carried S) (does : Work S W) → KeepsCall caller caller' (record_number word) → CanWork form does
       → KnowsWork form world offers caller head word other own does → KnowsWork form after offers' caller' head word other own does
 
   -- so is what a record word that was loaded names
   abbrev pub NamedKept : Type 0
   NamedKept =
-      (world after : World) (offers offers' : ℕ → Option (Offer S)) (mover : ℕ) (hand : Option ℕ) (phase : Phase) (head word : ℕ) → HasOffers form world offers → Kind form world after offers offers' mover hand
+      (world after : World) (offers offers' : ℕ → Option (Offer S)) (mover : ℕ) (hand : Option ℕ) (phase : RecordPhase) (head word : ℕ) → HasOffers form world offers → Kind form world after offers offers' mover hand
       → NamedBy form world offers phase head word → NamedBy form after offers' phase head word
 
   -- a step of a helper's own is one of the kinds

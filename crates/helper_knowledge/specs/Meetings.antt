@@ -1,7 +1,7 @@
 -- At a won exchange of a record three halves meet: what the queue has of the head, what the head's seat makes, and what
 -- the record tells. And what such an exchange is, and leaves.
 use Rattle.std.specs.Prelude.{◌≡◌, ◌≢◌, ℕ, ◌+◌, ◌^◌, ◌<◌, true, false, Bool, Option, Some}
-use Rattle.word_fields.specs.declared.records.Phase.TheVariants.{Generate}
+use Rattle.word_fields.specs.declared.records.RecordPhase.TheVariants.{Generate}
 use Rattle.word_fields.specs.Records.{record_of, record_phase, record_number, record_payload, packed_record}
 use Rattle.word_fields.specs.Versioned.{versioned_version}
 use Rattle.node_arena.specs.MemoryMap.{record_place}

@@ -5,8 +5,8 @@ use Rattle.lin_report.specs.declared.calls.Outcome.{Outcome}
 use Rattle.lin_report.specs.declared.calls.Outcome.TheVariants.{Plain}
 use Rattle.lin_report.specs.declared.calls.Reply.TheVariants.{Exhausted}
 use Rattle.word_fields.specs.Announced.{op_word, op_number}
-use Rattle.word_fields.specs.declared.records.Phase.{Phase}
-use Rattle.word_fields.specs.declared.records.Phase.TheVariants as marks
+use Rattle.word_fields.specs.declared.records.RecordPhase.{RecordPhase}
+use Rattle.word_fields.specs.declared.records.RecordPhase.TheVariants as marks
 use Rattle.word_fields.specs.Records.{record_of, record_phase, record_number, record_payload}
 use Rattle.word_fields.specs.Payloads.{payload_stop}
 use Rattle.op_record.specs.Outcomes.{FitsPayload, completed_word}
@@ -19,7 +19,7 @@ use Rattle.fast_slow_engine.specs.declared.help.Work.{Work}
 use Rattle.fast_slow_engine.specs.declared.help.Work.TheVariants as work
 use Rattle.fast_slow_engine.specs.HelpWords.{again_word, executing_word, named_block, wrapping_word}
 use Rattle.offered_blocks.specs.Blocks.{Offer, site_of, has_taken}
-use Rattle.move_kinds.specs.Offering.{IsOfferFor, StopsAt}
+use Rattle.move_kinds.specs.Offering.{IsOfferFor, ListStopsAt}
 use Rattle.helper_knowledge.specs.Callers.{Caller, IfStill}
 use Rattle.helper_knowledge.specs.Carried.{Carried, OfSome}
 use Rattle.helper_knowledge.specs.Knowing.{GeneratesAt, KnowsAnswer, KnowsOffer, KnowsSearch}
@@ -37,7 +37,7 @@ module _ {S W : Type 0} (form : NormalForm S W) (world : World) (offers : ℕ �
     exhausts : record_phase word ≡ marks.Generate → to ≡ completed_word (record_of word) (Plain Exhausted) → MayAdvance caller head word hand filled to
     -- Executing to Wrapping: the list has stopped
     settles : (stop : ℕ) (offer : Offer S) → record_phase word ≡ marks.Executing → IsOfferFor offers (named_block word) head (record_number word) offer → to ≡ wrapping_word word stop
-        → StopsAt world offer stop → MayAdvance caller head word hand filled to
+        → ListStopsAt world offer stop → MayAdvance caller head word hand filled to
     -- Wrapping to Completed: the list made the change of its call
     completes : (outcome : Outcome) (offer : Offer S) → record_phase word ≡ marks.Wrapping → IsOfferFor offers (named_block word) head (record_number word) offer
         → to ≡ completed_word (record_of word) outcome → FitsPayload outcome → ChangedBy world offer.list outcome → IsFixed form outcome → MayAdvance caller head word hand filled to
@@ -51,10 +51,10 @@ module _ {S W : Type 0} (form : NormalForm S W) (world : World) (offers : ℕ �
 
   -- and its list has stopped at the word's stop
   abbrev pub IsSettled : ℕ → ℕ → Type 0
-  IsSettled head word = (offer : Offer S) × IsOfferFor offers (named_block word) head (record_number word) offer × StopsAt world offer (payload_stop (record_payload word))
+  IsSettled head word = (offer : Offer S) × IsOfferFor offers (named_block word) head (record_number word) offer × ListStopsAt world offer (payload_stop (record_payload word))
 
   -- what a record word that was loaded names, from then on, though the record may have gone on since
-  abbrev pub NamedBy : Phase → ℕ → ℕ → Type 0
+  abbrev pub NamedBy : RecordPhase → ℕ → ℕ → Type 0
   NamedBy marks.Executing head word = IsNamed head word
   NamedBy marks.Wrapping head word = IsSettled head word
   NamedBy _ head word = Unit {0}
@@ -77,5 +77,5 @@ module _ {S W : Type 0} (form : NormalForm S W) (world : World) (offers : ℕ �
       × ((offer : Offer S) × IsOfferFor offers (named_block word) head (record_number word) offer × Knows (site_of offer) world.words (has_taken world.journal offer.list) run)
   KnowsWork caller head word hand own (work.Wrap wrap) =
       (record_phase word ≡ marks.Wrapping)
-      × ((offer : Offer S) × IsOfferFor offers (named_block word) head (record_number word) offer × StopsAt world offer (payload_stop (record_payload word))
+      × ((offer : Offer S) × IsOfferFor offers (named_block word) head (record_number word) offer × ListStopsAt world offer (payload_stop (record_payload word))
       × form.wraps wrap × form.follows wrap offer.list (payload_stop (record_payload word)) world)

@@ -15,7 +15,7 @@ use Rattle.lin_report.specs.Commands.{is_some_command, may_answer, told_value, K
 use Rattle.lin_report.specs.Calls.{answered_call, pending_call}
 use Rattle.lin_report.specs.Writing.{IsPrintable, TICK_LIMIT}
 use Rattle.lin_report.specs.Text.{SPACE, NEWLINE, spaced, command_words, reply_words, path_word, call_line}
-use Rattle.lin_report.proofs.Lines.{length_answered, length_pending}
+use Rattle.lin_report.proofs.LinePieces.{length_answered, length_pending}
 
 key_in_range : (op : Op) → IsTrue (is_some_command op) → op.key < KEY_LIMIT
 key_in_range op h = grind (arith, nat_tests)

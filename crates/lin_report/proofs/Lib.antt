@@ -1,6 +1,6 @@
 pub mod Digits
 pub mod Rooms
-pub mod Lines
+pub mod LinePieces
 pub mod Lengths
 pub mod Sorting
 pub mod Sorted
@@ -16,4 +16,4 @@ pub mod Alone
 pub mod Replies
 pub mod Tellable
 pub mod Written
-pub mod Fits
+pub mod TextsFit

@@ -9,7 +9,7 @@ use Rattle.lin_report.specs.declared.calls.PendingCall.{PendingCall}
 use Rattle.lin_report.specs.Calls.{Call, Report, answered_call, pending_call, calls_of}
 use Rattle.lin_report.specs.Text.{SPACE, NEWLINE, spaced, count_words, overtaken_words, is_fast, is_slow, is_exhausted, summary_text}
 use Rattle.lin_report.specs.Writing.{CanWrite}
-use Rattle.lin_report.proofs.Lines.{spaced-append, line-spaced}
+use Rattle.lin_report.proofs.LinePieces.{spaced-append, line-spaced}
 use Rattle.lin_report.proofs.Merging.{answered_count, pending_count}
 
 named : (name number : List ℕ) (more : List (List ℕ)) → spaced (name ∷ number ∷ more) ≡ spaced (name ∷ number ∷ []) ++ spaced more

@@ -5,7 +5,7 @@ use Rattle.std.specs.Prelude.{if◌then◌else◌}
 use Rattle.std.proofs.lemmas.Bool.{ne_eqb}
 use Rattle.step_memory.specs.declared.steps.Seen.{Seen}
 use Rattle.node_arena.specs.MemoryMap.{block_place, MayBeClients}
-use Rattle.node_arena.proofs.PlaceLemmas.{engines_out}
+use Rattle.node_arena.proofs.PlacesApart.{engines_out}
 use Rattle.normal_traits.specs.declared.lists.Entry.{Entry}
 use Rattle.normal_traits.specs.World.{Listed, Maker, Change, Won, World, is_word}
 use Rattle.normal_traits.specs.World.Maker.{By, Beside}

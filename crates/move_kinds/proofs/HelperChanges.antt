@@ -1,7 +1,7 @@
 -- The change that a helper makes is of the list that the record of its call names, in Executing.
 use Rattle.std.proofs.Common.{◌≡◌, ◌≢◌, ◌∙◌, sym, ap, subst, ℕ, ◌⊎◌, inl, inr, Bool, true, false, Option, Some}
 use Rattle.step_memory.specs.declared.steps.Seen.{Seen}
-use Rattle.word_fields.specs.declared.records.Phase.TheVariants.{Executing}
+use Rattle.word_fields.specs.declared.records.RecordPhase.TheVariants.{Executing}
 use Rattle.word_fields.specs.Payloads.{payload_block}
 use Rattle.word_fields.specs.Records.{record_phase, record_payload}
 use Rattle.node_arena.specs.MemoryMap.{record_place}
@@ -10,9 +10,9 @@ use Rattle.normal_traits.specs.NormalForm.{NormalForm}
 use Rattle.normal_traits.specs.Steps.{listed_if, with_change}
 use Rattle.cas_executor.specs.SlowRuns.{SlowWalk}
 use Rattle.cas_executor_laws.proofs.RunTurns.{same_entry}
-use Rattle.cas_executor_laws.proofs.SiteLemmas.{entry_at}
+use Rattle.cas_executor_laws.proofs.OfferedPartsKept.{entry_at}
 use Rattle.offered_blocks.specs.Blocks.{Offer, HasBlocks, IsExecuting, has_taken}
-use Rattle.offered_blocks.specs.Records.{IsOf, Names}
+use Rattle.offered_blocks.specs.Records.{IsCallsChange, Names}
 use Rattle.offered_blocks.proofs.Blocks.Named.{some_offer}
 use Rattle.offered_blocks.proofs.Helpers.OwnDeeds.{installs_named}
 use Rattle.offered_blocks.proofs.Helpers.Executes.{Executes, Tells, taken_by}
@@ -46,7 +46,7 @@ module _ {S W : Type 0} (form : NormalForm S W) (world after : World) (offers : 
   new_change = new_executing is.tells
 
   -- so where the record of its call is in another phase, no change of the call is new
-  pub none_new : (call : Called) → record_phase (world.words (record_place call.seat)) ≢ Executing → (change : Change) → Among change after.changes → IsOf call change → Among change world.changes
+  pub none_new : (call : Called) → record_phase (world.words (record_place call.seat)) ≢ Executing → (change : Change) → Among change after.changes → IsCallsChange call change → Among change world.changes
   none_new call other change among of =
       elim (new_change change among) [
         | inl old ↦ old
@@ -57,7 +57,7 @@ module _ {S W : Type 0} (form : NormalForm S W) (world after : World) (offers : 
 
   -- and where it is Executing, it is of the list that it names
   pub new_named : (call : Called) (begun : ℕ) (names : Names form world offers call begun (payload_block (record_payload (world.words (record_place call.seat)))))
-      → (change : Change) → Among change after.changes → IsOf call change → Among change world.changes ⊎ (change.list ≡ names.offer.list)
+      → (change : Change) → Among change after.changes → IsCallsChange call change → Among change world.changes ⊎ (change.list ≡ names.offer.list)
   new_named call begun names change among of =
       elim (new_change change among) [
         | inl old ↦ inl old

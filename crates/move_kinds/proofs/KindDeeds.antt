@@ -1,14 +1,14 @@
 -- Every kind of move is a deed of each offered block.
 use Rattle.std.proofs.Common.{◌≡◌, ◌≢◌, ◌∙◌, sym, subst, ap, ℕ, ◌+◌, ◌<◌, true, inl, inr, Option, Some, arith}
 use Rattle.std.proofs.lemmas.Bool.{cases_eq}
-use Rattle.node_arena.proofs.PlaceLemmas.{block_place_behind, same_block}
+use Rattle.node_arena.proofs.PlacesApart.{block_place_behind, same_block}
 use Rattle.normal_traits.specs.World.{World, is_word}
 use Rattle.normal_traits.specs.NormalForm.{NormalForm}
 use Rattle.normal_traits.specs.Laws.{Laws}
 use Rattle.normal_traits.proofs.Stays.{word_beside}
 use Rattle.cas_executor.specs.SlowRuns.{state_place}
 use Rattle.cas_executor_laws.specs.Parts.{Deed}
-use Rattle.cas_executor_laws.proofs.SiteLemmas.{beside_deed}
+use Rattle.cas_executor_laws.proofs.OfferedPartsKept.{beside_deed}
 use Rattle.offered_blocks.specs.Blocks.{Offer, has_taken, site_of}
 use Rattle.offered_blocks.specs.Holds.{HasOffers}
 use Rattle.offered_blocks.proofs.Blocks.Named.{some_offer}

@@ -1,13 +1,13 @@
 -- All that holds of offered blocks is kept by every kind of move.
 use Rattle.std.proofs.Common.{◌≡◌, ◌≢◌, ◌∙◌, refl, sym, subst, ap, ℕ, ◌+◌, ◌<◌, ◌%◌, ◌^◌, false, inl, inr, Option, arith}
-use Rattle.word_fields.specs.declared.records.Phase.{Phase as Mark}
-use Rattle.word_fields.specs.declared.records.Phase.TheVariants.{Generate, Executing, Wrapping, Completed}
+use Rattle.word_fields.specs.declared.records.RecordPhase.{RecordPhase as Mark}
+use Rattle.word_fields.specs.declared.records.RecordPhase.TheVariants.{Generate, Executing, Wrapping, Completed}
 use Rattle.word_fields.specs.declared.records.RecordWord.{RecordWord}
 use Rattle.word_fields.specs.Payloads.{payload_block, wrapping_payload}
 use Rattle.word_fields.specs.Records.{record_of, record_phase, record_number, record_round}
-use Rattle.word_fields.proofs.RecordLemmas.{record_of-packed, phase-word}
+use Rattle.word_fields.proofs.RecordWords.{record_of-packed, phase-word}
 use Rattle.node_arena.specs.MemoryMap.{block_place, record_place, MayBeClients}
-use Rattle.node_arena.proofs.PlaceLemmas.{engines_out}
+use Rattle.node_arena.proofs.PlacesApart.{engines_out}
 use Rattle.help_queue.specs.Gathers.{is_open}
 use Rattle.normal_traits.specs.World.{World}
 use Rattle.normal_traits.specs.World.Maker.{By, Beside}
@@ -27,7 +27,7 @@ use Rattle.offered_blocks.proofs.Records.Naming.{name_kept}
 use Rattle.offered_blocks.proofs.Records.Puts.{leaves_kept, put_kept}
 use Rattle.move_kinds.specs.Kinds.{Kind, IsCounter, IsOwnWord, IsWon}
 use Rattle.move_kinds.specs.Kinds.Kind.{quiet, counts, fills, announces, publishes, queues, names, settles, completes, restarts, executes, beside, enters}
-use Rattle.move_kinds.specs.Offering.{IsOfferFor, StopsAt}
+use Rattle.move_kinds.specs.Offering.{IsOfferFor, ListStopsAt}
 
 module _ {S W : Type 0} (form : NormalForm S W) (laws : Laws form) (world : World) (offers : ℕ → Option (Offer S)) (holds : HasOffers form world offers) where
   closed_not : {A : Type 0} (p : Mark) → is_open p ≡ false → p ≡ Executing → A
@@ -63,7 +63,7 @@ module _ {S W : Type 0} (form : NormalForm S W) (laws : Laws form) (world : Worl
     left_kept before behind =
         subst (λ w. HasOffers form w offers) (sym won.after_is) (put_kept form laws world offers holds head to won.small (λ e. before (sym phase_is ∙ e)) behind)
 
-    pub settled_kept : (stop : ℕ) (offer : Offer S) → record_phase word ≡ Executing → IsOfferFor offers (named_block word) head (record_number word) offer → StopsAt world offer stop → record_phase to ≡ Wrapping
+    pub settled_kept : (stop : ℕ) (offer : Offer S) → record_phase word ≡ Executing → IsOfferFor offers (named_block word) head (record_number word) offer → ListStopsAt world offer stop → record_phase to ≡ Wrapping
         → HasOffers form after offers
     settled_kept stop offer executing of stopped wraps =
         let at : record_of (world.words (record_place offer.list.call.seat)) ≡ record_of word = ap (λ s. record_of (world.words (record_place s))) of.seat_is ∙ fields in

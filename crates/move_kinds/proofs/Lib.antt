@@ -14,4 +14,4 @@ pub mod MayMake
 pub mod OwnedKept
 pub mod OwnedKinds
 pub mod Stores
-pub mod LawLemmas
+pub mod LawsOfKinds

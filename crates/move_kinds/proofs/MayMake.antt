@@ -2,8 +2,8 @@
 use Rattle.std.proofs.Common.{◌≡◌, ◌≢◌, ◌∙◌, refl, sym, subst, ap, ℕ, suc, ◌⊎◌, inl, inr, List, [], ◌∷◌, Bool, true, false, Option, Some, None, All, AllPairs, arith}
 use Rattle.std.proofs.lemmas.List.Elements.{All-head, All-tail}
 use Rattle.step_memory.specs.declared.steps.Seen.{Seen}
-use Rattle.word_fields.specs.declared.records.Phase.{Phase}
-use Rattle.word_fields.specs.declared.records.Phase.TheVariants as phase
+use Rattle.word_fields.specs.declared.records.RecordPhase.{RecordPhase}
+use Rattle.word_fields.specs.declared.records.RecordPhase.TheVariants as phase
 use Rattle.word_fields.specs.Payloads.{payload_block}
 use Rattle.word_fields.specs.Records.{record_number, record_of, record_payload, record_phase}
 use Rattle.node_arena.specs.MemoryMap.{record_place}
@@ -16,7 +16,7 @@ use Rattle.offered_blocks.specs.Blocks.{Offer}
 use Rattle.offered_blocks.specs.Holds.{HasOffers}
 use Rattle.offered_blocks.specs.HelperSteps.{Helps}
 use Rattle.op_record.specs.Outcomes.{outcome_of}
-use Rattle.offered_blocks.specs.Records.{IsOf, Names, RecordIsRight}
+use Rattle.offered_blocks.specs.Records.{IsCallsChange, Names, RecordIsRight}
 use Rattle.offered_blocks.proofs.Blocks.Named.{some_offer}
 use Rattle.offered_blocks.proofs.Helpers.Executes.{Executes}
 use Rattle.offered_blocks.proofs.Helpers.Helping.{helps_did}
@@ -55,7 +55,7 @@ module _ {S W : Type 0} (form : NormalForm S W) (laws : Laws form) (world after 
       ((record_phase word ≡ phase.Executing) ⊎ (record_phase word ≡ phase.Wrapping)) × ((n : Names form world offers call begun (payload_block (record_payload word))) → change.list ≡ n.offer.list)
 
   abbrev Only : Type 0
-  Only = (change : Change) → Among change after.changes → IsOf call change → Among change world.changes ⊎ OfNamed change
+  Only = (change : Change) → Among change after.changes → IsCallsChange call change → Among change world.changes ⊎ OfNamed change
 
   same_changes : after.changes ≡ world.changes → Only
   same_changes same change among of = inl (subst (Among change) same among)
@@ -64,7 +64,7 @@ module _ {S W : Type 0} (form : NormalForm S W) (laws : Laws form) (world after 
   put_changes place put is = same_changes (ap (λ (w : World). w.changes) is)
 
   -- a list that the record of its call names, where this is its call
-  named_of : (list : Listed) (change : Change) → change.list ≡ list → IsOf call change → IsNamedNow world offers list → OfNamed change
+  named_of : (list : Listed) (change : Change) → change.list ≡ list → IsCallsChange call change → IsNamedNow world offers list → OfNamed change
   named_of list change is of now =
       let seat : list.call.seat ≡ call.seat = ap (λ (l : Listed). l.call.seat) (sym is) ∙ of.seat in
       let at : world.words (record_place list.call.seat) ≡ word = ap (λ s. world.words (record_place s)) seat in (
@@ -101,11 +101,11 @@ module _ {S W : Type 0} (form : NormalForm S W) (laws : Laws form) (world after 
 
   -- ---- a new change of a list
 
-  new_of : (list : Listed) → after.changes ≡ change_of form.object list world.changes ∷ world.changes → ((change : Change) → change.list ≡ list → Among change after.changes → IsOf call change → OfNamed change) → Only
+  new_of : (list : Listed) → after.changes ≡ change_of form.object list world.changes ∷ world.changes → ((change : Change) → change.list ≡ list → Among change after.changes → IsCallsChange call change → OfNamed change) → Only
   new_of list made gives change among of =
       elim (subst (Among change) made among) [ inl new ↦ inr (gives change (ap (λ (c : Change). c.list) new) among of) | inr old ↦ inl old ]
 
-  not_announced : {A : Type 0} (list : Listed) (change : Change) → change.list ≡ list → IsOf call change → IsUnannounced world list → A
+  not_announced : {A : Type 0} (list : Listed) (change : Change) → change.list ≡ list → IsCallsChange call change → IsUnannounced world list → A
   not_announced list change is of fast =
       let seat : list.call.seat ≡ call.seat = ap (λ (l : Listed). l.call.seat) (sym is) ∙ of.seat in
       let number' : list.call.number ≡ call.number = ap (λ (l : Listed). l.call.number) (sym is) ∙ of.number in
@@ -116,15 +116,15 @@ module _ {S W : Type 0} (form : NormalForm S W) (laws : Laws form) (world after 
   owned_only list step made (named now) = new_of list made (λ change is among of. named_of list change is of now)
   owned_only list step made (dead is_dead) =
       new_of list made (λ change is among of.
-      absurd (laws.dead_unchanged after list change (laws.shape_kept world after holds.shape step) (laws.dead_kept world after list holds.shape is_dead step) among is))
+      absurd (laws.of_world.dead_unchanged after list change (laws.shape_kept world after holds.shape step) (laws.dead_kept world after list holds.shape is_dead step) among is))
   owned_only list step made (changed old among of) =
-      let pairs = laws.one_change_a_list after (laws.shape_kept world after holds.shape step) in
+      let pairs = laws.of_world.one_change_a_list after (laws.shape_kept world after holds.shape step) in
       let new = change_of form.object list world.changes in
       absurd (first_differs new world.changes old (subst (AllPairs DifferentLists) made pairs) among (ap (λ (l : Listed). l.identity) (sym of)))
 
   beside_only : (list : Option Listed) (entry : Entry) → form.adds_beside world entry ≡ list → IsStep form world after → after.changes ≡ with_change form.object list world.changes → Only
   beside_only None entry adds step made = same_changes made
-  beside_only (Some list) entry adds step made = owned_only list step made (owned list (laws.beside world list entry holds.shape adds).1)
+  beside_only (Some list) entry adds step made = owned_only list step made (owned list (laws.of_world.beside world list entry holds.shape adds).1)
 
   enters_only : (adds : Bool) (list : Listed) → IsUnannounced world list → after.changes ≡ with_change form.object (listed_if adds list) world.changes → Only
   enters_only false list fast made = same_changes made
@@ -147,7 +147,7 @@ module _ {S W : Type 0} (form : NormalForm S W) (laws : Laws form) (world after 
   kind_only (beside entry is uses o) = beside_only (form.adds_beside world entry) entry refl is.step is.changes
   kind_only (enters list j entry fast is uses o) = enters_only (form.adds list j) list fast is.changes
 
-  by_phase : Only → (at : Phase) → record_phase word ≡ at → MayMake form world after offers call begun at (record_payload word)
+  by_phase : Only → (at : RecordPhase) → record_phase word ≡ at → MayMake form world after offers call begun at (record_payload word)
   by_phase only phase.Idle at = λ change among of. elim (only change among of) [
     | inl old ↦ old
     | inr now ↦ elim now.0 [ inl e ↦ absurd (let both : phase.Idle ≡ phase.Executing = sym at ∙ e in cc) | inr e ↦ absurd (let both : phase.Idle ≡ phase.Wrapping = sym at ∙ e in cc) ]

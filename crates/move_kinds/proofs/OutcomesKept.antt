@@ -9,7 +9,7 @@ use Rattle.lin_report.specs.declared.calls.Reply.TheVariants as reply
 use Rattle.lin_report.specs.Object.{Object}
 use Rattle.node_arena.specs.declared.places.TheConstants.{NODE_VALUE}
 use Rattle.node_arena.specs.MemoryMap.{block_at, field_at, node_place, is_root_place}
-use Rattle.node_arena.proofs.PlaceLemmas.{field_at-node_place, node_place_behind}
+use Rattle.node_arena.proofs.PlacesApart.{field_at-node_place, node_place_behind}
 use Rattle.normal_traits.specs.World.{Change, Listed, World, Among, ChangedBy, Observes, RightSince, StandsFor, first_changes, held_after, is_state, is_word}
 use Rattle.normal_traits.specs.NormalForm.{NormalForm}
 use Rattle.normal_traits.specs.Steps.{IsStep}

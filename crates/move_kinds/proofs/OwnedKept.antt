@@ -1,11 +1,11 @@
 -- The lists that took effect stay owned, whatever a move does.
 use Rattle.std.proofs.Common.{◌≡◌, ◌≢◌, ◌∙◌, sym, subst, ap, ℕ, ◌<◌, inl, inr, Option, Some, None, arith}
 use Rattle.std.proofs.lemmas.Bool.{cases_eq}
-use Rattle.word_fields.specs.declared.records.Phase.TheVariants.{Generate, Executing, Wrapping}
+use Rattle.word_fields.specs.declared.records.RecordPhase.TheVariants.{Generate, Executing, Wrapping}
 use Rattle.word_fields.specs.declared.records.RecordWord.{RecordWord}
 use Rattle.word_fields.specs.Payloads.{payload_block}
 use Rattle.word_fields.specs.Records.{record_number, record_of, record_payload, record_phase}
-use Rattle.word_fields.proofs.RecordLemmas.{record_of-packed}
+use Rattle.word_fields.proofs.RecordWords.{record_of-packed}
 use Rattle.node_arena.specs.MemoryMap.{record_place}
 use Rattle.normal_traits.specs.World.{Among, Change, Listed, World}
 use Rattle.normal_traits.specs.NormalForm.{NormalForm}

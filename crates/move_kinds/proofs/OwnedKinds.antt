@@ -3,14 +3,14 @@
 use Rattle.std.proofs.Common.{◌≡◌, ◌≢◌, ◌∙◌, refl, sym, subst, ap, ℕ, ◌+◌, ◌<◌, ◌%◌, ◌^◌, ◌⊎◌, inl, inr, ◌∷◌, false, Option, Some, None, arith}
 use Rattle.std.proofs.lemmas.Bool.{cases_eq}
 use Rattle.step_memory.specs.declared.steps.Seen.{Seen}
-use Rattle.word_fields.specs.declared.records.Phase.{Phase}
-use Rattle.word_fields.specs.declared.records.Phase.TheVariants.{Generate, Executing, Wrapping, Completed}
+use Rattle.word_fields.specs.declared.records.RecordPhase.{RecordPhase}
+use Rattle.word_fields.specs.declared.records.RecordPhase.TheVariants.{Generate, Executing, Wrapping, Completed}
 use Rattle.word_fields.specs.Payloads.{payload_block, wrapping_payload}
 use Rattle.word_fields.specs.Records.{record_number, record_payload, record_phase, record_round, number_below, round_below}
-use Rattle.word_fields.proofs.PayloadLemmas.{block-wrapping, wrapping_below}
-use Rattle.word_fields.proofs.RecordLemmas.{number-word, payload-word, phase-word}
+use Rattle.word_fields.proofs.PayloadParts.{block-wrapping, wrapping_below}
+use Rattle.word_fields.proofs.RecordWords.{number-word, payload-word, phase-word}
 use Rattle.node_arena.specs.MemoryMap.{block_place, record_place}
-use Rattle.node_arena.proofs.PlaceLemmas.{block_place_behind}
+use Rattle.node_arena.proofs.PlacesApart.{block_place_behind}
 use Rattle.help_queue.specs.Gathers.{is_open}
 use Rattle.normal_traits.specs.declared.lists.Entry.{Entry}
 use Rattle.normal_traits.specs.World.{Among, Listed, Maker, Took, Won, World}
@@ -22,7 +22,7 @@ use Rattle.normal_traits.proofs.Stays.{word_beside}
 use Rattle.op_record.specs.Outcomes.{outcome_payload}
 use Rattle.cas_executor.specs.SlowRuns.{SlowWalk}
 use Rattle.cas_executor_laws.proofs.RunTurns.{same_entry}
-use Rattle.cas_executor_laws.proofs.SiteLemmas.{entry_at}
+use Rattle.cas_executor_laws.proofs.OfferedPartsKept.{entry_at}
 use Rattle.fast_slow_engine.specs.HelpWords.{executing_word, named_block, wrapping_word}
 use Rattle.offered_blocks.specs.Blocks.{Offer, IsExecuting, has_taken}
 use Rattle.offered_blocks.specs.Holds.{HasOffers}
@@ -37,13 +37,13 @@ use Rattle.offered_blocks.proofs.Helpers.OwnDeeds.{installs_named}
 use Rattle.move_kinds.specs.Kinds.{IsCounter, IsOwnWord, IsWon, Kind}
 use Rattle.move_kinds.specs.Kinds.Kind.{quiet, counts, fills, announces, publishes, queues, names, settles, completes, restarts, executes, beside, enters}
 use Rattle.move_kinds.specs.Moves.{Leaves}
-use Rattle.move_kinds.specs.Offering.{IsOfferFor, StopsAt}
+use Rattle.move_kinds.specs.Offering.{IsOfferFor, ListStopsAt}
 use Rattle.move_kinds.specs.Owned.{AllOwned, AnnouncesNone, IsNamedNow, IsOwned, LeavesNone}
 use Rattle.move_kinds.specs.Owned.IsOwned.{unannounced, named, dead, changed}
 use Rattle.move_kinds.proofs.KindsLeave.{kind_leaves}
 use Rattle.move_kinds.proofs.OwnedKept.{apart, at_head, block_of, generate_not, one_list, stays_owned, still_changed, still_dead, still_named, still_unannounced, won_owned}
 
-closed_not : (p : Phase) → is_open p ≡ false → (p ≡ Executing) ⊎ (p ≡ Wrapping) → ⊥
+closed_not : (p : RecordPhase) → is_open p ≡ false → (p ≡ Executing) ⊎ (p ≡ Wrapping) → ⊥
 closed_not p closed (inl executing) = absurd (let e = ap is_open (sym executing) ∙ closed in cc)
 closed_not p closed (inr wrapping) = absurd (let e = ap is_open (sym wrapping) ∙ closed in cc)
 
@@ -125,7 +125,7 @@ module _ {S W : Type 0} (form : NormalForm S W) (laws : Laws form) (world after 
   published word is closed none list took (changed change among of) = still_changed form laws world after offers offers' holds leaves list change among of
 
   -- its list has stopped: it is named still
-  settled : (head word stop : ℕ) (offer : Offer S) → IsOfferFor offers (named_block word) head (record_number word) offer → StopsAt world offer stop → (won : IsWon world after head word (wrapping_word word stop)) → Keeps
+  settled : (head word stop : ℕ) (offer : Offer S) → IsOfferFor offers (named_block word) head (record_number word) offer → ListStopsAt world offer stop → (won : IsWon world after head word (wrapping_word word stop)) → Keeps
   settled head word stop offer of stopped won =
       let to = wrapping_word word stop in
       let mine = holds.blocks.offered (named_block word) offer of.stands in

@@ -2,13 +2,13 @@
 -- the record names.
 use Rattle.std.proofs.Common.{ℕ, inl, inr, Option, None}
 use Rattle.lin_report.specs.declared.calls.Outcome.{Outcome}
-use Rattle.word_fields.specs.declared.records.Phase.{Phase}
-use Rattle.word_fields.specs.declared.records.Phase.TheVariants as phase
+use Rattle.word_fields.specs.declared.records.RecordPhase.{RecordPhase}
+use Rattle.word_fields.specs.declared.records.RecordPhase.TheVariants as phase
 use Rattle.word_fields.specs.Payloads.{payload_block, payload_stop}
 use Rattle.normal_traits.specs.World.{Called, Listed, World}
 use Rattle.normal_traits.specs.NormalForm.{NormalForm}
 use Rattle.normal_traits.specs.Laws.{Laws}
-use Rattle.cas_executor_laws.proofs.SiteLemmas.{stop_kept}
+use Rattle.cas_executor_laws.proofs.OfferedPartsKept.{stop_kept}
 use Rattle.offered_blocks.specs.Blocks.{Offer, has_taken, site_of}
 use Rattle.offered_blocks.specs.Holds.{HasOffers}
 use Rattle.offered_blocks.specs.Records.{MadeBy, MadeNone, Names, RecordTells, TellsRight}
@@ -34,7 +34,7 @@ module _ {S W : Type 0} (form : NormalForm S W) (laws : Laws form) (world after 
       changed list of (changed_still form laws world after holds.shape leaves.step leaves.grows list outcome fixed by) fixed (by_still list (λ change among is. inl (new change among is)) only)
   right_stays new outcome (refused is none) = refused is (none_still new none)
 
-  pub tells_still : (at : Phase) (payload : ℕ) (told : Option Outcome) → MayMake form world after offers call begun at payload → RecordTells form world offers call begun at payload told → RecordTells form after offers' call begun at payload told
+  pub tells_still : (at : RecordPhase) (payload : ℕ) (told : Option Outcome) → MayMake form world after offers call begun at payload → RecordTells form world offers call begun at payload told → RecordTells form after offers' call begun at payload told
   unfolding names_still
   tells_still phase.Idle payload told new tells = tt
   tells_still phase.Generate payload told new tells = none_still new tells

@@ -2,7 +2,7 @@
 use Rattle.std.proofs.Common.{◌≡◌, ◌≢◌, ◌∙◌, sym, subst, ap, ℕ, ◌+◌, ◌<◌, true, false, Option, Some, arith}
 use Rattle.step_memory.specs.declared.steps.Seen.{Seen}
 use Rattle.node_arena.specs.MemoryMap.{block_place}
-use Rattle.node_arena.proofs.PlaceLemmas.{block_place_behind, same_block, same_field}
+use Rattle.node_arena.proofs.PlacesApart.{block_place_behind, same_block, same_field}
 use Rattle.normal_traits.specs.declared.lists.Entry.{Entry}
 use Rattle.normal_traits.specs.World.{World, is_word}
 use Rattle.normal_traits.specs.NormalForm.{NormalForm}
@@ -10,7 +10,7 @@ use Rattle.normal_traits.specs.Laws.{Laws}
 use Rattle.normal_traits.proofs.Stays.{word_beside}
 use Rattle.cas_executor.specs.SlowRuns.{SlowWalk}
 use Rattle.cas_executor_laws.specs.ExecRuns.{IsEntry}
-use Rattle.cas_executor_laws.proofs.SiteLemmas.{entry_at}
+use Rattle.cas_executor_laws.proofs.OfferedPartsKept.{entry_at}
 use Rattle.offered_blocks.specs.Blocks.{Offer}
 use Rattle.offered_blocks.specs.Holds.{HasOffers}
 use Rattle.offered_blocks.specs.OtherSteps.{IsSpare}
@@ -62,7 +62,7 @@ module _ {S W : Type 0} (form : NormalForm S W) (laws : Laws form) (world after 
   -- a note of a block is no versioned word
   note_apart : (block field place : ℕ) → 0 < block → field < 12 → form.is_versioned place ≡ true → block_place block field ≢ place
   note_apart block field place some small versioned e =
-      let none : form.is_versioned (block_place block field) ≡ false = laws.notes_plain block field some small in
+      let none : form.is_versioned (block_place block field) ≡ false = laws.of_world.notes_plain block field some small in
       let versioned' : form.is_versioned (block_place block field) ≡ true = subst (λ p. form.is_versioned p ≡ true) (sym e) versioned in
       absurd cc
 

@@ -1,8 +1,8 @@
 -- What is so of every kind of move, of any structure in normalized form.
 use Rattle.std.specs.Prelude.{◌≡◌, ◌≢◌, ℕ, Option, Some}
 use Rattle.lin_report.specs.declared.calls.Outcome.{Outcome}
-use Rattle.word_fields.specs.declared.records.Phase.{Phase}
-use Rattle.word_fields.specs.declared.records.Phase.TheVariants.{Executing}
+use Rattle.word_fields.specs.declared.records.RecordPhase.{RecordPhase}
+use Rattle.word_fields.specs.declared.records.RecordPhase.TheVariants.{Executing}
 use Rattle.word_fields.specs.Payloads.{payload_block}
 use Rattle.word_fields.specs.Records.{record_number, record_payload, record_phase}
 use Rattle.node_arena.specs.MemoryMap.{record_place}
@@ -56,7 +56,7 @@ module _ {S W : Type 0} (form : NormalForm S W) where
   -- what the record of a call tells stays so where a move makes no change for it that the record does not name
   abbrev pub KindsKeepTelling : Type 0
   KindsKeepTelling =
-      (world after : World) (offers offers' : ℕ → Option (Offer S)) (mover : ℕ) (hand : Option ℕ) (call : Called) (begun : ℕ) (at : Phase) (payload : ℕ) (told : Option Outcome) → HasOffers form world offers
+      (world after : World) (offers offers' : ℕ → Option (Offer S)) (mover : ℕ) (hand : Option ℕ) (call : Called) (begun : ℕ) (at : RecordPhase) (payload : ℕ) (told : Option Outcome) → HasOffers form world offers
       → Kind form world after offers offers' mover hand → MayMake form world after offers call begun at payload
       → RecordTells form world offers call begun at payload told → RecordTells form after offers' call begun at payload told
 

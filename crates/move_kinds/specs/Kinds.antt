@@ -2,7 +2,7 @@
 -- knew of it. Each part of what holds in a run is kept by each kind, so no proof of that looks at phases.
 use Rattle.std.specs.Prelude.{◌≡◌, ◌≢◌, ℕ, ◌<◌, ◌⊎◌, true, false, Option, Some}
 use Rattle.lin_report.specs.declared.calls.Outcome.{Outcome}
-use Rattle.word_fields.specs.declared.records.Phase.TheVariants.{Generate, Executing, Wrapping}
+use Rattle.word_fields.specs.declared.records.RecordPhase.TheVariants.{Generate, Executing, Wrapping}
 use Rattle.word_fields.specs.Records.{record_of, record_phase, record_number, packed_record}
 use Rattle.word_fields.specs.Versioned.{versioned_bit}
 use Rattle.node_arena.specs.declared.places.TheConstants.{TICKS, QUEUE, CLAIMS}
@@ -18,7 +18,7 @@ use Rattle.fast_slow_engine.specs.HelpWords.{again_word, executing_word, named_b
 use Rattle.offered_blocks.specs.Blocks.{Offer, record_for}
 use Rattle.offered_blocks.specs.HelperSteps.{Helps}
 use Rattle.offered_blocks.specs.OtherSteps.{CanName, IsExchange, IsSpare, IsStored, with_offer}
-use Rattle.move_kinds.specs.Offering.{IsOfferFor, StopsAt}
+use Rattle.move_kinds.specs.Offering.{IsOfferFor, ListStopsAt}
 
 -- the words of ticks and of claims
 abbrev pub IsCounter : ℕ → Type 0
@@ -70,7 +70,7 @@ module _ {S W : Type 0} (form : NormalForm S W) (world after : World) where
     names : (head word block : ℕ) (offer : Offer S) → record_phase word ≡ Generate → hand ≡ Some block → offer.list.call.seat ≡ head → CanName form world offers block offer (executing_word word block)
         → IsWon world after head word (executing_word word block) → offers' ≡ with_offer block offer offers → Kind offers offers' mover hand
     -- the list that a record names has stopped
-    settles : (head word stop : ℕ) (offer : Offer S) → record_phase word ≡ Executing → IsOfferFor offers (named_block word) head (record_number word) offer → StopsAt world offer stop
+    settles : (head word stop : ℕ) (offer : Offer S) → record_phase word ≡ Executing → IsOfferFor offers (named_block word) head (record_number word) offer → ListStopsAt world offer stop
         → IsWon world after head word (wrapping_word word stop) → offers' ≡ offers → Kind offers offers' mover hand
     -- a call is completed
     completes : (head word : ℕ) (outcome : Outcome) → (record_phase word ≡ Generate) ⊎ HasChanged world offers head word outcome

@@ -11,5 +11,5 @@ pub record IsOfferFor {S : Type 0} (offers : ℕ → Option (Offer S)) (block se
   pub number_is : offer.list.call.number ≡ number
 
 -- the list of an offer has stopped there, as whoever executes it finds
-abbrev pub StopsAt : {S : Type 0} → World → Offer S → ℕ → Type 0
-StopsAt world offer stop = KnowsStop (site_of offer) world.words (has_taken world.journal offer.list) stop
+abbrev pub ListStopsAt : {S : Type 0} → World → Offer S → ℕ → Type 0
+ListStopsAt world offer stop = KnowsStop (site_of offer) world.words (has_taken world.journal offer.list) stop

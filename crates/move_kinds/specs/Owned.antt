@@ -1,6 +1,6 @@
 -- Whose the lists are that took effect, and what that says of the changes which a move may make.
 use Rattle.std.specs.Prelude.{◌≡◌, ℕ, ◌<◌, ◌⊎◌, Option, Some}
-use Rattle.word_fields.specs.declared.records.Phase.TheVariants.{Executing, Wrapping}
+use Rattle.word_fields.specs.declared.records.RecordPhase.TheVariants.{Executing, Wrapping}
 use Rattle.word_fields.specs.Payloads.{payload_block}
 use Rattle.word_fields.specs.Records.{record_number, record_of, record_payload, record_phase}
 use Rattle.node_arena.specs.MemoryMap.{record_place}

@@ -15,7 +15,7 @@ use Rattle.fast_slow_engine.specs.Runs.{CanMove, Move, RunState, AreMoves, begun
 use Rattle.fast_slow_engine.proofs.SameCalls.{same_fed}
 use Rattle.run_laws.specs.Seats.{EachMech}
 use Rattle.run_laws.proofs.Steps.{at_set, beside_set, move_steps, some_same}
-use Rattle.run_laws.proofs.SeatLemmas.{new_mech}
+use Rattle.run_laws.proofs.MachinesKept.{new_mech}
 use Rattle.move_orders.specs.Orders.{begun_at}
 
 pub own_begun : (move : Move) (older : List Move) → begun_at (move ∷ older) move.seat ≡ begun_at older move.seat ++ option_to_list move.begins

@@ -11,9 +11,9 @@ use Rattle.fast_slow_engine.specs.declared.setup.Turn.{Turn}
 use Rattle.fast_slow_engine.specs.declared.setup.Turn.TheVariants.{Going, Returned}
 use Rattle.fast_slow_engine.specs.PhaseTable.{mech_request, mech_turn}
 use Rattle.fast_slow_engine.specs.Runs.{Move, RunState, AreMoves, begun, returned, run_of}
-use Rattle.fast_slow_engine.proofs.LineLemmas.{lines_are_own}
+use Rattle.fast_slow_engine.proofs.LineOwners.{lines_are_own}
 use Rattle.run_laws.proofs.Steps.{move_steps}
-use Rattle.run_laws.proofs.SeatLemmas.{seats_stay, begun_own}
+use Rattle.run_laws.proofs.MachinesKept.{seats_stay, begun_own}
 use Rattle.move_orders.specs.SeatLines.{LinesGather, lines_down, lines_of}
 
 -- a line of one of the first seats stands once in the lines of all

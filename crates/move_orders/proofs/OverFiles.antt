@@ -10,7 +10,7 @@ use Rattle.fast_slow_engine.specs.declared.setup.Setup.{Setup}
 use Rattle.fast_slow_engine.specs.Mechs.{Mech}
 use Rattle.fast_slow_engine.specs.PhaseTable.{mech_new, rests}
 use Rattle.fast_slow_engine.specs.Runs.{CanMove, Move, AreMoves, move_of_seat, move_over, moves_over, next_move, run_of, with_move}
-use Rattle.run_laws.proofs.SeatLemmas.{seats_stay}
+use Rattle.run_laws.proofs.MachinesKept.{seats_stay}
 use Rattle.move_orders.specs.Orders.{MovesOverFiles, begun_at, begun_files, seats_of}
 use Rattle.move_orders.proofs.Begun.{each_counts, own_begun}
 

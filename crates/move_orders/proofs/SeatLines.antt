@@ -7,7 +7,7 @@ use Rattle.fast_slow_engine.specs.declared.setup.Turn.TheVariants.{Going, Return
 use Rattle.fast_slow_engine.specs.Mechs.{Mech}
 use Rattle.fast_slow_engine.specs.PhaseTable.{mech_turn}
 use Rattle.fast_slow_engine.specs.Runs.{returned}
-use Rattle.fast_slow_engine.proofs.LineLemmas.{lines_are_own}
+use Rattle.fast_slow_engine.proofs.LineOwners.{lines_are_own}
 use Rattle.move_orders.specs.SeatLines.{lines_of}
 
 pub lines_append : (seat : ℕ) (xs ys : List Receipt) → lines_of seat (xs ++ ys) ≡ lines_of seat xs ++ lines_of seat ys

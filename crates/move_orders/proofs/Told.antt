@@ -16,11 +16,11 @@ use Rattle.fast_slow_engine.specs.Mechs.{Mech}
 use Rattle.fast_slow_engine.specs.PhaseTable.{mech_fed, mech_request, mech_turn, rests}
 use Rattle.fast_slow_engine.specs.Runs.{CanMove, Move, RunState, AreMoves, begun, returned, run_of}
 use Rattle.fast_slow_engine.specs.Lines.{returns}
-use Rattle.fast_slow_engine.proofs.LineLemmas.{calls_end, lines_are_own}
+use Rattle.fast_slow_engine.proofs.LineOwners.{calls_end, lines_are_own}
 use Rattle.fast_slow_engine.proofs.SameCalls.{same_fed}
 use Rattle.run_laws.specs.Seats.{EachMech}
 use Rattle.run_laws.proofs.Steps.{at_set, beside_set, move_steps, some_same}
-use Rattle.run_laws.proofs.SeatLemmas.{seats_stay, begun_own, new_mech}
+use Rattle.run_laws.proofs.MachinesKept.{seats_stay, begun_own, new_mech}
 use Rattle.move_orders.specs.Orders.{begun_at}
 use Rattle.move_orders.specs.SeatLines.{LinesTell, lines_of, ops_of}
 use Rattle.move_orders.proofs.Begun.{other_begun, own_begun}

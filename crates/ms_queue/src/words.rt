@@ -9,7 +9,7 @@ use word_fields::VersionedWord;
 
 /// The reference that a word has.
 #[inline(always)]
-#[tactic(auto, using(word_fields::proofs::VersionedLemmas::versioned_words))]
+#[tactic(auto, using(word_fields::proofs::ChangedWords::versioned_words))]
 pub fn node_of(word: u64) -> u32
     ensures value { result ≡ versioned_value word }
     ensures small { result < 2 ^ 24 }

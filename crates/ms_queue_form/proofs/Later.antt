@@ -3,7 +3,7 @@ use Rattle.std.proofs.Common.{ℕ}
 use Rattle.step_memory.specs.declared.steps.Request.{Request}
 use Rattle.step_memory.specs.declared.steps.Seen.{Seen}
 use Rattle.word_fields.specs.Versioned.{versioned_value, value_below}
-use Rattle.word_fields.proofs.VersionedLemmas.{cleared-changed}
+use Rattle.word_fields.proofs.ChangedWords.{cleared-changed}
 use Rattle.normal_traits.specs.World.{World}
 use Rattle.normal_traits.specs.Steps.{Requested, IsStep}
 use Rattle.client_lemmas.proofs.Later as any_step

@@ -1,14 +1,14 @@
 pub mod Places
 pub mod Changes
 pub mod Later
-pub mod Kept
+pub mod LearntStays
 pub mod Journal
 pub mod History
 pub mod Chains
 pub mod Shapes
 pub mod Takes
 pub mod Puts
-pub mod Keeps
+pub mod ShapeKept
 pub mod Opening
 pub mod Searching
 pub mod Offers

@@ -13,7 +13,7 @@ use Rattle.step_memory.specs.declared.steps.Seen.{Seen}
 use Rattle.word_fields.specs.Versioned.{versioned_value, versioned_bit, versioned_version, is_modified, value_below, changed_word}
 use Rattle.node_arena.specs.declared.places.TheConstants.{HEAD, TAIL, NODE_VALUE, NODE_NEXT}
 use Rattle.node_arena.specs.MemoryMap.{node_place, reference_to}
-use Rattle.node_arena.proofs.PlaceLemmas.{node_place-reference_to}
+use Rattle.node_arena.proofs.PlacesApart.{node_place-reference_to}
 use Rattle.normal_traits.specs.declared.form.Found.{Found}
 use Rattle.normal_traits.specs.declared.form.Found.TheVariants.{Going, Ready, Answer, Contended}
 use Rattle.normal_traits.specs.World.{World}
@@ -26,7 +26,7 @@ use Rattle.ms_queue_form.specs.Shape.{IsQueue}
 use Rattle.ms_queue_form.specs.Knowledge.{Learnt, Serves}
 use Rattle.ms_queue_form.specs.Form.{queue_form}
 use Rattle.ms_queue_form.proofs.Places.{value_not_versioned, next_listable}
-use Rattle.ms_queue_form.proofs.Kept.{next_place_is, next_place_word, next_place_versioned}
+use Rattle.ms_queue_form.proofs.LearntStays.{next_place_is, next_place_word, next_place_versioned}
 use Rattle.ms_queue_form.proofs.History.{puts_is}
 use Rattle.client_lemmas.proofs.Places.{apart_fields}
 use Rattle.client_lemmas.proofs.Offers.{may_exhaust_at, one_entry, two_apart}

@@ -5,7 +5,7 @@ use Rattle.std.proofs.lemmas.Bool.{ne_eqb}
 use Rattle.lin_report.specs.declared.calls.Client.TheVariants.{Queue}
 use Rattle.lin_report.specs.Object.{queue_object}
 use Rattle.word_fields.specs.Versioned.{versioned_value, versioned_version}
-use Rattle.word_fields.proofs.VersionedLemmas.{value-word, version-word}
+use Rattle.word_fields.proofs.ChangedWords.{value-word, version-word}
 use Rattle.node_arena.specs.declared.places.TheConstants.{HEAD, TAIL, NODE_NEXT}
 use Rattle.node_arena.specs.MemoryMap.{node_place}
 use Rattle.node_arena.specs.Opening.{opening_word, dummy_word}

@@ -3,7 +3,7 @@ use Rattle.std.proofs.Common.{◌≡◌, ℕ, ◌<◌, true, false, eqb, ◌||�
 use Rattle.std.proofs.lemmas.Bool.{ne_eqb, eq-eqb, le-leb, or_right}
 use Rattle.node_arena.specs.declared.places.TheConstants.{NODE_VALUE, NODE_NEXT}
 use Rattle.node_arena.specs.MemoryMap.{block_place, node_place, field_at, reference_to}
-use Rattle.node_arena.proofs.PlaceLemmas.{block_place_behind, field_at-block_place, node_place_behind}
+use Rattle.node_arena.proofs.PlacesApart.{block_place_behind, field_at-block_place, node_place_behind}
 use Rattle.ms_queue_form.specs.Chain.{is_versioned, is_listable, is_next}
 use Rattle.client_lemmas.proofs.Places.{field_of_place}
 

@@ -6,10 +6,10 @@ use Rattle.lin_report.specs.declared.calls.Reply.{Reply}
 use Rattle.lin_report.specs.declared.calls.Reply.TheVariants.{Done, Value}
 use Rattle.lin_report.specs.Object.{queue_object}
 use Rattle.word_fields.specs.Versioned.{versioned_value, versioned_version, changed_word}
-use Rattle.word_fields.proofs.VersionedLemmas.{value-changed, value-cleared}
+use Rattle.word_fields.proofs.ChangedWords.{value-changed, value-cleared}
 use Rattle.node_arena.specs.declared.places.TheConstants.{HEAD, TAIL, NODE_VALUE, NODE_NEXT}
 use Rattle.node_arena.specs.MemoryMap.{node_place, reference_to}
-use Rattle.node_arena.proofs.PlaceLemmas.{block-reference_to}
+use Rattle.node_arena.proofs.PlacesApart.{block-reference_to}
 use Rattle.normal_traits.specs.declared.lists.Entry.{Entry}
 use Rattle.normal_traits.specs.World.{Listed, World, held_after}
 use Rattle.normal_traits.specs.World.Maker.{By}

@@ -23,7 +23,7 @@ use Rattle.ms_queue_form.specs.Shape.{IsQueue}
 use Rattle.ms_queue_form.specs.Knowledge.{WasTail, WasHead, WasNext, WasPeeked, Learnt, Knows}
 use Rattle.ms_queue_form.specs.Form.{queue_form}
 use Rattle.ms_queue_form.proofs.History.{apply-take, apply-peek, take_empty}
-use Rattle.ms_queue_form.proofs.Kept.{next_place_is, next_place_word, first_now}
+use Rattle.ms_queue_form.proofs.LearntStays.{next_place_is, next_place_word, first_now}
 use Rattle.ms_queue_form.proofs.Later.{Later}
 use Rattle.ms_queue_form.proofs.Places.{value_not_versioned}
 use Rattle.client_lemmas.proofs.Words.{clear_from}

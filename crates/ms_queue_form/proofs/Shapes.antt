@@ -2,7 +2,7 @@
 use Rattle.std.proofs.Common.{◌≡◌, ℕ, ◌+◌, ◌/◌, ◌<◌, true, false, List, ◌∷◌, refl, sym, ap, ◌∙◌, arith}
 use Rattle.word_fields.specs.Versioned.{versioned_value, versioned_version}
 use Rattle.node_arena.specs.declared.places.TheConstants.{HEAD, TAIL, NODE_VALUE, NODE_NEXT}
-use Rattle.node_arena.proofs.PlaceLemmas.{block-reference_to}
+use Rattle.node_arena.proofs.PlacesApart.{block-reference_to}
 use Rattle.normal_traits.specs.World.{Maker, Change, World, is_word}
 use Rattle.normal_traits.specs.World.Maker.{Beside}
 use Rattle.normal_traits.specs.Steps.{with_word}

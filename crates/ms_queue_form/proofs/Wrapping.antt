@@ -26,8 +26,8 @@ use Rattle.ms_queue_form.specs.Knowledge.{WasLinked, Follows}
 use Rattle.ms_queue_form.specs.Form.{queue_form}
 use Rattle.ms_queue_form.proofs.Places.{value_not_versioned}
 use Rattle.ms_queue_form.proofs.Journal.{reached_within}
-use Rattle.ms_queue_form.proofs.Kept.{next_place_is}
-use Rattle.ms_queue_form.proofs.Keeps.{one_alone}
+use Rattle.ms_queue_form.proofs.LearntStays.{next_place_is}
+use Rattle.ms_queue_form.proofs.ShapeKept.{one_alone}
 use Rattle.ms_queue_form.proofs.Later.{Later}
 use Rattle.ms_queue_form.proofs.Searching.{tail_loaded}
 use Rattle.ms_queue_form.proofs.Offers.{offers}

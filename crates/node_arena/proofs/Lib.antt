@@ -1,3 +1,3 @@
-pub mod OpeningLemmas
-pub mod PlaceLemmas
+pub mod ZerosOpen
+pub mod PlacesApart
 pub mod Openings

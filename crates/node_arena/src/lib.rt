@@ -2,7 +2,7 @@
 #![tactic(auto)]
 
 pub use opening::opening_words;
-pub use places::{node_place, op_place, place_of, record_place, reference_to, value_place};
+pub use places::{block_place, node_place, op_place, record_place, reference_to, value_place};
 
 pub mod opening;
 pub mod places;

@@ -44,7 +44,7 @@ pub fn zeros(alloc: Global, cap: u32) -> Result<Vec<u64>, NoMemory>
 }
 
 /// The words with which a client's run opens: the first words and blocks 0 to CAP.
-#[tactic(auto, using(crate::proofs::OpeningLemmas::opening))]
+#[tactic(auto, using(crate::proofs::ZerosOpen::opening))]
 pub fn opening_words(alloc: Global, cap: u32, client: Client) -> Result<Vec<u64>, NoMemory>
     requires some_blocks { 1 ≤ cap }
     requires cap_in_range { cap ≤ 65536 }

@@ -65,7 +65,7 @@ pub const REFERENCES: u32 = 4;
 
 /// The place of a block's field.
 #[tactic(auto, unfolding(crate::specs::MemoryMap::block_place))]
-pub fn place_of(block: u32, field: u32) -> u32
+pub fn block_place(block: u32, field: u32) -> u32
     requires block_in_range { block < 2 ^ 22 }
     requires field_in_range { field < 32 }
     ensures place { result ≡ block_place block field }
@@ -93,7 +93,7 @@ pub fn node_place(reference: u32, field: u32) -> u32
         0 => 1,
         node => node,
     };
-    place_of(
+    block_place(
         reference / REFERENCES,
         NODE_FIELD + NODE_FIELDS * (node - 1) + field,
     )

@@ -1,6 +1,6 @@
 //! The opening words with ample memory, and worked places.
 use crate::opening::opening_words;
-use crate::places::{node_place, op_place, place_of, record_place, reference_to, value_place};
+use crate::places::{block_place, node_place, op_place, record_place, reference_to, value_place};
 use lin_report::Client;
 use std::test::Fail;
 
@@ -56,9 +56,9 @@ fn worked_places(rt: HostRuntime) {
         (record_place(7), 19),
         (value_place(0), 24),
         (value_place(7), 31),
-        (place_of(0, 0), 32),
-        (place_of(1, 0), 64),
-        (place_of(1, 11), 75),
+        (block_place(0, 0), 32),
+        (block_place(1, 0), 64),
+        (block_place(1, 11), 75),
         (node_place(reference_to(0, 1), 2), 46),
         (node_place(reference_to(1, 1), 1), 77),
         (node_place(reference_to(0, 2), 0), 49),

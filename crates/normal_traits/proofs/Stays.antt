@@ -7,7 +7,7 @@ use Rattle.step_memory.specs.declared.steps.Request.{Request}
 use Rattle.step_memory.specs.declared.steps.Request.TheVariants.{Load, Store, Exchange, Add}
 use Rattle.step_memory.specs.declared.steps.Seen.{Seen}
 use Rattle.word_fields.specs.Versioned.{versioned_version, cleared_word}
-use Rattle.word_fields.proofs.VersionedLemmas.{version-cleared}
+use Rattle.word_fields.proofs.ChangedWords.{version-cleared}
 use Rattle.normal_traits.specs.declared.lists.Entry.{Entry}
 use Rattle.normal_traits.specs.World.{World, Listed, is_word}
 use Rattle.normal_traits.specs.NormalForm.{NormalForm}
@@ -76,7 +76,7 @@ module _ {S W : Type 0} (form : NormalForm S W) (laws : Laws form) where
   -- the entries of a held list are good
   pub entry_good : (world : World) (list : Listed) (search : S) (since j : ℕ) (entry : Entry) → form.shape world → IsOffered form world list search since → slice_get list.entries j ≡ Some entry → IsGoodEntry form world entry
   entry_good world list search since j entry shape offered listed =
-      let good = laws.offers world search list.call.op since list.block offered.command shape offered.knows offered.ready offered.small in
+      let good = laws.of_world.offers world search list.call.op since list.block offered.command shape offered.knows offered.ready offered.small in
       all_at (IsGoodEntry form world) (form.offer_of search list.call.op list.block).entries j entry good.entries (ap (λ (entries : List Entry). slice_get entries j) (sym offered.entries) ∙ listed)
 
   module _ (world : World) (place : ℕ) (fixed : form.is_versioned place ≡ false) where
@@ -106,8 +106,8 @@ module _ {S W : Type 0} (form : NormalForm S W) (laws : Laws form) where
     word_stays after shape here nothing = refl
     word_stays after shape here (elsewhere at word is) = word_beside at word world.words place (words_apart form.is_root world place at here is)
     word_stays after shape here (clears at is versioned listable) = word_beside at _ world.words place (apart at versioned)
-    word_stays after shape here (searches {seen = seen} search op since command asking knows r) = request_stays (form.request_of search) after seen (laws.search_asks_well world search op since command shape asking knows) r
-    word_stays after shape here (wraps {seen = seen} wrap list stop command asking follows r) = request_stays (form.wrap_request_of wrap) after seen (laws.wrap_asks_well world wrap list stop shape asking follows) r
+    word_stays after shape here (searches {seen = seen} search op since command asking knows r) = request_stays (form.request_of search) after seen (laws.of_world.search_asks_well world search op since command shape asking knows) r
+    word_stays after shape here (wraps {seen = seen} wrap list stop command asking follows r) = request_stays (form.wrap_request_of wrap) after seen (laws.of_world.wrap_asks_well world wrap list stop shape asking follows) r
     word_stays after shape here (first list search since entry word offered fresh block needs listed at exchanged) = entry_stays list search since 0 word entry shape offered listed
     word_stays after shape here (first_of_block list search since entry word offered fresh some unused filled listed at exchanged) = entry_stays list search since 0 word entry shape offered listed
     word_stays after shape here (second list search since entry word offered took fails listed at exchanged) = entry_stays list search since 1 word entry shape offered listed

@@ -103,15 +103,15 @@ MayContend form search seen =
     ⊎ ((at from to : ℕ) × (form.request_of search ≡ Exchange at from to) × (seen.won ≡ false))
     ⊎ form.is_forced search seen
 
-pub record Laws {S W : Type 0} (form : NormalForm S W) : Type 0 where
-  -- the shape holds at the opening, and each step keeps it
-  pub opens : form.shape (opening_world form)
-  pub shape_kept : (world after : World) → form.shape world → IsStep form world after → form.shape after
-  -- of a shape: each change really changed the object; no two changes are of lists with one identity, or
-  -- with one block; causes in the journal differ, each of a used block and of one of eight kinds
+-- The laws of one world: what holds wherever the shape holds, of what a search or a wrap-up asks for, offers and says.
+-- No step is made in them, so an author proves them first.
+pub record WorldLaws {S W : Type 0} (form : NormalForm S W) : Type 0 where
+  -- each change really changed the object; no two changes are of lists with one identity, or with one block. No law of
+  -- runs rests on the first and the last yet: they tell an author that a change is told once, and that its block is its own
   pub effective : (world : World) (newer older : List Change) (change : Change) → form.shape world → world.changes ≡ newer ++ change ∷ older → ¬ Observes form.object change.list.call.op (held_after form.object older)
   pub one_change_a_list : (world : World) → form.shape world → AllPairs (λ (a b : Change). a.list.identity ≢ b.list.identity) world.changes
   pub one_change_a_block : (world : World) → form.shape world → AllPairs (λ (a b : Change). 0 < a.list.block → a.list.block ≢ b.list.block) world.changes
+  -- causes in the journal differ, each of a used block and of one of eight kinds
   pub causes_differ : (world : World) → form.shape world → AllPairs (λ (a b : Won). a.cause ≢ b.cause) world.journal
   pub causes_bounded : (world : World) → form.shape world → All (λ (won : Won). (world.used won.cause.block ≡ true) × (won.cause.kind < 8)) world.journal
   -- a search that begins asks, and knows what holds now
@@ -119,34 +119,46 @@ pub record Laws {S W : Type 0} (form : NormalForm S W) : Type 0 where
   pub begins_knowing : (world : World) (op : Op) → IsCommandOf form.object op → form.shape world → form.knows (form.begin_of op) op world (length world.changes)
   -- the notes of a block other than 0, which the engine stores, are no versioned words
   pub notes_plain : (block field : ℕ) → 0 < block → field < 12 → form.is_versioned (block_place block field) ≡ false
-  -- what a search knows and a wrap-up follows stays true, and a dead list stays dead, whatever anyone does
-  pub knows_kept : (world after : World) (search : S) (op : Op) (since : ℕ) → IsCommandOf form.object op → form.shape world → form.knows search op world since → IsStep form world after → form.knows search op after since
-  pub follows_kept : (world after : World) (wrap : W) (list : Listed) (stop : ℕ) → form.shape world → form.follows wrap list stop world → IsStep form world after → form.follows wrap list stop after
-  pub dead_kept : (world after : World) (list : Listed) → form.shape world → form.dead list world → IsStep form world after → form.dead list after
-  -- a search asks for loads and exchanges of its own words, and what it is fed it knows
+  -- a search asks for loads and exchanges of its own words, and gives up for a cause. No law of runs rests on the cause:
+  -- it rules out a structure that gives up where nobody stands in its way
   pub search_asks_well : (world : World) (search : S) (op : Op) (since : ℕ) → IsCommandOf form.object op → form.shape world → form.asks search → form.knows search op world since → AsksWell form world (form.request_of search)
-  pub search_fed : (world after : World) (seen : Seen) (search : S) (op : Op) (since : ℕ) → IsCommandOf form.object op → form.shape world → form.asks search → form.knows search op world since → Requested form (form.request_of search) world after seen
-      → form.knows (form.feed_of search seen) op after since × FoundWell form after op since (form.feed_of search seen) (form.found_of search seen)
   pub contends : (search : S) (seen : Seen) → form.asks search → form.found_of search seen ≡ found.Contended → MayContend form search seen
   -- a ready search is of an operation that may change the object, and its offer is good
   pub lists : (world : World) (search : S) (op : Op) (since : ℕ) → IsCommandOf form.object op → form.knows search op world since → form.is_ready search → IsTrue (form.may_list op) × IsTrue (may_exhaust op)
   pub offers : (world : World) (search : S) (op : Op) (since block : ℕ) → IsCommandOf form.object op → form.shape world → form.knows search op world since → form.is_ready search → block < 2 ^ 17 → IsGoodOffer form world block (form.offer_of search op block)
-  -- where the operation needs no block, its list is the same for every block
+  -- where the operation needs no block, its list is the same for every block, so that a helper without one makes the
+  -- same list. No law of runs rests on it: there a list is read back from the words that were stored for it
   pub same_entries : (search : S) (op : Op) (block other : ℕ) → form.needs_block op ≡ false → (form.offer_of search op block).entries ≡ (form.offer_of search op other).entries
-  -- a wrap-up asks for loads and exchanges of its own words, and its end is right
+  -- a wrap-up asks for loads and exchanges of its own words, and what it begins with is right
   pub wrap_asks_well : (world : World) (wrap : W) (list : Listed) (stop : ℕ) → form.shape world → form.wraps wrap → form.follows wrap list stop world → AsksWell form world (form.wrap_request_of wrap)
   pub wrap_begun : (world : World) (list : Listed) (search : S) (since stop : ℕ) → form.shape world → IsOffered form world list search since → Stopped world list stop
       → WrappedWell form world list stop (form.begin_wrap_of list.call.op list.entries stop) (form.wrap_begun_of list.call.op list.entries stop)
-  pub wrap_fed : (world after : World) (seen : Seen) (wrap : W) (list : Listed) (stop : ℕ) → IsCommandOf form.object list.call.op → form.shape world → form.wraps wrap → form.follows wrap list stop world → Requested form (form.wrap_request_of wrap) world after seen
-      → WrappedWell form after list stop (form.feed_wrap_of wrap seen) (form.wrap_found_of wrap seen)
-  -- a dead list has made no change, and its first entry can't win any more
+  -- a dead list has made no change, and its first entry can't win any more. No law of runs rests on the latter: it tells
+  -- an author what a list is dead for
   pub dead_unchanged : (world : World) (list : Listed) (change : Change) → form.shape world → form.dead list world → Among change world.changes → change.list ≢ list
   pub dead_first : (world : World) (list : Listed) (search : S) (since : ℕ) (entry : Entry) → form.shape world → form.dead list world → IsOffered form world list search since → IsFresh world list → slice_get list.entries 0 ≡ Some entry → world.words entry.target ≢ entry.from
   -- a change beside the lists is that of a list with a block, whose first entry took effect
   pub beside : (world : World) (list : Listed) (entry : Entry) → form.shape world → form.adds_beside world entry ≡ Some list → (0 < list.block) × Took world list 0
+  -- the outcome with which a wrap-up begins fits the record of its call
+  pub begun_fits : (world : World) (list : Listed) (search : S) (since stop : ℕ) → form.shape world → IsOffered form world list search since → Stopped world list stop → WrappedFits (form.wrap_begun_of list.call.op list.entries stop)
+
+-- What a structure in normalized form owes: the laws of one world, and those of a step, whoever makes it.
+pub record Laws {S W : Type 0} (form : NormalForm S W) : Type 0 where
+  pub of_world : WorldLaws form
+  -- the shape holds at the opening, and each step keeps it
+  pub opens : form.shape (opening_world form)
+  pub shape_kept : (world after : World) → form.shape world → IsStep form world after → form.shape after
+  -- what a search knows and a wrap-up follows stays true, and a dead list stays dead, whatever anyone does
+  pub knows_kept : (world after : World) (search : S) (op : Op) (since : ℕ) → IsCommandOf form.object op → form.shape world → form.knows search op world since → IsStep form world after → form.knows search op after since
+  pub follows_kept : (world after : World) (wrap : W) (list : Listed) (stop : ℕ) → form.shape world → form.follows wrap list stop world → IsStep form world after → form.follows wrap list stop after
+  pub dead_kept : (world after : World) (list : Listed) → form.shape world → form.dead list world → IsStep form world after → form.dead list after
+  -- what a search is fed it knows, and what a wrap-up ends with is right
+  pub search_fed : (world after : World) (seen : Seen) (search : S) (op : Op) (since : ℕ) → IsCommandOf form.object op → form.shape world → form.asks search → form.knows search op world since → Requested form (form.request_of search) world after seen
+      → form.knows (form.feed_of search seen) op after since × FoundWell form after op since (form.feed_of search seen) (form.found_of search seen)
+  pub wrap_fed : (world after : World) (seen : Seen) (wrap : W) (list : Listed) (stop : ℕ) → IsCommandOf form.object list.call.op → form.shape world → form.wraps wrap → form.follows wrap list stop world → Requested form (form.wrap_request_of wrap) world after seen
+      → WrappedWell form after list stop (form.feed_wrap_of wrap seen) (form.wrap_found_of wrap seen)
   -- a plain outcome fits the record of its call, through which a helper tells it
   pub answers_fit : (world after : World) (seen : Seen) (search : S) (op : Op) (since : ℕ) → IsCommandOf form.object op → form.shape world → form.asks search → form.knows search op world since → Requested form (form.request_of search) world after seen
       → FoundFits (form.found_of search seen)
-  pub begun_fits : (world : World) (list : Listed) (search : S) (since stop : ℕ) → form.shape world → IsOffered form world list search since → Stopped world list stop → WrappedFits (form.wrap_begun_of list.call.op list.entries stop)
   pub wraps_fit : (world after : World) (seen : Seen) (wrap : W) (list : Listed) (stop : ℕ) → IsCommandOf form.object list.call.op → form.shape world → form.wraps wrap → form.follows wrap list stop world → Requested form (form.wrap_request_of wrap) world after seen
       → WrappedFits (form.wrap_found_of wrap seen)

@@ -2,12 +2,8 @@
 //! wrap-up, which reads how far that list got.
 #![tactic(auto)]
 
-pub use contention::Contention;
 pub use form::{Found, Normalized, Wrapped};
 pub use lists::{Entry, List, Stores};
 
-pub mod contention;
 pub mod form;
 pub mod lists;
-#[cfg(test)]
-mod tests;

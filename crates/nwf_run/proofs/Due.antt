@@ -17,8 +17,8 @@ use Rattle.nwf_run.specs.Replaying.Reports.{wrote, failed}
 use Rattle.nwf_run.specs.Runs.{FilesRun}
 use Rattle.nwf_run.specs.Stops.{status_of, message_of, refused_message}
 use Rattle.nwf_run.specs.Sweeps.{AreSweepOf, SomeExhausts}
-use Rattle.nwf_run.specs.Words.{Asked, Replay, Sweep, files_asked}
-use Rattle.nwf_run.specs.Words.Asked.{a_replay, a_sweep, a_load, a_run}
+use Rattle.nwf_run.specs.CommandLine.{Asked, Replay, Sweep, files_asked}
+use Rattle.nwf_run.specs.CommandLine.Asked.{a_replay, a_sweep, a_load, a_run}
 use Rattle.nwf_run.proofs.JudgedFiles.{after_schedule, commands_accepted}
 use Rattle.nwf_run.proofs.SameRuns.{replays_same, loads_same, sweeps_same}
 use Rattle.nwf_run.proofs.AskedOfCore.{IsOfCore}

@@ -10,8 +10,8 @@ use Rattle.nwf_run.specs.Replaying.Reports.{wrote, failed}
 use Rattle.nwf_run.specs.Runs.{FilesRun}
 use Rattle.nwf_run.specs.Stops.{status_of}
 use Rattle.nwf_run.specs.Sweeps.{SomeExhausts}
-use Rattle.nwf_run.specs.Words.{Asked, client_asked}
-use Rattle.nwf_run.specs.Words.Asked.{a_replay, a_sweep, a_load, a_run}
+use Rattle.nwf_run.specs.CommandLine.{Asked, client_asked}
+use Rattle.nwf_run.specs.CommandLine.Asked.{a_replay, a_sweep, a_load, a_run}
 use Rattle.nwf_run.proofs.JudgedFiles.{there-weaker}
 
 -- a stop has none of the statuses of a report

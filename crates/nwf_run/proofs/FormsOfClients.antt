@@ -5,7 +5,7 @@ use Rattle.lin_report.specs.declared.calls.Client.TheVariants as client
 use Rattle.normal_traits.specs.World.{Listed}
 use Rattle.ms_queue_form.proofs.AtOnce.{queue_changes_at_once}
 use Rattle.harris_list_form.specs.Lists.{the_list}
-use Rattle.harris_list_form.proofs.AtOnce.{list_changes_at_once}
+use Rattle.harris_list_form.proofs.Calls.AtOnce.{list_changes_at_once}
 use Rattle.bucket_set.specs.Buckets.{buckets}
 use Rattle.nwf_run.specs.Forms.{AtOnceButTheTree, BUCKETS}
 

@@ -3,7 +3,7 @@ use Rattle.std.proofs.Common.{arith, ◌≡◌, ◌∙◌, ◌++◌, ◌∷◌, 
 use Rattle.std.specs.List.{Any}
 use Rattle.nwf_run.specs.Replaying.{AreRunsFor, Makes, text_for}
 use Rattle.nwf_run.specs.Runs.{Exhausts, FilesRun, IsTextOf, RunMeetsHeadline}
-use Rattle.nwf_run.specs.Words.{Asked, client_asked}
+use Rattle.nwf_run.specs.CommandLine.{Asked, client_asked}
 
 of_all : {X : Type 0} (P : X → Type 0) (x : X) → P x → All P (x ∷ [])
 of_all P x h zero d within = h

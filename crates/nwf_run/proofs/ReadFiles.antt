@@ -13,9 +13,9 @@ use Rattle.nwf_run.specs.declared.stops.Stop.{Stop}
 use Rattle.nwf_run.specs.declared.stops.Stop.TheVariants.{Usage, Refused, ReadFault, NoMemory}
 use Rattle.nwf_run.specs.Judging.{AcceptedBefore, IsJudged, SayFirst, refusal_in}
 use Rattle.whole_files.specs.Outside.{Opening}
-use Rattle.nwf_run.specs.Reading.{FileReads, Opens, OpensUntil, StopsAt, files_by_name, first_of, name_of, openings}
+use Rattle.nwf_run.specs.Reading.{FileReads, Opens, OpensUntil, StopsReading, files_by_name, first_of, name_of, openings}
 use Rattle.nwf_run.specs.Stops.{stop_for}
-use Rattle.nwf_run.specs.Words.{Replay}
+use Rattle.nwf_run.specs.CommandLine.{Replay}
 use Rattle.nwf_run.proofs.JudgedFiles.{back, counted, commands_accepted, after_schedule, refused_after, refused_next, refused_schedule}
 
 -- what was judged of the bytes that were read is judged of the file
@@ -49,17 +49,17 @@ module _ (replay : Replay) where
 module _ (tells : Bool) (held : List ℕ → Option (List ℕ)) (replay : Replay) where
   -- the first command files were accepted, and reading stopped at the next one
   pub stops_next : (commands : List (List Op)) → (IsTrue tells → SayFirst replay.client (length replay.files) (files_by_name held (alone replay)) commands) → length commands < length replay.files
-      → (stop : Stop) → FileReads {X = Op} tells (script_outcome replay.client) (length commands + 1) (held (get_or replay.files (length commands) [])) (Err stop) → StopsAt tells held (alone replay) stop
+      → (stop : Stop) → FileReads {X = Op} tells (script_outcome replay.client) (length commands + 1) (held (get_or replay.files (length commands) [])) (Err stop) → StopsReading tells held (alone replay) stop
   stops_next commands say within (Refused file refusal) read =
       let at : length commands + 1 ≡ file = sym read.0 in
       let named : held (get_or replay.files (length commands) []) ≡ files_by_name held (alone replay) (length commands + 1) = ap held (sym (name_at (alone replay) (length commands))) in
-      subst (λ n. StopsAt tells held (alone replay) (Refused n refusal)) at (record {
+      subst (λ n. StopsReading tells held (alone replay) (Refused n refusal)) at (record {
         from = omega arith;
         within = omega (arith, within);
         first = λ t. refused_next replay.client (length replay.files) (files_by_name held (alone replay)) commands refusal (say t) (omega (arith, within)) (subst (λ o. IsSomeAnd o (λ bytes. script_outcome replay.client bytes ≡ Err refusal)) named (read.1 t));
       })
   stops_next commands say within (ReadFault file) read =
-      subst (λ n. StopsAt tells held (alone replay) (ReadFault n)) (sym read) (record {
+      subst (λ n. StopsReading tells held (alone replay) (ReadFault n)) (sym read) (record {
         from = omega arith;
         within = omega (arith, within);
         before = λ t. commands_accepted replay.client (length replay.files) (files_by_name held (alone replay)) commands (say t);
@@ -75,12 +75,12 @@ module _ (tells : Bool) (held : List ℕ → Option (List ℕ)) (replay : Replay
     seats = length replay.files
 
     -- reading stopped at the schedule
-    pub stops_first : (stop : Stop) → FileReads {X = ScheduleEntry} tells (schedule_outcome seats) 0 (held schedule) (Err stop) → StopsAt tells held (behind replay schedule) stop
+    pub stops_first : (stop : Stop) → FileReads {X = ScheduleEntry} tells (schedule_outcome seats) 0 (held schedule) (Err stop) → StopsReading tells held (behind replay schedule) stop
     stops_first (Refused file refusal) read =
         let at : 0 ≡ file = sym read.0 in
-        subst (λ n. StopsAt tells held (behind replay schedule) (Refused n refusal)) at (record { from = omega arith; within = omega arith; first = λ t. refused_schedule replay.client seats files refusal (read.1 t) })
+        subst (λ n. StopsReading tells held (behind replay schedule) (Refused n refusal)) at (record { from = omega arith; within = omega arith; first = λ t. refused_schedule replay.client seats files refusal (read.1 t) })
     stops_first (ReadFault file) read =
-        subst (λ n. StopsAt tells held (behind replay schedule) (ReadFault n)) (sym read) (record { from = omega arith; within = omega arith; before = λ t earlier from below. absurd (omega (arith, below)) })
+        subst (λ n. StopsReading tells held (behind replay schedule) (ReadFault n)) (sym read) (record { from = omega arith; within = omega arith; before = λ t earlier from below. absurd (omega (arith, below)) })
     stops_first NoMemory read = tt
     stops_first Usage read = read
 
@@ -95,7 +95,7 @@ module _ (tells : Bool) (held : List ℕ → Option (List ℕ)) (replay : Replay
     accepted_behind file each earlier from below = subst (λ (o : Option (List ℕ)). IsSomeAnd o (λ bytes. refusal_in replay.client seats earlier bytes ≡ None)) (same_file earlier from) (each earlier from below)
 
     -- the schedule was accepted, and reading stopped at a command file
-    pub stops_behind : (entries : List ScheduleEntry) → (IsTrue tells → IsSomeAnd (held schedule) (λ bytes. schedule_outcome seats bytes ≡ Ok entries)) → (stop : Stop) → StopsAt tells held (alone replay) stop → StopsAt tells held (behind replay schedule) stop
+    pub stops_behind : (entries : List ScheduleEntry) → (IsTrue tells → IsSomeAnd (held schedule) (λ bytes. schedule_outcome seats bytes ≡ Ok entries)) → (stop : Stop) → StopsReading tells held (alone replay) stop → StopsReading tells held (behind replay schedule) stop
     stops_behind entries accepted (Refused file refusal) h = record {
       from = omega arith;
       within = h.within;

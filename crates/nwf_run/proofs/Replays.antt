@@ -6,8 +6,8 @@ use Rattle.lin_report.specs.Text.{report_text, summary_text}
 use Rattle.script_reader.specs.declared.schedules.ScheduleEntry.{ScheduleEntry}
 use Rattle.nwf_run.specs.declared.load_words.LoadWords.{LoadWords}
 use Rattle.nwf_run.specs.Forms.{form_of}
-use Rattle.nwf_run.specs.Words.{Replay}
-use Rattle.nwf_run.specs.Words.Asked.{a_replay, a_load}
+use Rattle.nwf_run.specs.CommandLine.{Replay}
+use Rattle.nwf_run.specs.CommandLine.Asked.{a_replay, a_load}
 use Rattle.nwf_run.specs.Judging.{Accepts, files_of_bytes}
 use Rattle.nwf_run.specs.Reading.{files_by_name}
 use Rattle.nwf_run.specs.Runs.{IsDriven, MakesReplayOfBytes}

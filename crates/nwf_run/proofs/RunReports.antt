@@ -27,7 +27,7 @@ use Rattle.fast_slow_engine.specs.Reports.{report_of_run}
 use Rattle.event_core.specs.Cores.{CoreView, core_new, with_receipts}
 use Rattle.overtaking_law.specs.Overtaking.{greatest_overtaken}
 use Rattle.run_overtaking.specs.Accounts.{most_overtaken}
-use Rattle.schedule_runs.specs.Orders.{Follows, core_in}
+use Rattle.schedule_runs.specs.Orders.{EntriesMade, core_in}
 use Rattle.nwf_run.specs.Writable.{CanBeWritten, RunsCanBeWritten}
 use Rattle.nwf_run.proofs.SameOrder.{apart_moved, apart_pairs, calls_moved, same_summary, same_text}
 
@@ -124,10 +124,10 @@ module _ {S W : Type 0} where
 
   module _ (form : NormalForm S W) where
     -- a core that opened over the commands and was driven
-    pub driven : (setup : Setup) (commands : List (Vec Op Global)) (entries schedule : List ScheduleEntry) (new core : CoreView S W) → new ≡ core_new form setup (files_of commands) → schedule ≡ entries → Follows form schedule new core
-        → Follows form entries (core_new form setup (files_of commands)) core
+    pub driven : (setup : Setup) (commands : List (Vec Op Global)) (entries schedule : List ScheduleEntry) (new core : CoreView S W) → new ≡ core_new form setup (files_of commands) → schedule ≡ entries → EntriesMade form schedule new core
+        → EntriesMade form entries (core_new form setup (files_of commands)) core
     driven setup commands entries schedule new core is same follows =
-        subst (λ s. Follows form s (core_new form setup (files_of commands)) core) same (subst (λ v. Follows form schedule v core) is follows)
+        subst (λ s. EntriesMade form s (core_new form setup (files_of commands)) core) same (subst (λ v. EntriesMade form schedule v core) is follows)
 
     -- a core that is the run of the commands in an order
     pub can_be_written : (setup : Setup) (commands : List (Vec Op Global)) (order : List ℕ) (core : CoreView S W) → RunsCanBeWritten form → length commands ≡ setup.seats → All (λ (ops : Vec Op Global). IsCommandFile form.object ops.items) commands

@@ -13,7 +13,7 @@ use Rattle.fast_slow_engine.specs.Runs.{moves_over, run_of}
 use Rattle.fast_slow_engine.specs.Reports.{report_of_run}
 use Rattle.overtaking_law.specs.Overtaking.{greatest_overtaken}
 use Rattle.schedule_runs.specs.Orders.{IsOrderOf}
-use Rattle.schedule_runs.proofs.NameLemmas.{names_one_order}
+use Rattle.schedule_runs.proofs.OneOrderNamed.{names_one_order}
 use Rattle.nwf_run.specs.declared.load_words.LoadWords.{LoadWords}
 use Rattle.nwf_run.specs.Forms.{form_of}
 use Rattle.nwf_run.specs.Judging.{Accepts, SayFirst}
@@ -22,7 +22,7 @@ use Rattle.nwf_run.specs.Reading.{files_by_name}
 use Rattle.nwf_run.specs.Replaying.{IsReplayOf, OfOne}
 use Rattle.nwf_run.specs.Runs.{FilesRun, IsRun}
 use Rattle.nwf_run.specs.Sweeps.{AreSwept, AreSweepOf, longest, stop_runs}
-use Rattle.nwf_run.specs.Words.{Replay, Sweep}
+use Rattle.nwf_run.specs.CommandLine.{Replay, Sweep}
 
 -- ---- setups with the same numbers are the same
 

@@ -10,8 +10,8 @@ use Rattle.nwf_run.specs.Reading.{Opens, Reaches, Refuses}
 use Rattle.nwf_run.specs.Replaying.{Ends, Makes, OpensFor, OpensSome, Reports, StopsFor}
 use Rattle.nwf_run.specs.Replaying.Reports.{wrote, failed}
 use Rattle.nwf_run.specs.Stops.{status_of, refused_message, unread_message}
-use Rattle.nwf_run.specs.Words.{Asked, Replay, Sweep, asked_of, files_asked}
-use Rattle.nwf_run.specs.Words.Asked.{a_replay, a_sweep, a_load, a_run}
+use Rattle.nwf_run.specs.CommandLine.{Asked, Replay, Sweep, asked_of, files_asked}
+use Rattle.nwf_run.specs.CommandLine.Asked.{a_replay, a_sweep, a_load, a_run}
 
 -- where the words are those of a load, it is a load that is asked for
 pub load_asked : (P : Asked → Type 0) (r : Option Replay) (s : Option Sweep) (l : Option LoadWords) (load : LoadWords) → r ≡ None → s ≡ None → l ≡ Some load → P (a_load load) → IsSomeAnd (asked_of r s l) P

@@ -26,9 +26,9 @@ use Rattle.nwf_run.specs.Reading.{files_by_name}
 use Rattle.nwf_run.specs.Replaying.{Makes}
 use Rattle.nwf_run.specs.Runs.{Exhausts, FilesRun}
 use Rattle.nwf_run.specs.Sweeps.{IsSwept, SomeExhausts, longest, stop_line, stop_lines, stop_run, stop_runs}
-use Rattle.nwf_run.specs.Words.{Sweep}
+use Rattle.nwf_run.specs.CommandLine.{Sweep}
 use Rattle.nwf_run.specs.Writable.{CanBeWritten, RunsCanBeWritten}
-use Rattle.nwf_run.specs.Words.Asked.{a_sweep}
+use Rattle.nwf_run.specs.CommandLine.Asked.{a_sweep}
 use Rattle.nwf_run.proofs.FormsOfClients.{at_once_but_the_tree}
 use Rattle.nwf_run.proofs.RunReports.{exhausted_is, files_of}
 

@@ -7,8 +7,8 @@ use Rattle.nwf_run.specs.Judging.{SayFirst}
 use Rattle.nwf_run.specs.Reading.{files_by_name}
 use Rattle.nwf_run.specs.Replaying.{Makes}
 use Rattle.nwf_run.specs.Running.{IsThreaded}
-use Rattle.nwf_run.specs.Words.{Replay}
-use Rattle.nwf_run.specs.Words.Asked.{a_run}
+use Rattle.nwf_run.specs.CommandLine.{Replay}
+use Rattle.nwf_run.specs.CommandLine.Asked.{a_run}
 use Rattle.nwf_run.proofs.OneRun.{one_made}
 use Rattle.nwf_run.proofs.FormsOfClients.{at_once_but_the_tree}
 

@@ -28,10 +28,10 @@ use Rattle.run_laws.specs.Files.{FilesFit}
 use Rattle.fast_slow_engine.specs.Reports.{report_of_run}
 use Rattle.run_laws.specs.Ticks.{KeepsTicks, HasTicksOnce}
 use Rattle.run_laws.proofs.StepKinds.{pending_none, pending_open}
-use Rattle.run_laws.proofs.TickLemmas.{IsFew, ticks_had, counts_ticks}
-use Rattle.run_laws.proofs.SeatLemmas.{seats_stay}
-use Rattle.run_laws.proofs.FileLemmas.{files_run}
-use Rattle.run_laws.proofs.ReportLemmas.{runs_report, ticks_once}
+use Rattle.run_laws.proofs.TicksCounted.{IsFew, ticks_had, counts_ticks}
+use Rattle.run_laws.proofs.MachinesKept.{seats_stay}
+use Rattle.run_laws.proofs.CommandsMade.{files_run}
+use Rattle.run_laws.proofs.ReceiptsAreReports.{runs_report, ticks_once}
 use Rattle.nwf_run.specs.Writable.{CanBeWritten, RunsCanBeWritten}
 use Rattle.nwf_run.proofs.SameOrder.{counted_at}
 

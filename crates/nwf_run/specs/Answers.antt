@@ -8,7 +8,7 @@ use Rattle.nwf_run.specs.Replaying.{AreRunsFor, text_for}
 use Rattle.nwf_run.specs.Runs.{FilesRun}
 use Rattle.nwf_run.specs.Stops.{USAGE_MESSAGE, refused_message}
 use Rattle.nwf_run.specs.Sweeps.{SomeExhausts}
-use Rattle.nwf_run.specs.Words.{Asked, Replay, files_asked}
+use Rattle.nwf_run.specs.CommandLine.{Asked, Replay, files_asked}
 
 -- a status and a text are due to what is asked, where these bytes are held under names: the text of its runs, or the
 -- message that the words are not served, or that a file is the first that is refused

@@ -1,4 +1,4 @@
-pub mod Words
+pub mod CommandLine
 pub mod Forms
 pub mod Stops
 pub mod Said

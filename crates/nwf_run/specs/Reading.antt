@@ -7,7 +7,7 @@ use Rattle.nwf_run.specs.declared.stops.Stop.{Stop}
 use Rattle.nwf_run.specs.declared.stops.Stop.TheVariants.{Usage, Refused, ReadFault, NoMemory}
 use Rattle.nwf_run.specs.Judging.{AcceptedBefore, IsFirstRefused}
 use Rattle.whole_files.specs.Outside.{Opening, Rose}
-use Rattle.nwf_run.specs.Words.{Replay}
+use Rattle.nwf_run.specs.CommandLine.{Replay}
 
 -- the number of the first file: that of the schedule, where there is one
 abbrev pub first_of : Replay → ℕ
@@ -34,11 +34,11 @@ pub record Reaches (tells : Bool) (held : List ℕ → Option (List ℕ)) (repla
   pub before : IsTrue tells → AcceptedBefore replay.client (length replay.files) (files_by_name held replay) (first_of replay) file
 
 -- why reading stopped
-abbrev pub StopsAt : Bool → (List ℕ → Option (List ℕ)) → Replay → Stop → Type 0
-StopsAt tells held replay (Refused file refusal) = Refuses tells held replay file refusal
-StopsAt tells held replay (ReadFault file) = Reaches tells held replay file
-StopsAt tells held replay NoMemory = Unit {0}
-StopsAt tells held replay Usage = ⊥
+abbrev pub StopsReading : Bool → (List ℕ → Option (List ℕ)) → Replay → Stop → Type 0
+StopsReading tells held replay (Refused file refusal) = Refuses tells held replay file refusal
+StopsReading tells held replay (ReadFault file) = Reaches tells held replay file
+StopsReading tells held replay NoMemory = Unit {0}
+StopsReading tells held replay Usage = ⊥
 
 -- what was read of the file with this number is what its bytes are, and it is there, where bytes are told
 abbrev pub FileReads : {X : Type 0} → Bool → (List ℕ → Result (List X) Refusal) → ℕ → Option (List ℕ) → Result (Vec X Global) Stop → Type 0

@@ -14,13 +14,13 @@ use Rattle.nwf_run.specs.Forms.{form_of}
 use Rattle.nwf_run.specs.Judging.{Accepts}
 use Rattle.nwf_run.specs.Loads.{IsLoadOf}
 use Rattle.whole_files.specs.Outside.{Opening, Rose, AppendsPrefix, WritesMessage}
-use Rattle.nwf_run.specs.Reading.{files_by_name, Opens, OpensUntil, StopsAt}
+use Rattle.nwf_run.specs.Reading.{files_by_name, Opens, OpensUntil, StopsReading}
 use Rattle.nwf_run.specs.Running.{IsRunOfFiles}
 use Rattle.nwf_run.specs.Runs.{FilesRun, IsRun, RunMeetsHeadline}
 use Rattle.nwf_run.specs.Stops.{status_of, message_of}
 use Rattle.nwf_run.specs.Sweeps.{AreSweepOf, SomeExhausts, stop_lines}
-use Rattle.nwf_run.specs.Words.{Asked, Replay, client_asked}
-use Rattle.nwf_run.specs.Words.Asked.{a_replay, a_sweep, a_load, a_run}
+use Rattle.nwf_run.specs.CommandLine.{Asked, Replay, client_asked}
+use Rattle.nwf_run.specs.CommandLine.Asked.{a_replay, a_sweep, a_load, a_run}
 
 -- the run is that of the replay: of the commands of its files, in the order that its schedule names; where bytes are
 -- told, the files are all there and accepted
@@ -66,10 +66,10 @@ pub record Makes (tells : Bool) (held : List ℕ → Option (List ℕ)) (asked :
 -- why a call stops: its words ask for nothing that is served, or reading stopped at a file, or a load had no memory
 abbrev pub StopsFor : Bool → (List ℕ → Option (List ℕ)) → Option Asked → Stop → Type 0
 StopsFor tells held None stop = stop ≡ Usage
-StopsFor tells held (Some (a_replay r)) stop = StopsAt tells held r stop
-StopsFor tells held (Some (a_sweep s)) stop = StopsAt tells held s.of_files stop
+StopsFor tells held (Some (a_replay r)) stop = StopsReading tells held r stop
+StopsFor tells held (Some (a_sweep s)) stop = StopsReading tells held s.of_files stop
 StopsFor tells held (Some (a_load l)) stop = stop ≡ NoMemory
-StopsFor tells held (Some (a_run r)) stop = StopsAt tells held r stop
+StopsFor tells held (Some (a_run r)) stop = StopsReading tells held r stop
 
 -- which files were opened for what is asked: for a load none
 abbrev pub OpensFor : {X : Type 0} → Option Asked → ℕ → List Opening → List Opening → Result X Stop → Type 0

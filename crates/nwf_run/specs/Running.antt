@@ -8,7 +8,7 @@ use Rattle.nwf_run.specs.Forms.{form_of}
 use Rattle.nwf_run.specs.Judging.{SayFirst}
 use Rattle.nwf_run.specs.Reading.{files_by_name}
 use Rattle.nwf_run.specs.Runs.{FilesRun, IsRun, IsTextOf}
-use Rattle.nwf_run.specs.Words.{Replay}
+use Rattle.nwf_run.specs.CommandLine.{Replay}
 
 -- the run is that of its commands, in the order in which the threads came to make its steps, of which nothing else is
 -- known; each command was made and answered

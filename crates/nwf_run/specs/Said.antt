@@ -3,7 +3,7 @@ use Rattle.std.specs.Prelude.{Some, None, map, string_bytes}
 use Rattle.nwf_run.specs.declared.words.ReplayWords.{ReplayWords}
 use Rattle.nwf_run.specs.declared.words.RunWords.{RunWords}
 use Rattle.nwf_run.specs.declared.sweep_words.SweepWords.{SweepWords}
-use Rattle.nwf_run.specs.Words.{Replay, Sweep}
+use Rattle.nwf_run.specs.CommandLine.{Replay, Sweep}
 
 abbrev pub said : ReplayWords → Replay
 said words = record { client = words.client; cap = words.cap; limit = words.limit; schedule = Some words.schedule.now; files = map string_bytes words.files.now }

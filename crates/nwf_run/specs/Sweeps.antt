@@ -15,7 +15,7 @@ use Rattle.nwf_run.specs.Judging.{SayFirst}
 use Rattle.nwf_run.specs.Loads.{ROUNDS_OF_A_CALL}
 use Rattle.nwf_run.specs.Reading.{files_by_name}
 use Rattle.nwf_run.specs.Runs.{Exhausts, FilesRun}
-use Rattle.nwf_run.specs.Words.{Sweep}
+use Rattle.nwf_run.specs.CommandLine.{Sweep}
 
 -- how many commands the longest file has
 abbrev pub longest : List (List Op) → ℕ

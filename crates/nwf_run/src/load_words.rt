@@ -1,6 +1,6 @@
 //! The words of a load.
 ghost use Rattle.std.specs.Prelude.{◌≡◌, ◌≤◌, map, IfSome, string_bytes};
-ghost use Rattle.nwf_run.specs.Words.{load_words};
+ghost use Rattle.nwf_run.specs.CommandLine.{load_words};
 
 use crate::words::{MAX_CAP, MAX_LIMIT, client_named, number_in};
 use lin_report::Client;

@@ -8,7 +8,7 @@ ghost use Rattle.nwf_run.specs.Replaying.{AreRunsFor, OpensAll, OpensSome, RunsM
 ghost use Rattle.nwf_run.specs.Runs.{FilesRun};
 ghost use Rattle.nwf_run.specs.Stops.{status_of, USAGE_MESSAGE, NO_MEMORY_MESSAGE, refused_message, unread_message};
 ghost use Rattle.nwf_run.specs.Sweeps.{SomeExhausts};
-ghost use Rattle.nwf_run.specs.Words.{files_asked, nwf_asked, starts_run, client_asked};
+ghost use Rattle.nwf_run.specs.CommandLine.{files_asked, nwf_asked, starts_run, client_asked};
 ghost use Rattle.nwf_run.specs.declared.stops.Stop.{Stop};
 
 use crate::replay::replay_main;

@@ -5,14 +5,14 @@ ghost use Rattle.std.specs.Io.KnownBytes.{Appends};
 ghost use Rattle.script_reader.specs.declared.causes.Refusal.{Refusal};
 ghost use Rattle.whole_files.specs.Outside.{Rose, AppendsPrefix, WritesMessage};
 ghost use Rattle.nwf_run.specs.Answers.{GivesDue, IsDue};
-ghost use Rattle.nwf_run.specs.Reading.{FaultsAsTold, Opens, OpensUntil, Reaches, Refuses, StopsAt};
+ghost use Rattle.nwf_run.specs.Reading.{FaultsAsTold, Opens, OpensUntil, Reaches, Refuses, StopsReading};
 ghost use Rattle.nwf_run.specs.Replaying.{Ends, AreRunsFor, Makes, OpensAll, OpensFor, OpensSome, Reports, RunsMeetHeadline, StopsFor, text_for};
 ghost use Rattle.nwf_run.specs.Runs.{FilesRun};
 ghost use Rattle.nwf_run.specs.Said.{said, said_sweep};
 ghost use Rattle.nwf_run.specs.Stops.{status_of, message_of, USAGE_MESSAGE, NO_MEMORY_MESSAGE, refused_message, unread_message};
 ghost use Rattle.nwf_run.specs.Sweeps.{SomeExhausts};
-ghost use Rattle.nwf_run.specs.Words.{asked_words, files_asked, client_asked};
-ghost use Rattle.nwf_run.specs.Words.Asked.{a_replay, a_sweep};
+ghost use Rattle.nwf_run.specs.CommandLine.{asked_words, files_asked, client_asked};
+ghost use Rattle.nwf_run.specs.CommandLine.Asked.{a_replay, a_sweep};
 ghost use Rattle.nwf_run.specs.declared.stops.Stop.{Stop};
 
 use crate::load_words::load_words;
@@ -37,7 +37,7 @@ fn replay_files<F: Files>(
     requires some { 1 ≤ length words.now.files.now }
     requires few { length words.now.files.now ≤ 8 }
     ensures text { IfOk result (λ made. Makes (F.tells files.old) (F.held files.old) (a_replay (said words.now)) made.text.items made.exhausted) }
-    ensures stops { IfErr result (StopsAt (F.tells files.old) (F.held files.old) (said words.now)) }
+    ensures stops { IfErr result (StopsReading (F.tells files.old) (F.held files.old) (said words.now)) }
     ensures faults { FaultsAsTold (F.faults files.old) (F.faults files.new) result }
     ensures opened { OpensUntil (said words.now) (F.faults files.old) (F.opened files.old) (F.opened files.new) result }
     ensures held { (n : List ℕ) → F.held files.new n ≡ F.held files.old n }
@@ -59,7 +59,7 @@ fn sweep_files<F: Files>(
     requires some { 1 ≤ length words.now.of_files.files.now }
     requires few { length words.now.of_files.files.now ≤ 8 }
     ensures text { IfOk result (λ made. Makes (F.tells files.old) (F.held files.old) (a_sweep (said_sweep words.now)) made.text.items made.exhausted) }
-    ensures stops { IfErr result (StopsAt (F.tells files.old) (F.held files.old) (said_sweep words.now).of_files) }
+    ensures stops { IfErr result (StopsReading (F.tells files.old) (F.held files.old) (said_sweep words.now).of_files) }
     ensures faults { FaultsAsTold (F.faults files.old) (F.faults files.new) result }
     ensures opened { OpensUntil (said_sweep words.now).of_files (F.faults files.old) (F.opened files.old) (F.opened files.new) result }
     ensures held { (n : List ℕ) → F.held files.new n ≡ F.held files.old n }

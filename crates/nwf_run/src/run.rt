@@ -3,14 +3,14 @@ ghost use Rattle.std.specs.Prelude.{◌≡◌, ◌≢◌, ◌↔◌, ◌⊎◌, 
 ghost use Rattle.std.specs.Io.KnownBytes.{Appends};
 ghost use Rattle.script_reader.specs.declared.causes.Refusal.{Refusal};
 ghost use Rattle.whole_files.specs.Outside.{Rose, AppendsPrefix, WritesMessage};
-ghost use Rattle.nwf_run.specs.Reading.{FaultsAsTold, Opens, OpensUntil, Reaches, Refuses, StopsAt};
+ghost use Rattle.nwf_run.specs.Reading.{FaultsAsTold, Opens, OpensUntil, Reaches, Refuses, StopsReading};
 ghost use Rattle.nwf_run.specs.Replaying.{AreRunsFor, Makes, OpensAll, OpensFor, OpensSome, RunsMeetHeadline, StopsFor, text_for};
 ghost use Rattle.nwf_run.specs.Runs.{FilesRun};
 ghost use Rattle.nwf_run.specs.Said.{said_run};
 ghost use Rattle.nwf_run.specs.Stops.{status_of, USAGE_MESSAGE, NO_MEMORY_MESSAGE, refused_message, unread_message};
 ghost use Rattle.nwf_run.specs.Sweeps.{SomeExhausts};
-ghost use Rattle.nwf_run.specs.Words.{files_asked, run_asked, client_asked};
-ghost use Rattle.nwf_run.specs.Words.Asked.{a_run};
+ghost use Rattle.nwf_run.specs.CommandLine.{files_asked, run_asked, client_asked};
+ghost use Rattle.nwf_run.specs.CommandLine.Asked.{a_run};
 ghost use Rattle.nwf_run.specs.declared.stops.Stop.{Stop};
 
 use crate::replay::finish;
@@ -38,7 +38,7 @@ fn run_files<R: Threads + Wait + Sync, F: Files, G: Gate + Sync>(
     requires some { 1 ≤ length words.now.files.now }
     requires few { length words.now.files.now ≤ 8 }
     ensures text { IfOk result (λ made. Makes (F.tells files.old) (F.held files.old) (a_run (said_run words.now)) made.text.items made.exhausted) }
-    ensures stops { IfErr result (StopsAt (F.tells files.old) (F.held files.old) (said_run words.now)) }
+    ensures stops { IfErr result (StopsReading (F.tells files.old) (F.held files.old) (said_run words.now)) }
     ensures faults { FaultsAsTold (F.faults files.old) (F.faults files.new) result }
     ensures opened { OpensUntil (said_run words.now) (F.faults files.old) (F.opened files.old) (F.opened files.new) result }
     ensures held { (n : List ℕ) → F.held files.new n ≡ F.held files.old n }

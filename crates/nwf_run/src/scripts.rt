@@ -6,7 +6,7 @@ ghost use Rattle.script_reader.specs.Schedules.{schedule_outcome};
 ghost use Rattle.script_reader.specs.Scripts.{script_outcome};
 ghost use Rattle.nwf_run.specs.Said.{said, said_run};
 ghost use Rattle.nwf_run.specs.Judging.{Accepts, SayFirst};
-ghost use Rattle.nwf_run.specs.Reading.{FaultsAsTold, FileReads, OpensUntil, StopsAt, files_by_name};
+ghost use Rattle.nwf_run.specs.Reading.{FaultsAsTold, FileReads, OpensUntil, StopsReading, files_by_name};
 ghost use Rattle.nwf_run.specs.declared.stops.Stop.TheVariants as stop;
 
 use crate::judging::{Scripts, judge_commands, judge_schedule};
@@ -96,7 +96,7 @@ pub fn read_command_files<F: Files>(
     ensures says { IfOk result (λ read. IsTrue (F.tells files.old) → SayFirst words.now.client (length (said_run words.now).files) (files_by_name (F.held files.old) (said_run words.now)) (map (λ ops. ops.items) read.items)) }
     ensures count { IfOk result (λ read. length read.items ≡ length words.now.files.now) }
     ensures commands { IfOk result (λ read. All (λ ops. IsCommandFile (object_of words.now.client) ops.items) read.items) }
-    ensures stops { IfErr result (StopsAt (F.tells files.old) (F.held files.old) (said_run words.now)) }
+    ensures stops { IfErr result (StopsReading (F.tells files.old) (F.held files.old) (said_run words.now)) }
     ensures faults { FaultsAsTold (F.faults files.old) (F.faults files.new) result }
     ensures opened { OpensUntil (said_run words.now) (F.faults files.old) (F.opened files.old) (F.opened files.new) result }
     ensures held { (n : List ℕ) → F.held files.new n ≡ F.held files.old n }
@@ -124,7 +124,7 @@ pub fn read_scripts<F: Files>(
     ensures count { IfOk result (λ s. length s.commands.items ≡ length words.now.files.now) }
     ensures seats { IfOk result (λ s. All (λ entry. entry.seat < length words.now.files.now) s.schedule.items) }
     ensures commands { IfOk result (λ s. All (λ ops. IsCommandFile (object_of words.now.client) ops.items) s.commands.items) }
-    ensures stops { IfErr result (StopsAt (F.tells files.old) (F.held files.old) (said words.now)) }
+    ensures stops { IfErr result (StopsReading (F.tells files.old) (F.held files.old) (said words.now)) }
     ensures faults { FaultsAsTold (F.faults files.old) (F.faults files.new) result }
     ensures opened { OpensUntil (said words.now) (F.faults files.old) (F.opened files.old) (F.opened files.new) result }
     ensures held { (n : List ℕ) → F.held files.new n ≡ F.held files.old n }

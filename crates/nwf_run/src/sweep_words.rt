@@ -1,7 +1,7 @@
 //! The words of a sweep.
 ghost use Rattle.std.specs.Prelude.{◌≡◌, ◌≤◌, map, length, IfSome, string_bytes};
 ghost use Rattle.std.specs.Option.{option_map};
-ghost use Rattle.nwf_run.specs.Words.{sweep_words};
+ghost use Rattle.nwf_run.specs.CommandLine.{sweep_words};
 ghost use Rattle.nwf_run.specs.Said.{said_sweep};
 
 use crate::words::{MAX_CAP, MAX_FILES, MAX_LIMIT, RunWords, client_named, number_in};

@@ -1,7 +1,7 @@
 //! The words of the command line.
 ghost use Rattle.std.specs.Prelude.{◌≡◌, ◌≤◌, Some, map, length, IfSome, string_bytes};
 ghost use Rattle.std.specs.Option.{option_map};
-ghost use Rattle.nwf_run.specs.Words.{number_in, replay_words, run_words, client_named};
+ghost use Rattle.nwf_run.specs.CommandLine.{number_in, replay_words, run_words, client_named};
 ghost use Rattle.nwf_run.specs.Said.{said_run};
 
 use lin_report::Client;

@@ -2,4 +2,4 @@ pub mod Blocks
 pub mod Helpers
 pub mod Others
 pub mod Records
-pub mod LawLemmas
+pub mod LawsOfBlocks

@@ -1,7 +1,7 @@
 -- Blocks that records have named, in the world of a client, and what holds of them.
 use Rattle.std.specs.Prelude.{◌≡◌, ℕ, ◌+◌, ◌<◌, ◌==◌, ◌&&◌, Bool, true, false, ◌⊎◌, List, Option, Some}
 use Rattle.std.specs.List.{list_any}
-use Rattle.word_fields.specs.declared.records.Phase.TheVariants.{Executing}
+use Rattle.word_fields.specs.declared.records.RecordPhase.TheVariants.{Executing}
 use Rattle.word_fields.specs.Payloads.{payload_block}
 use Rattle.word_fields.specs.Records.{record_phase, record_number, record_payload}
 use Rattle.word_fields.specs.Versioned.{versioned_bit, versioned_version, marked_word}

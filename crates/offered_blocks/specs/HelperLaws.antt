@@ -9,7 +9,7 @@ use Rattle.normal_traits.specs.Steps.{IsStep}
 use Rattle.cas_executor.specs.declared.slow_run.EntryState.TheVariants.{Pending}
 use Rattle.cas_executor.specs.SlowRuns.{SlowWalk, slow_execution, slow_fed, slow_request, state_word}
 use Rattle.cas_executor_laws.specs.ExecRuns.{IsEntry}
-use Rattle.cas_executor_laws.specs.Parts.{IsMade, Knows, Helps as RunKnows}
+use Rattle.cas_executor_laws.specs.Parts.{RequestMade, Knows, Helps as RunKnows}
 use Rattle.offered_blocks.specs.Blocks.{Offer, IsExecuting, MayBeMarked, has_taken, site_of}
 use Rattle.offered_blocks.specs.Holds.{HasOffers}
 use Rattle.offered_blocks.specs.HelperSteps.{AreBehind, HasStopped, Helps, state_at}
@@ -28,7 +28,7 @@ module _ {S W : Type 0} (form : NormalForm S W) where
   abbrev pub RunsHelp : Type 0
   RunsHelp =
       (world : World) (offers : ℕ → Option (Offer S)) (block : ℕ) (offer : Offer S) (walk : SlowWalk) (seen : Seen) (words : ℕ → ℕ) → HasOffers form world offers → offers block ≡ Some offer
-      → Knows (site_of offer) world.words (has_taken world.journal offer.list) walk → IsMade (slow_request walk) world.words words seen
+      → Knows (site_of offer) world.words (has_taken world.journal offer.list) walk → RequestMade (slow_request walk) world.words words seen
       → Helps form world offer (ran_world form world offer walk seen words)
       × RunKnows (site_of offer) words (has_taken (ran_world form world offer walk seen words).journal offer.list) (slow_fed walk seen) (slow_execution walk seen)
 

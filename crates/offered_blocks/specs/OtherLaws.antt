@@ -1,7 +1,7 @@
 -- What is so of all other steps, of any structure in normalized form: each is an allowed step of the client, and what
 -- holds of all blocks holds after it.
 use Rattle.std.specs.Prelude.{◌≡◌, ◌≢◌, ℕ, ◌<◌, Option, Some}
-use Rattle.word_fields.specs.declared.records.Phase.TheVariants.{Executing}
+use Rattle.word_fields.specs.declared.records.RecordPhase.TheVariants.{Executing}
 use Rattle.word_fields.specs.Records.{record_phase}
 use Rattle.word_fields.specs.Versioned.{versioned_bit}
 use Rattle.node_arena.specs.MemoryMap.{record_place}

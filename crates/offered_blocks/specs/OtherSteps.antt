@@ -1,7 +1,7 @@
 -- What anyone else does to the world: stores of the engine, exchanges of the client's words beside the offered lists,
 -- and the steps on records.
 use Rattle.std.specs.Prelude.{◌≡◌, ◌≢◌, ℕ, ◌+◌, ◌^◌, ◌<◌, ◌≤◌, ◌==◌, if◌then◌else◌, ◌⊎◌, true, false, ◌∷◌, Option, Some}
-use Rattle.word_fields.specs.declared.records.Phase.TheVariants.{Executing}
+use Rattle.word_fields.specs.declared.records.RecordPhase.TheVariants.{Executing}
 use Rattle.word_fields.specs.Payloads.{payload_block}
 use Rattle.word_fields.specs.Records.{record_phase, record_number, record_payload}
 use Rattle.word_fields.specs.Versioned.{versioned_bit, versioned_version}

@@ -1,7 +1,7 @@
 -- What a won exchange of a record makes of what it tells, of any structure in normalized form.
 use Rattle.std.specs.Prelude.{◌≡◌, ℕ, ◌^◌, ◌<◌, ◌≤◌, Option, Some}
 use Rattle.lin_report.specs.declared.calls.Outcome.{Outcome}
-use Rattle.word_fields.specs.declared.records.Phase.TheVariants.{Executing}
+use Rattle.word_fields.specs.declared.records.RecordPhase.TheVariants.{Executing}
 use Rattle.word_fields.specs.declared.records.RecordWord.{RecordWord}
 use Rattle.word_fields.specs.Records.{record_of, record_word}
 use Rattle.op_record.specs.Outcomes.{completed_word, FitsPayload}

@@ -3,8 +3,8 @@ use Rattle.std.specs.Prelude.{◌≡◌, ℕ, Option, Some}
 use Rattle.lin_report.specs.declared.calls.Outcome.{Outcome}
 use Rattle.lin_report.specs.declared.calls.Outcome.TheVariants.{Plain}
 use Rattle.lin_report.specs.declared.calls.Reply.TheVariants.{Exhausted}
-use Rattle.word_fields.specs.declared.records.Phase.{Phase}
-use Rattle.word_fields.specs.declared.records.Phase.TheVariants as phase
+use Rattle.word_fields.specs.declared.records.RecordPhase.{RecordPhase}
+use Rattle.word_fields.specs.declared.records.RecordPhase.TheVariants as phase
 use Rattle.word_fields.specs.declared.records.RecordWord.{RecordWord}
 use Rattle.word_fields.specs.Payloads.{payload_block, payload_stop}
 use Rattle.normal_traits.specs.World.{Called, Change, Listed, World, Among, ChangedBy, RightSince}
@@ -15,16 +15,16 @@ use Rattle.cas_executor_laws.specs.Parts.{KnowsStop}
 use Rattle.offered_blocks.specs.Blocks.{Offer, site_of, has_taken}
 
 -- the change is one of this call
-pub record IsOf (call : Called) (change : Change) : Type 0 where
+pub record IsCallsChange (call : Called) (change : Change) : Type 0 where
   pub seat : change.list.call.seat ≡ call.seat
   pub number : change.list.call.number ≡ call.number
 
 -- the call made no change; only this list may have made one
 abbrev pub MadeNone : World → Called → Type 0
-MadeNone world call = (change : Change) → Among change world.changes → ¬ IsOf call change
+MadeNone world call = (change : Change) → Among change world.changes → ¬ IsCallsChange call change
 
 abbrev pub MadeBy : World → Called → Listed → Type 0
-MadeBy world call list = (change : Change) → Among change world.changes → IsOf call change → change.list ≡ list
+MadeBy world call list = (change : Change) → Among change world.changes → IsCallsChange call change → change.list ≡ list
 
 -- the outcome is right: the call observed since its begin and made no change, or its change was made by one list
 pub data TellsRight {S W : Type 0} (form : NormalForm S W) (world : World) (call : Called) (begun : ℕ) (outcome : Outcome) : Type 0 where
@@ -41,7 +41,7 @@ module _ {S W : Type 0} (form : NormalForm S W) (world : World) (offers : ℕ �
     pub only : MadeBy world call offer.list
 
   -- what the record of the call tells, by its phase
-  abbrev pub RecordTells : Phase → ℕ → Option Outcome → Type 0
+  abbrev pub RecordTells : RecordPhase → ℕ → Option Outcome → Type 0
   RecordTells phase.Idle payload told = Unit {0}
   RecordTells phase.Generate payload told = MadeNone world call
   RecordTells phase.Executing payload told = Names (payload_block payload)

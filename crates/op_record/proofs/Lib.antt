@@ -1,2 +1,2 @@
-pub mod OutcomeLemmas
-pub mod ProgressLemmas
+pub mod OutcomesReadBack
+pub mod RecordOrder

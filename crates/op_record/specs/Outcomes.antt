@@ -4,8 +4,8 @@ use Rattle.lin_report.specs.declared.calls.Reply.{Reply}
 use Rattle.lin_report.specs.declared.calls.Reply.TheVariants.{Yes, No, Done, Value, Empty, Absent, Exhausted}
 use Rattle.lin_report.specs.declared.calls.Outcome.{Outcome}
 use Rattle.lin_report.specs.declared.calls.Outcome.TheVariants.{Plain, ValueOf}
-use Rattle.word_fields.specs.declared.records.Phase.{Phase}
-use Rattle.word_fields.specs.declared.records.Phase.TheVariants as phase
+use Rattle.word_fields.specs.declared.records.RecordPhase.{RecordPhase}
+use Rattle.word_fields.specs.declared.records.RecordPhase.TheVariants as phase
 use Rattle.word_fields.specs.declared.records.RecordWord.{RecordWord}
 use Rattle.word_fields.specs.declared.payloads.TheConstants.{YES, NO, DONE, VALUE_OF_NODE, EMPTY, ABSENT, EXHAUSTED, VALUE}
 use Rattle.word_fields.specs.Payloads.{reply_kind, reply_value, reply_payload, is_reply}
@@ -57,7 +57,7 @@ outcome_from kind value =
     else Plain (Value value)))))))
 
 -- whether the phase is Completed
-abbrev pub is_completed : Phase → Bool
+abbrev pub is_completed : RecordPhase → Bool
 is_completed phase.Completed = true
 is_completed _ = false
 

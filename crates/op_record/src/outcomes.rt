@@ -1,6 +1,6 @@
 //! Outcomes in the payload of a completed record.
 ghost use Rattle.std.specs.Prelude.{◌≡◌, ◌≢◌, ◌<◌, ◌^◌, ◌↔◌, ◌⊎◌, false, IsNone};
-ghost use Rattle.word_fields.specs.declared.records.Phase.{Phase};
+ghost use Rattle.word_fields.specs.declared.records.RecordPhase.{RecordPhase};
 ghost use Rattle.word_fields.specs.Payloads.{is_reply};
 ghost use Rattle.op_record.specs.Outcomes.{FitsPayload, reply_kind_of, reply_value_of, outcome_kind, outcome_value, outcome_payload, outcome_from, outcome_of};
 
@@ -8,7 +8,7 @@ use lin_report::{Outcome, Reply};
 use word_fields::payloads::{
     self, ABSENT, DONE, EMPTY, EXHAUSTED, NO, ReplyKind, ReplyValue, VALUE, VALUE_OF_NODE, YES,
 };
-use word_fields::{Phase, RecordWord};
+use word_fields::{RecordPhase, RecordWord};
 
 /// The kind of a reply that is given as it is.
 fn kind_of(reply: Reply) -> u32
@@ -68,9 +68,9 @@ fn outcome_from(kind: u32, value: u32) -> Outcome
 #[tactic(auto, unfolding(crate::specs::Outcomes::outcome_of, word_fields::specs::Payloads::reply_kind, word_fields::specs::Payloads::reply_value))]
 pub fn outcome_of(word: RecordWord) -> Option<Outcome>
     ensures outcome { result ≡ outcome_of word }
-    ensures none { IsNone result ↔ ((word.phase ≢ Phase.Completed) ⊎ (is_reply word.payload ≡ false)) }
+    ensures none { IsNone result ↔ ((word.phase ≢ RecordPhase.Completed) ⊎ (is_reply word.payload ≡ false)) }
 {
-    if word.phase != Phase::Completed || !payloads::is_reply(word.payload) {
+    if word.phase != RecordPhase::Completed || !payloads::is_reply(word.payload) {
         return None;
     }
     let payload = u64::from(word.payload);

@@ -3,4 +3,4 @@ pub mod Order
 pub mod Steps
 pub mod Tracking
 pub mod Greatest
-pub mod Ordered
+pub mod EventsOrdered

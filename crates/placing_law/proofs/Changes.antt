@@ -6,24 +6,24 @@ use Rattle.lin_report.specs.declared.calls.Reply.TheVariants.{Exhausted}
 use Rattle.lin_report.specs.Object.{Object, held_after}
 use Rattle.lin_report.specs.Calls.{Report, calls_of, EndedBefore}
 use Rattle.lin_report.specs.Linearizable.{Answers, IsExhausted, WasExhausted, IsLegalFrom}
-use Rattle.placing_law.specs.Placing.{Change, held_at}
+use Rattle.placing_law.specs.Placing.{ObjectChange, held_at}
 use Rattle.placing_law.proofs.Items.{Item, Before, in_order, insert, choice, calls_in}
 
 some_equal : {X : Type 0} (x y : X) → Some x ≡ Some y → x ≡ y
 some_equal x y same = search rules
 
-pub held_next : (object : Object) (held : object.Held) (history : List Change) (q : ℕ) (entry : Change) → slice_get history q ≡ Some entry
-    → held_after object held (map (λ (change : Change). change.op) (take (suc q) history))
-    ≡ (object.apply entry.op (held_after object held (map (λ (change : Change). change.op) (take q history)))).0
+pub held_next : (object : Object) (held : object.Held) (history : List ObjectChange) (q : ℕ) (entry : ObjectChange) → slice_get history q ≡ Some entry
+    → held_after object held (map (λ (change : ObjectChange). change.op) (take (suc q) history))
+    ≡ (object.apply entry.op (held_after object held (map (λ (change : ObjectChange). change.op) (take q history)))).0
 held_next object held [] q entry is = absurd cc
-held_next object held (change ∷ history) zero entry is = ap (λ (c : Change). (object.apply c.op held).0) (some_equal change entry is)
+held_next object held (change ∷ history) zero entry is = ap (λ (c : ObjectChange). (object.apply c.op held).0) (some_equal change entry is)
 held_next object held (change ∷ history) (suc q) entry is = held_next object (object.apply change.op held).0 history q entry is
 
 pub not_exhausted : (answer : Option (Reply × ℕ)) (reply : Reply) → Answers answer reply → reply ≢ Exhausted → ¬ IsExhausted answer
 not_exhausted None reply is other = λ h. absurd h
 not_exhausted (Some answer) reply is other = λ h. other (sym is ∙ h)
 
-module _ (object : Object) (history : List Change) (count_at : ℕ → ℕ) (report : Report) where
+module _ (object : Object) (history : List ObjectChange) (count_at : ℕ → ℕ) (report : Report) where
   -- what is told of each item
   pub record IsItem (x : Item) : Type 0 where
     pub known : Contains (calls_of report) x.call

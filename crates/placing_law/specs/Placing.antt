@@ -11,26 +11,26 @@ use Rattle.lin_report.specs.Report.{IsReport}
 use Rattle.lin_report.specs.Linearizable.{Answers, IsLinearizable}
 
 -- a change of the object: the operation of the NUMBER-th call of a seat
-pub record Change : Type 0 where
+pub record ObjectChange : Type 0 where
   pub seat : ℕ
   pub number : ℕ
   pub op : Op
 
 -- the change that a call makes
-abbrev pub change_of : Call → Change
+abbrev pub change_of : Call → ObjectChange
 change_of c = record { seat = c.seat; number = c.number; op = c.op }
 
 -- the change is one of this call
-abbrev pub IsOf : Change → ℕ → ℕ → Type 0
-IsOf change seat number = (change.seat ≡ seat) × (change.number ≡ number)
+abbrev pub IsChangeOf : ObjectChange → ℕ → ℕ → Type 0
+IsChangeOf change seat number = (change.seat ≡ seat) × (change.number ≡ number)
 
 -- what is held after the first changes, as many as this
-abbrev pub held_at : (object : Object) → List Change → ℕ → object.Held
-held_at object history count = held_after object object.empty (map (λ (change : Change). change.op) (take count history))
+abbrev pub held_at : (object : Object) → List ObjectChange → ℕ → object.Held
+held_at object history count = held_after object object.empty (map (λ (change : ObjectChange). change.op) (take count history))
 
 -- the change at this place is that of a call of the report, was made while the call ran, and the call is
 -- answered as the object answers there
-pub record IsMade (object : Object) (history : List Change) (count_at : ℕ → ℕ) (report : Report) (place : ℕ) : Type 0 where
+pub record MadeByCall (object : Object) (history : List ObjectChange) (count_at : ℕ → ℕ) (report : Report) (place : ℕ) : Type 0 where
   pub call : Call
   pub known : Contains (calls_of report) call
   pub change : slice_get history place ≡ Some (change_of call)
@@ -40,7 +40,7 @@ pub record IsMade (object : Object) (history : List Change) (count_at : ℕ → 
 
 -- after some count of changes, which there were at some time while the call ran, it leaves what is held as it
 -- is, and is answered as the object answers there
-pub record HasObserved (object : Object) (history : List Change) (count_at : ℕ → ℕ) (r : Receipt) : Type 0 where
+pub record HasObserved (object : Object) (history : List ObjectChange) (count_at : ℕ → ℕ) (r : Receipt) : Type 0 where
   pub count : ℕ
   pub begun : count_at r.begin ≤ count
   pub ended : count ≤ count_at r.end
@@ -48,21 +48,21 @@ pub record HasObserved (object : Object) (history : List Change) (count_at : ℕ
   pub told : r.reply ≡ (object.apply r.op (held_at object history count)).1
 
 -- an answered call is exhausted, has its change in the history, or has observed
-abbrev pub IsAccounted : Object → List Change → (ℕ → ℕ) → Receipt → Type 0
+abbrev pub IsAccounted : Object → List ObjectChange → (ℕ → ℕ) → Receipt → Type 0
 IsAccounted object history count_at r =
     (r.reply ≡ Exhausted) ⊎ (Contains history (change_of (answered_call r)) ⊎ HasObserved object history count_at r)
 
 -- a report whose calls are placed in a history: the counts never fall, each change was made by a call of the
 -- report, no two by the same one, and each answered call is accounted for
-pub record IsPlaced (object : Object) (history : List Change) (count_at : ℕ → ℕ) (report : Report) : Type 0 where
+pub record IsPlaced (object : Object) (history : List ObjectChange) (count_at : ℕ → ℕ) (report : Report) : Type 0 where
   pub rising : (t u : ℕ) → t ≤ u → count_at t ≤ count_at u
   pub within : (t : ℕ) → count_at t ≤ length history
-  pub made : (place : ℕ) → place < length history → IsMade object history count_at report place
-  pub once : AllPairs (λ earlier later. ¬ IsOf earlier later.seat later.number) history
+  pub made : (place : ℕ) → place < length history → MadeByCall object history count_at report place
+  pub once : AllPairs (λ earlier later. ¬ IsChangeOf earlier later.seat later.number) history
   pub accounted : All (IsAccounted object history count_at) report.receipts
 
 -- a report whose calls are placed in a history is linearizable, whatever the client
 abbrev pub PlacedIsLinearizable : Type 0
 PlacedIsLinearizable =
-    (client : Client) (files : List (List Op)) (report : Report) (history : List Change) (count_at : ℕ → ℕ)
+    (client : Client) (files : List (List Op)) (report : Report) (history : List ObjectChange) (count_at : ℕ → ℕ)
     → IsReport files report → IsPlaced (object_of client) history count_at report → IsLinearizable (object_of client) report

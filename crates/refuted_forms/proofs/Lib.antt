@@ -1,4 +1,4 @@
 pub mod QueueWorlds
-pub mod QueueLemmas
+pub mod TailNotMoved
 pub mod ListWorlds
-pub mod ListLemmas
+pub mod SetBitsAndMarks

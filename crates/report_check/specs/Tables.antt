@@ -17,8 +17,8 @@ abbrev pub PLACES : ℕ
 PLACES = 524288
 
 -- the place of a name
-abbrev pub place_of : Named → ℕ
-place_of name = name.seat * 65536 + name.number
+abbrev pub table_place : Named → ℕ
+table_place name = name.seat * 65536 + name.number
 
 -- what is kept of a call
 abbrev pub told : Call → Told
@@ -27,12 +27,12 @@ told c = record { op = c.op; answer = c.answer; begin = c.begin }
 -- at the place of each name stands what is kept of the call that has it
 pub record IsTableOf (calls : List Call) (table : List (Option Told)) : Type 0 where
   pub long : length table ≡ PLACES
-  pub tells : (name : Named) → IsName name → slice_index_or table (place_of name) None ≡ option_map told (call_named calls name)
+  pub tells : (name : Named) → IsName name → slice_index_or table (table_place name) None ≡ option_map told (call_named calls name)
 
 -- the names are marked, and no other
 pub record Marks (names : List Named) (marks : List Bool) : Type 0 where
   pub long : length marks ≡ PLACES
-  pub tells : (name : Named) → IsName name → slice_index_or marks (place_of name) false ≡ list_any (same_name name) names
+  pub tells : (name : Named) → IsName name → slice_index_or marks (table_place name) false ≡ list_any (same_name name) names
 
 -- whether a call with this answer had ended before a tick
 abbrev pub told_late : Option (Reply × ℕ) → ℕ → Bool

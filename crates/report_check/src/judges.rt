@@ -10,7 +10,7 @@ ghost use Rattle.report_check.specs.Tables.{PLACES, Marks};
 
 use crate::orders::Named;
 use crate::reasons::{later, reason_for};
-use crate::table::{PLACES, place_of, table_of};
+use crate::table::{PLACES, table_of, table_place};
 use crate::verdicts::{Objection, Reason, Verdict};
 use lin_report::{
     Client, FifoObject, MapObject, NoMemory, PendingCall, Receipt, Reply, Sequential, SetObject,
@@ -36,7 +36,7 @@ fn is_any_left_out(receipts: &[Receipt], marks: &[bool]) -> bool
             seat: receipt.seat,
             number: receipt.number,
         };
-        if !matches!(receipt.reply, Reply::Exhausted) && !marks[place_of(name)] {
+        if !matches!(receipt.reply, Reply::Exhausted) && !marks[table_place(name)] {
             return true;
         }
     }
@@ -63,7 +63,7 @@ fn judge_by<S: Sequential>(
     let mut place = 0;
     for name in order {
         place += 1;
-        let at = place_of(*name);
+        let at = table_place(*name);
         let told = table[at];
         if let Some(reason) = reason_for(object, told, marks[at], latest)? {
             return Ok(Verdict::NotLegal(Objection { place, reason }));

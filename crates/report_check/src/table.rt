@@ -3,7 +3,7 @@ ghost use Rattle.std.specs.Prelude.{◌≡◌, ◌≤◌, ◌<◌, ◌++◌, Lis
 ghost use Rattle.lin_report.specs.Calls.{Call, answered_call, pending_call, report_of, calls_of, IsSameCall};
 ghost use Rattle.report_check.specs.Orders.{IsName};
 ghost use Rattle.report_check.specs.Verdicts.{name_of};
-ghost use Rattle.report_check.specs.Tables.{place_of, PLACES, IsTableOf};
+ghost use Rattle.report_check.specs.Tables.{table_place, PLACES, IsTableOf};
 
 use crate::orders::Named;
 use lin_report::{NoMemory, Op, PendingCall, Receipt, Reply};
@@ -21,9 +21,9 @@ pub(crate) struct Told {
 }
 
 /// The place of a name.
-pub(crate) fn place_of(name: Named) -> usize
+pub(crate) fn table_place(name: Named) -> usize
     requires { IsName name }
-    ensures place { result ≡ place_of name }
+    ensures place { result ≡ table_place name }
     ensures within { result < PLACES }
 {
     name.seat as usize * 65_536 + name.number as usize
@@ -51,7 +51,7 @@ fn put_answered(table: &mut Vec<Option<Told>>, receipts: &[Receipt])
             seat: receipt.seat,
             number: receipt.number,
         };
-        table[place_of(name)] = Some(Told {
+        table[table_place(name)] = Some(Told {
             op: receipt.op,
             answer: Some((receipt.reply, receipt.end)),
             begin: receipt.begin,
@@ -73,7 +73,7 @@ fn put_pending(table: &mut Vec<Option<Told>>, pending: &[PendingCall])
             seat: call.seat,
             number: call.number,
         };
-        table[place_of(name)] = Some(Told {
+        table[table_place(name)] = Some(Told {
             op: call.op,
             answer: None,
             begin: call.begin,

@@ -1,7 +1,7 @@
 -- Of what all agree that work on one call, in every run: what an offered block holds and where its list stops, and the outcome
 -- that a completed record tells.
 use Rattle.std.specs.Prelude.{◌≡◌, ℕ, ◌<◌, List, ◌++◌, Some}
-use Rattle.word_fields.specs.declared.records.Phase.TheVariants.{Completed}
+use Rattle.word_fields.specs.declared.records.RecordPhase.TheVariants.{Completed}
 use Rattle.word_fields.specs.Records.{record_number, record_phase}
 use Rattle.normal_traits.specs.World.{World}
 use Rattle.normal_traits.specs.NormalForm.{NormalForm}

@@ -11,4 +11,4 @@ pub mod Inside
 pub mod MoverInside
 pub mod MovesKinds
 pub mod Leaves
-pub mod Moved
+pub mod MovesInRuns

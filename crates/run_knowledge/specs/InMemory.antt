@@ -2,7 +2,7 @@
 use Rattle.std.specs.Prelude.{◌≡◌, ℕ, ◌+◌, ◌^◌, ◌<◌, ◌≤◌, true, List, ◌∷◌, length, slice_get, slice_index, Option, Some}
 use Rattle.step_memory.specs.declared.steps.Request.{Request}
 use Rattle.step_memory.specs.declared.steps.Request.TheVariants.{Load, Store, Exchange, Add}
-use Rattle.step_memory.specs.Step.{place_of, seen_of}
+use Rattle.step_memory.specs.Step.{requested_place, seen_of}
 use Rattle.word_fields.specs.Records.{record_phase}
 use Rattle.word_fields.specs.Versioned.{versioned_version}
 use Rattle.help_queue.specs.Gathers.{is_open}
@@ -43,7 +43,7 @@ module _ {S W : Type 0} (form : NormalForm S W) where
   WorkInside work.Head word words = is_open (record_phase word) ≡ true
   WorkInside (work.Generate op s Search) word words = AsksInside (form.request_of s) words
   WorkInside (work.Fill stores made) word words = StoresInside (slice_get stores.items made) words
-  WorkInside (work.Execute run) word words = place_of (slow_request run) < length words
+  WorkInside (work.Execute run) word words = requested_place (slow_request run) < length words
   WorkInside (work.Wrap wrap) word words = AsksInside (form.wrap_request_of wrap) words
   WorkInside _ word words = Unit {0}
 

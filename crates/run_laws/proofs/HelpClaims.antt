@@ -2,8 +2,8 @@
 use Rattle.std.proofs.Common.{rules, ◌≡◌, refl, ℕ, ◌+◌, ◌==◌, ◌&&◌, Bool, true, false, if◌then◌else◌, ◌⊎◌, inl, inr, length, Option, Some, None}
 use Rattle.lin_report.specs.declared.calls.Op.{Op}
 use Rattle.step_memory.specs.declared.steps.Seen.{Seen}
-use Rattle.word_fields.specs.declared.records.Phase.{Phase as RecordPhase}
-use Rattle.word_fields.specs.declared.records.Phase.TheVariants as marks
+use Rattle.word_fields.specs.declared.records.RecordPhase.{RecordPhase}
+use Rattle.word_fields.specs.declared.records.RecordPhase.TheVariants as marks
 use Rattle.word_fields.specs.Records.{record_number, record_phase}
 use Rattle.arrayvec.specs.ArrayVec.{ArrayVec}
 use Rattle.normal_traits.specs.declared.lists.Entry.{Entry}

@@ -4,10 +4,10 @@ use Rattle.std.specs.Prelude.{min}
 use Rattle.lin_report.specs.declared.calls.Op.{Op}
 use Rattle.step_memory.specs.declared.steps.Request.{Request}
 use Rattle.step_memory.specs.declared.steps.Request.TheVariants.{Load, Store}
-use Rattle.step_memory.specs.Step.{place_of}
+use Rattle.step_memory.specs.Step.{requested_place}
 use Rattle.step_memory.proofs.Words.{load_keeps, word_elsewhere}
 use Rattle.node_arena.specs.declared.places.TheConstants.{OWNER_FIELD, OP_FIELD, VALUE_FIELD, LENGTH_FIELD}
-use Rattle.node_arena.proofs.PlaceLemmas.{block_place_behind}
+use Rattle.node_arena.proofs.PlacesApart.{block_place_behind}
 use Rattle.normal_traits.specs.declared.lists.Entry.{Entry}
 use Rattle.cas_executor.specs.BlockReads.{entry_field}
 use Rattle.fast_slow_engine.specs.OfferStores.{offer_stores, own_stores, stored_by}
@@ -15,7 +15,7 @@ use Rattle.run_laws.specs.Ticks.{LeavesWord}
 use Rattle.run_laws.specs.Premises.{entries_noted}
 
 -- a request at another place leaves the word, and so does a load
-pub leaves_elsewhere : (place : ℕ) (request : Request) (words : List ℕ) → place ≢ place_of request → LeavesWord place request words
+pub leaves_elsewhere : (place : ℕ) (request : Request) (words : List ℕ) → place ≢ requested_place request → LeavesWord place request words
 leaves_elsewhere place request words apart = word_elsewhere request words place apart
 
 pub leaves_load : (place at : ℕ) (words : List ℕ) → LeavesWord place (Load at) words

@@ -15,9 +15,9 @@ use Rattle.fast_slow_engine.proofs.SameCalls.{same_fed}
 use Rattle.run_laws.specs.Seats.{EachMech, IsSeated}
 use Rattle.run_laws.specs.Ticks.{MoveKeepsTicks, KeepsTicks}
 use Rattle.run_laws.proofs.Steps.{at_set, beside_set, move_steps, some_same}
-use Rattle.run_laws.proofs.SeatLemmas.{begun_own, seats_stay}
+use Rattle.run_laws.proofs.MachinesKept.{begun_own, seats_stay}
 use Rattle.run_laws.proofs.StepKinds.{StepKind, rests_none}
-use Rattle.run_laws.proofs.TickLemmas.{CountsTicks, counts_ticks, move_kind}
+use Rattle.run_laws.proofs.TicksCounted.{CountsTicks, counts_ticks, move_kind}
 
 module _ {S W : Type 0} where
   -- the tick counter

@@ -27,7 +27,7 @@ use Rattle.std.proofs.Common.{get_or, inl, inr}
 use Rattle.std.proofs.lemmas.Bool.{cases_Bool}
 use Rattle.std.proofs.lemmas.Option.{slice_get-get_or}
 use Rattle.fast_slow_engine.specs.PhaseTable.{mech_new}
-use Rattle.run_overtaking.proofs.Accounts.Sums.{sum_le}
+use Rattle.run_overtaking.proofs.Accounts.SeatSums.{sum_le}
 use Rattle.run_overtaking.proofs.Accounts.Allowances.{half}
 use Rattle.std.proofs.Common.{◌+◌, ◌*◌, ◌-◌, Bool}
 use Rattle.std.specs.Prelude.{nat_lt, List}

@@ -1,6 +1,6 @@
 -- The accounts, kept by every move of every run.
 pub mod Places
-pub mod Sums
+pub mod SeatSums
 pub mod Allowances
 pub mod Scenes
 pub mod Heads

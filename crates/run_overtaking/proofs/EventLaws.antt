@@ -2,7 +2,7 @@
 use Rattle.std.proofs.Common.{◌≡◌, ◌∙◌, refl, sym, ap, subst, ℕ, zero, suc, ◌<◌, ◌≤◌, true, List, [], ◌∷◌, slice_get, Option, Some, None, inl, inr, arith}
 use Rattle.std.specs.List.{fold}
 use Rattle.lin_report.specs.declared.calls.Op.{Op}
-use Rattle.help_queue_laws.proofs.Acts.LaterLemmas.{done_closed}
+use Rattle.help_queue_laws.proofs.Acts.LearntStays.{done_closed}
 use Rattle.std.proofs.lemmas.Option.{slice_get_within}
 use Rattle.word_fields.specs.Records.{record_phase, record_number}
 use Rattle.normal_traits.specs.NormalForm.{NormalForm}
@@ -28,7 +28,7 @@ use Rattle.run_overtaking.specs.Waiting.{Waits}
 use Rattle.fast_slow_engine.specs.Events.{eight_seats}
 use Rattle.run_overtaking.specs.Events.{OvertakenBounded, GreatestBounded}
 use Rattle.run_overtaking.proofs.Events.Folded.{events_are, events_moved, events_of}
-use Rattle.run_overtaking.proofs.Accounts.Sums.{fold_append}
+use Rattle.run_overtaking.proofs.Accounts.SeatSums.{fold_append}
 use Rattle.run_overtaking.proofs.Accounts.Runs.{inside_of, runs_counted}
 use Rattle.run_overtaking.proofs.AccountLaws.{few_returns, record_is}
 use Rattle.run_overtaking.proofs.Events.Overtaken.{IsTracked, Steps, step_tracked}

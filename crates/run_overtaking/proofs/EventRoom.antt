@@ -16,7 +16,7 @@ use Rattle.help_queue_laws.specs.Runs.{queue_in, record_in}
 use Rattle.help_queue_laws.proofs.Known.QueueWords.{not_both}
 use Rattle.help_queue_laws.proofs.Known.Scenes.{scene_of}
 use Rattle.help_queue_laws.proofs.Steps.Results.{seat_word}
-use Rattle.help_queue_laws.proofs.Runs.RunLemmas.{at_set, beside_set, same_some}
+use Rattle.help_queue_laws.proofs.Runs.EveryRunHolds.{at_set, beside_set, same_some}
 use Rattle.fast_slow_engine.specs.declared.phases.Phase.{Phase}
 use Rattle.fast_slow_engine.specs.declared.phases.Phase.TheVariants as phase
 use Rattle.fast_slow_engine.specs.declared.setup.Setup.{Setup}

@@ -16,14 +16,14 @@ use Rattle.help_queue_laws.specs.Ghosts.{Ghosts, no_ghosts}
 use Rattle.help_queue_laws.specs.Runs.{record_in}
 use Rattle.help_queue_laws.proofs.Known.QueueWords.{not_both}
 use Rattle.help_queue_laws.proofs.Steps.Results.{seat_word}
-use Rattle.help_queue_laws.proofs.Runs.RunLemmas.{at_set, beside_set, same_some}
+use Rattle.help_queue_laws.proofs.Runs.EveryRunHolds.{at_set, beside_set, same_some}
 use Rattle.help_queue_laws.proofs.Known.Scenes.{Scene, scene_of, IsIn, Later}
 use Rattle.fast_slow_engine.specs.declared.setup.Setup.{Setup}
 use Rattle.fast_slow_engine.specs.Mechs.{Mech}
 use Rattle.fast_slow_engine.specs.PhaseTable.{mech_event, mech_fed, mech_request}
 use Rattle.fast_slow_engine.specs.Runs.{Move, RunState, IsMove, AreMoves, CanMove, begun, moved_by, run_of}
 use Rattle.overtaking_law.specs.Order.{publication, completion, AreOrdered}
-use Rattle.overtaking_law.proofs.Ordered.{are_ordered-nil}
+use Rattle.overtaking_law.proofs.EventsOrdered.{are_ordered-nil}
 use Rattle.run_queue.specs.QueueGhosts.{ghosts_moved, queue_ghosts}
 use Rattle.run_queue.specs.Premises.{KeepsQueue}
 use Rattle.run_queue.proofs.Runs.Openings.{opens_out}

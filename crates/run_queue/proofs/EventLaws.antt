@@ -6,7 +6,7 @@ use Rattle.normal_traits.specs.NormalForm.{NormalForm}
 use Rattle.help_queue.specs.Gathers.{holds, is_open}
 use Rattle.help_queue_laws.specs.Runs.{record_in}
 use Rattle.help_queue_laws.proofs.Known.Scenes.{Scene, scene_of, IsOpen, IsDone, IsIn, IsOut, IsHead, Later}
-use Rattle.help_queue_laws.proofs.Acts.LaterLemmas.{done_closed}
+use Rattle.help_queue_laws.proofs.Acts.LearntStays.{done_closed}
 use Rattle.help_queue_laws.proofs.Known.QueueWords.{not_both, head_holds}
 use Rattle.help_queue_laws.proofs.Steps.Results.{seat_word}
 use Rattle.help_queue_laws.proofs.Known.SceneLaws.{open_generate}

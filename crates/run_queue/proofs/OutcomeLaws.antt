@@ -21,7 +21,7 @@ use Rattle.help_queue_laws.specs.Ghosts.{Ghosts}
 use Rattle.help_queue_laws.specs.Runs.{record_in}
 use Rattle.help_queue_laws.proofs.Known.Scenes.{scene_of}
 use Rattle.help_queue_laws.proofs.Known.Knowledge.{PhaseFacts}
-use Rattle.help_queue_laws.proofs.Steps.HelpSteps.{completed_phase}
+use Rattle.help_queue_laws.proofs.Steps.HelpsWithoutChange.{completed_phase}
 use Rattle.help_queue_laws.proofs.Steps.Results.{seat_word}
 use Rattle.fast_slow_engine.specs.declared.phases.Phase.{Phase}
 use Rattle.fast_slow_engine.specs.declared.phases.Phase.TheVariants as phase

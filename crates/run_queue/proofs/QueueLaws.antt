@@ -6,15 +6,15 @@ use Rattle.word_fields.specs.Records.{record_phase, record_number, record_of, pa
 use Rattle.word_fields.specs.declared.records.RecordWord.{RecordWord}
 use Rattle.word_fields.specs.Seats.{queue_seats}
 use Rattle.op_record.specs.Progress.{IsEarlier}
-use Rattle.op_record.proofs.ProgressLemmas.{earlier_irreflexive}
+use Rattle.op_record.proofs.RecordOrder.{earlier_irreflexive}
 use Rattle.normal_traits.specs.NormalForm.{NormalForm}
 use Rattle.help_queue.specs.Gathers.{is_open}
-use Rattle.help_queue_laws.specs.declared.phases.Phase.TheVariants as in_queue
+use Rattle.help_queue_laws.specs.declared.phases.QueuePhase.TheVariants as in_queue
 use Rattle.help_queue_laws.specs.Ghosts.{Ghosts}
 use Rattle.help_queue_laws.specs.Runs.{record_in}
 use Rattle.help_queue_laws.proofs.Known.Scenes.{Scene, scene_of, IsSince}
 use Rattle.help_queue_laws.proofs.Known.Knowledge.{IsHelped, PhaseFacts}
-use Rattle.help_queue_laws.proofs.Acts.LaterLemmas.{since_later}
+use Rattle.help_queue_laws.proofs.Acts.LearntStays.{since_later}
 use Rattle.help_queue_laws.proofs.Known.SceneLaws.{record_is, members_in, belongs, helped, gather_known, gathered, removes, entry_known, by_second, loses_two}
 use Rattle.help_queue_laws.proofs.Known.QueueWords.{not_both}
 use Rattle.help_queue_laws.proofs.Steps.Results.{seat_word}

@@ -3,7 +3,7 @@
 use Rattle.std.specs.Prelude.{◌≡◌, ℕ, ◌⊎◌, true, List}
 use Rattle.lin_report.specs.declared.calls.Op.{Op}
 use Rattle.lin_report.specs.declared.calls.Outcome.{Outcome}
-use Rattle.word_fields.specs.declared.records.Phase.TheVariants.{Generate, Executing, Wrapping}
+use Rattle.word_fields.specs.declared.records.RecordPhase.TheVariants.{Generate, Executing, Wrapping}
 use Rattle.word_fields.specs.Records.{record_phase}
 use Rattle.help_queue.specs.Gathers.{is_open}
 use Rattle.fast_slow_engine.specs.declared.phases.Phase.{Phase}

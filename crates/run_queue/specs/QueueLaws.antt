@@ -5,7 +5,7 @@ use Rattle.lin_report.specs.declared.calls.Outcome.{Outcome}
 use Rattle.step_memory.specs.declared.steps.Seen.{Seen}
 use Rattle.step_memory.specs.Step.{seen_of}
 use Rattle.word_fields.specs.Queues.{queue_version}
-use Rattle.word_fields.specs.declared.records.Phase.TheVariants.{Completed}
+use Rattle.word_fields.specs.declared.records.RecordPhase.TheVariants.{Completed}
 use Rattle.word_fields.specs.Records.{record_phase, record_number, record_of, packed_record}
 use Rattle.op_record.specs.Progress.{IsEarlier}
 use Rattle.normal_traits.specs.NormalForm.{NormalForm}

@@ -3,8 +3,8 @@
 use Rattle.std.specs.Prelude.{ℕ, ◌+◌, ◌<◌, ◌^◌, ◌&&◌, Bool, true, false, List, [], ◌∷◌, slice_get, Option, Some, None}
 use Rattle.step_memory.specs.declared.steps.Seen.{Seen}
 use Rattle.step_memory.specs.Step.{seen_of}
-use Rattle.word_fields.specs.declared.records.Phase.{Phase as RecordPhase}
-use Rattle.word_fields.specs.declared.records.Phase.TheVariants.{Executing, Wrapping}
+use Rattle.word_fields.specs.declared.records.RecordPhase.{RecordPhase}
+use Rattle.word_fields.specs.declared.records.RecordPhase.TheVariants.{Executing, Wrapping}
 use Rattle.word_fields.specs.Records.{record_phase, record_round}
 use Rattle.normal_traits.specs.NormalForm.{NormalForm}
 use Rattle.fast_slow_engine.specs.declared.phases.Phase.{Phase}

@@ -4,4 +4,4 @@ pub mod Reports
 pub mod Placeable
 pub mod Moments
 pub mod Linearized
-pub mod Headline
+pub mod HeadlineMet

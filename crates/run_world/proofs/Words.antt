@@ -1,4 +1,4 @@
-pub mod WordLemmas
+pub mod WordsAfterMoves
 pub mod Opens
 pub mod Grow
 pub mod Moved

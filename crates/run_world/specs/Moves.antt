@@ -1,7 +1,7 @@
 -- What a move does to the client's world of a run.
 use Rattle.std.specs.Prelude.{◌≡◌, ◌≢◌, ℕ, ◌<◌, ◌≤◌, List, [], ◌∷◌, length, slice_get, Some}
 use Rattle.step_memory.specs.declared.steps.Request.{Request}
-use Rattle.step_memory.specs.Step.{place_of, word_after}
+use Rattle.step_memory.specs.Step.{requested_place, word_after}
 use Rattle.normal_traits.specs.NormalForm.{NormalForm}
 use Rattle.normal_traits.specs.Steps.{with_word}
 use Rattle.normal_traits.specs.Laws.{opening_world}
@@ -15,9 +15,9 @@ use Rattle.run_world.specs.RunGhosts.{ghost_of, world_of}
 -- a request on so many words leaves these words of those: at its place stands what it leaves there, and a
 -- request that leaves the word as it was, or is past the end, changes nothing
 pub record WordsMove (request : Request) (count : ℕ) (before after : ℕ → ℕ) : Type 0 where
-  pub written : place_of request < count → after ≡ with_word (place_of request) (word_after request (before (place_of request))) before
-  pub kept : word_after request (before (place_of request)) ≡ before (place_of request) → after ≡ before
-  pub past : count ≤ place_of request → after ≡ before
+  pub written : requested_place request < count → after ≡ with_word (requested_place request) (word_after request (before (requested_place request))) before
+  pub kept : word_after request (before (requested_place request)) ≡ before (requested_place request) → after ≡ before
+  pub past : count ≤ requested_place request → after ≡ before
 
 module _ {S W : Type 0} (form : NormalForm S W) where
   -- the words of the world after a move are those that its request leaves

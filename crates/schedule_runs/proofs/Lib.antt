@@ -1,6 +1,6 @@
-pub mod SpanLemmas
-pub mod OrderLemmas
-pub mod NameLemmas
-pub mod LoopLemmas
-pub mod RoundLemmas
-pub mod StopLemmas
+pub mod OneSpan
+pub mod RunsInOrder
+pub mod OneOrderNamed
+pub mod DriveLoops
+pub mod RoundsTakeTurns
+pub mod RoundsWithoutOne

@@ -10,13 +10,13 @@ use Rattle.schedule_runs.specs.Spans.{StepsOf, after_steps}
 
 module _ {S W : Type 0} (form : NormalForm S W) where
   -- an entry was made: as many steps of its seat as it is
-  abbrev pub IsMade : ScheduleEntry → CoreView S W → CoreView S W → Type 0
-  IsMade entry old new = (n : ℕ) × StepsOf form entry old n × (new ≡ after_steps form entry.seat old n)
+  abbrev pub EntryMade : ScheduleEntry → CoreView S W → CoreView S W → Type 0
+  EntryMade entry old new = (n : ℕ) × StepsOf form entry old n × (new ≡ after_steps form entry.seat old n)
 
   -- the entries were made, one after the other
-  abbrev pub Follows : List ScheduleEntry → CoreView S W → CoreView S W → Type 0
-  Follows [] old new = new ≡ old
-  Follows (entry ∷ rest) old new = (next : CoreView S W) × IsMade entry old next × Follows rest next new
+  abbrev pub EntriesMade : List ScheduleEntry → CoreView S W → CoreView S W → Type 0
+  EntriesMade [] old new = new ≡ old
+  EntriesMade (entry ∷ rest) old new = (next : CoreView S W) × EntryMade entry old next × EntriesMade rest next new
 
   -- the run of these files in an order of the seats, the newest first
   abbrev pub core_in : Setup → List (List Op) → List ℕ → CoreView S W
@@ -36,7 +36,7 @@ module _ {S W : Type 0} (form : NormalForm S W) where
   -- a new core that has made the entries is the run of its files in the order that they name
   abbrev pub RunsInOrder : Type 0
   RunsInOrder =
-      (setup : Setup) (files : List (List Op)) (entries : List ScheduleEntry) (new : CoreView S W) → Follows entries (core_new form setup files) new
+      (setup : Setup) (files : List (List Op)) (entries : List ScheduleEntry) (new : CoreView S W) → EntriesMade entries (core_new form setup files) new
       → (order : List ℕ) × IsOrderOf setup files entries order × (new ≡ core_in setup files order)
 
   -- entries name one order

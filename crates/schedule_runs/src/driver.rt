@@ -2,7 +2,7 @@
 ghost use Rattle.std.specs.Prelude.{◌≡◌, ℕ, ◌<◌, ◌||◌, All, length, not};
 ghost use Rattle.event_core.specs.Cores.{core_stepped, core_turn, next_listed};
 ghost use Rattle.schedule_runs.specs.Spans.{IsFirst, after_steps, ends_at, goes_on, reaches_at};
-ghost use Rattle.schedule_runs.specs.Orders.{Follows, IsMade};
+ghost use Rattle.schedule_runs.specs.Orders.{EntriesMade, EntryMade};
 
 use event_core::{Core, CoreTurn};
 use normal_traits::Normalized;
@@ -14,7 +14,7 @@ const STEP_LIMIT: u32 = 16_384;
 /// Makes the entries of a schedule, one after the other. It takes no memory and cannot fail.
 pub fn drive<C: Normalized>(core: &mut Core<C>, schedule: &[ScheduleEntry])
     requires seats { All (λ entry. entry.seat < length core.old.files) schedule.now }
-    ensures follows { Follows C.form schedule.now core.old core.new }
+    ensures follows { EntriesMade C.form schedule.now core.old core.new }
     ensures files { core.new.files ≡ core.old.files }
 {
     for entry in schedule {
@@ -25,7 +25,7 @@ pub fn drive<C: Normalized>(core: &mut Core<C>, schedule: &[ScheduleEntry])
 /// Makes one entry.
 fn follow<C: Normalized>(core: &mut Core<C>, entry: ScheduleEntry)
     requires seat { entry.seat < length core.old.files }
-    ensures made { IsMade C.form entry core.old core.new }
+    ensures made { EntryMade C.form entry core.old core.new }
     ensures files { core.new.files ≡ core.old.files }
 {
     match entry.span {

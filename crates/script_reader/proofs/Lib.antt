@@ -1,7 +1,7 @@
 pub mod Digits
 pub mod WordsOf
 pub mod LinesOf
-pub mod Lines
+pub mod LineByLine
 pub mod Faults
 pub mod Kept
 pub mod Entries

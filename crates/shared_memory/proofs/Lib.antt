@@ -1,6 +1,6 @@
 pub mod RunWords
 pub mod SeatSteps
-pub mod KeptSteps
+pub mod RuleKept
 pub mod Opens
 pub mod Joined
 pub mod Closed

@@ -2,7 +2,7 @@
 use Rattle.std.proofs.Common.{arith, ◌≡◌, ◌∙◌, refl, ap, ℕ, zero, suc, ◌<◌, ◌≤◌, Bool, cond, List, [], ◌∷◌, length, set, get_or, slice_index, slice_set}
 use Rattle.std.proofs.lemmas.Bool.{le-ltb, lt-ltb}
 use Rattle.step_memory.specs.declared.steps.Request.{Request}
-use Rattle.step_memory.specs.Step.{place_of, seen_at, seen_of, word_after, words_after}
+use Rattle.step_memory.specs.Step.{requested_place, seen_at, seen_of, word_after, words_after}
 use Rattle.step_memory.proofs.Words.{length-words_after}
 use Rattle.node_arena.specs.Opening.{opening_words}
 use Rattle.normal_traits.specs.NormalForm.{NormalForm}
@@ -18,22 +18,22 @@ set_past [] i n past = refl
 set_past (w ∷ ws) zero n past = absurd (omega (arith, past))
 set_past (w ∷ ws) (suc i) n past = ap (λ (l : List ℕ). w ∷ l) (set_past ws i n (omega (arith, past)))
 
-pub words_past : (request : Request) (ws : List ℕ) → length ws ≤ place_of request → words_after request ws ≡ ws
+pub words_past : (request : Request) (ws : List ℕ) → length ws ≤ requested_place request → words_after request ws ≡ ws
 unfolding words_after
-words_past request ws past = set_past ws (place_of request) _ past
+words_past request ws past = set_past ws (requested_place request) _ past
 
-pub seen_past : (request : Request) (ws : List ℕ) → length ws ≤ place_of request → seen_of request ws ≡ nothing_seen
+pub seen_past : (request : Request) (ws : List ℕ) → length ws ≤ requested_place request → seen_of request ws ≡ nothing_seen
 unfolding seen_of
-seen_past request ws past = ap (λ (b : Bool). cond b (seen_at request (get_or ws (place_of request) 0)) nothing_seen) (le-ltb (place_of request) (length ws) past)
+seen_past request ws past = ap (λ (b : Bool). cond b (seen_at request (get_or ws (requested_place request) 0)) nothing_seen) (le-ltb (requested_place request) (length ws) past)
 
 -- one on a word tells of that word, and leaves what it makes of it
-pub words_at : (request : Request) (ws : List ℕ) → words_after request ws ≡ slice_set ws (place_of request) (word_after request (slice_index ws (place_of request)))
+pub words_at : (request : Request) (ws : List ℕ) → words_after request ws ≡ slice_set ws (requested_place request) (word_after request (slice_index ws (requested_place request)))
 unfolding words_after
 words_at request ws = refl
 
-pub seen_within : (request : Request) (ws : List ℕ) → place_of request < length ws → seen_of request ws ≡ seen_at request (slice_index ws (place_of request))
+pub seen_within : (request : Request) (ws : List ℕ) → requested_place request < length ws → seen_of request ws ≡ seen_at request (slice_index ws (requested_place request))
 unfolding seen_of
-seen_within request ws inside = ap (λ (b : Bool). cond b (seen_at request (get_or ws (place_of request) 0)) nothing_seen) (lt-ltb (place_of request) (length ws) inside)
+seen_within request ws inside = ap (λ (b : Bool). cond b (seen_at request (get_or ws (requested_place request) 0)) nothing_seen) (lt-ltb (requested_place request) (length ws) inside)
 
 module _ {S W : Type 0} (form : NormalForm S W) where
   -- a run has as many words as it opens with

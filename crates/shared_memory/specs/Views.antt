@@ -73,7 +73,7 @@ module _ {C S W : Type 0} where
     Misses begins me after = after ≡ (moved me.0 begins nothing_seen, me.1)
 
     -- the machine is that of the view, or that one after one start, and a call of it runs
-    pub record Follows (v : View C S W) (mech : Mech S W) : Type 0 where
+    pub record RunsOnFrom (v : View C S W) (mech : Mech S W) : Type 0 where
       pub is : mech ≡ begun (command_of v.machine mech) v.machine
       pub runs : rests mech.phase ≡ false
       pub can : CanMove form (command_of v.machine mech) v.machine

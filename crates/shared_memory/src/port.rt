@@ -6,7 +6,7 @@ ghost use Rattle.node_arena.specs.Opening.{opening_words};
 ghost use Rattle.fast_slow_engine.specs.Runs.{CanMove, begun};
 ghost use Rattle.fast_slow_engine.specs.declared.setup.Turn.{Turn};
 ghost use Rattle.fast_slow_engine.specs.PhaseTable.{ends, mech_request, rests};
-ghost use Rattle.shared_memory.specs.Views.{Face, Follows, Memory, Stepped, command_of, cut_left, first_view, glued, moved, new_view};
+ghost use Rattle.shared_memory.specs.Views.{Face, RunsOnFrom, Memory, Stepped, command_of, cut_left, first_view, glued, moved, new_view};
 ghost use Rattle.shared_memory.specs.Closing.{Closes, IsWhole};
 
 use crate::rule::{Advance, Begins, Cut, Glue, Keeps, Miss};
@@ -120,7 +120,7 @@ impl<C: Normalized> Shared<C> {
     #[inline(always)]
     fn next_as<B: Begins>(&self, port: &mut SeatPort<C>, machine: &Machine<C>) -> Seen
         requires table { port.old.table ≡ self.now.table }
-        requires machine { Follows C.form port.old.view machine.now }
+        requires machine { RunsOnFrom C.form port.old.view machine.now }
         requires command { B.command ≡ command_of port.old.view.machine machine.now }
         ensures table { port.new.table ≡ port.old.table }
         ensures view { port.new.view ≡ moved C.form port.old.view (command_of port.old.view.machine machine.now) result }
@@ -141,7 +141,7 @@ impl<C: Normalized> Shared<C> {
     #[inline(always)]
     pub fn advance(&self, port: &mut SeatPort<C>, machine: &mut Machine<C>) -> Turn
         requires table { port.old.table ≡ self.now.table }
-        requires machine { Follows C.form port.old.view machine.old }
+        requires machine { RunsOnFrom C.form port.old.view machine.old }
         ensures table { port.new.table ≡ port.old.table }
         ensures step { Stepped C.form port.old.view machine.old port.new.view machine.new result }
     {
@@ -153,7 +153,7 @@ impl<C: Normalized> Shared<C> {
     #[inline(always)]
     pub fn go_on(&self, port: &mut SeatPort<C>, machine: &mut Machine<C>)
         requires table { port.old.table ≡ self.now.table }
-        requires machine { Follows C.form port.old.view machine.old }
+        requires machine { RunsOnFrom C.form port.old.view machine.old }
         requires goes_on { ends machine.old.phase ≡ false }
         ensures table { port.new.table ≡ port.old.table }
         ensures step { Stepped C.form port.old.view machine.old port.new.view machine.new Turn.Going }
@@ -166,7 +166,7 @@ impl<C: Normalized> Shared<C> {
     #[inline(always)]
     pub fn finish(&self, port: &mut SeatPort<C>, machine: &mut Machine<C>) -> Receipt
         requires table { port.old.table ≡ self.now.table }
-        requires machine { Follows C.form port.old.view machine.old }
+        requires machine { RunsOnFrom C.form port.old.view machine.old }
         requires ends { ends machine.old.phase ≡ true }
         ensures table { port.new.table ≡ port.old.table }
         ensures step { Stepped C.form port.old.view machine.old port.new.view machine.new (Turn.Returned result) }

@@ -2,7 +2,7 @@
 -- rests on. No run is in it: the laws of one step speak of these, and a run supplies them.
 use Rattle.std.specs.Prelude.{◌≡◌, ◌≢◌, ℕ, ◌+◌, ◌^◌, ◌<◌, ◌≤◌, ◌⊎◌, Bool, true, false, not, length, slice_get, Option, Some, None}
 use Rattle.step_memory.specs.declared.steps.Seen.{Seen}
-use Rattle.word_fields.specs.declared.records.Phase.TheVariants as marks
+use Rattle.word_fields.specs.declared.records.RecordPhase.TheVariants as marks
 use Rattle.word_fields.specs.Announced.{op_word, value_word}
 use Rattle.word_fields.specs.Records.{packed_record, record_number, record_of, record_phase, record_word}
 use Rattle.word_fields.specs.Versioned.{versioned_version}

@@ -12,7 +12,7 @@ use Rattle.offered_blocks.specs.Blocks.{Offer}
 use Rattle.offered_blocks.specs.Holds.{HasOffers}
 use Rattle.offered_blocks.specs.OtherSteps.{IsSpare}
 use Rattle.move_kinds.specs.Kinds.{Kind}
-use Rattle.helper_knowledge.specs.Callers.{Caller, Follows}
+use Rattle.helper_knowledge.specs.Callers.{Caller, KeepsCall}
 use Rattle.run_world.specs.Ghosts.{Held, SeatGhost}
 use Rattle.run_world.specs.InHand.{BlockIn, IsUnspent}
 use Rattle.run_world.specs.Lists.{HoldsIn}
@@ -20,7 +20,7 @@ use Rattle.step_knowledge.specs.Known.{KnowsIn, MakesCommand, NoneFrom}
 
 -- the seat of the call that a helper works on makes it after the move only if it did before, and no call is before that
 abbrev pub FollowsHelp : {S W : Type 0} → Helping S W → ℕ → (ℕ → Caller) → (ℕ → Caller) → Type 0
-FollowsHelp (Known word does) head callers callers' = Follows (callers head) (callers' head) (record_number word) × ((callers head).number ≤ (callers' head).number)
+FollowsHelp (Known word does) head callers callers' = KeepsCall (callers head) (callers' head) (record_number word) × ((callers head).number ≤ (callers' head).number)
 FollowsHelp _ head callers callers' = Unit {0}
 
 abbrev pub FollowsIn : {S W : Type 0} → Phase S W → (ℕ → Caller) → (ℕ → Caller) → Type 0

@@ -8,22 +8,22 @@ use Rattle.step_memory.specs.Step.{seen_of}
 use Rattle.std.proofs.Common.{◌≡◌, ◌≢◌, ℕ, ◌<◌, List, length, get_or, get_or-set_same, get_or-set_other}
 use Rattle.std.proofs.Math.ListN.{length-set}
 use Rattle.step_memory.specs.declared.steps.Request.{Request}
-use Rattle.step_memory.specs.Step.{place_of, word_after, words_after}
+use Rattle.step_memory.specs.Step.{requested_place, word_after, words_after}
 
 -- a step keeps the number of words
 pub length-words_after : (request : Request) (words : List ℕ) → length (words_after request words) ≡ length words
 unfolding words_after
-length-words_after request words = length-set words (place_of request) (word_after request (get_or words (place_of request) 0))
+length-words_after request words = length-set words (requested_place request) (word_after request (get_or words (requested_place request) 0))
 
 -- the word at the place of a step is what the request leaves there
-pub word_at_place : (request : Request) (words : List ℕ) → place_of request < length words → get_or (words_after request words) (place_of request) 0 ≡ word_after request (get_or words (place_of request) 0)
+pub word_at_place : (request : Request) (words : List ℕ) → requested_place request < length words → get_or (words_after request words) (requested_place request) 0 ≡ word_after request (get_or words (requested_place request) 0)
 unfolding words_after
-word_at_place request words inside = get_or-set_same words (place_of request) (word_after request (get_or words (place_of request) 0)) 0 inside
+word_at_place request words inside = get_or-set_same words (requested_place request) (word_after request (get_or words (requested_place request) 0)) 0 inside
 
 -- every other word stays
-pub word_elsewhere : (request : Request) (words : List ℕ) (at : ℕ) → at ≢ place_of request → get_or (words_after request words) at 0 ≡ get_or words at 0
+pub word_elsewhere : (request : Request) (words : List ℕ) (at : ℕ) → at ≢ requested_place request → get_or (words_after request words) at 0 ≡ get_or words at 0
 unfolding words_after
-word_elsewhere request words at other = get_or-set_other words (place_of request) at (word_after request (get_or words (place_of request) 0)) 0 other
+word_elsewhere request words at other = get_or-set_other words (requested_place request) at (word_after request (get_or words (requested_place request) 0)) 0 other
 
 -- what is told of the word at a place is told of 0 past the end
 before_cond : (at : ℕ) (words : List ℕ) (won : Bool) → (cond (ltb at (length words)) (let seen : Seen = record { before = get_or words at 0; won = won } in seen) (record { before = 0; won = false })).before ≡ get_or words at 0

@@ -5,11 +5,11 @@ use Rattle.step_memory.specs.declared.steps.Request.TheVariants.{Load, Store, Ex
 use Rattle.step_memory.specs.declared.steps.Seen.{Seen}
 
 -- the place of the word that a request is on
-abbrev pub place_of : Request → ℕ
-place_of (Load at) = at
-place_of (Store at value) = at
-place_of (Exchange at from to) = at
-place_of (Add at by) = at
+abbrev pub requested_place : Request → ℕ
+requested_place (Load at) = at
+requested_place (Store at value) = at
+requested_place (Exchange at from to) = at
+requested_place (Add at by) = at
 
 -- the word that a request leaves where it found a word
 abbrev pub word_after : Request → ℕ → ℕ
@@ -28,10 +28,10 @@ seen_at (Add at by) word = record { before = word; won = true }
 -- the words after a step: one word is what the request leaves there, and a place past the end changes
 -- nothing
 unfoldable pub words_after : Request → List ℕ → List ℕ
-words_after request words = slice_set words (place_of request) (word_after request (slice_index words (place_of request)))
+words_after request words = slice_set words (requested_place request) (word_after request (slice_index words (requested_place request)))
 
 -- what a step tells: of the word at its place, or 0 and not won past the end
 unfoldable pub seen_of : Request → List ℕ → Seen
 seen_of request words =
-    if nat_lt (place_of request) (length words) then seen_at request (slice_index words (place_of request))
+    if nat_lt (requested_place request) (length words) then seen_at request (slice_index words (requested_place request))
     else record { before = 0; won = false }

@@ -24,11 +24,11 @@ pub struct Seen {
 }
 
 impl Request {
-    ghost use Rattle.step_memory.specs.Step.{place_of, seen_at};
+    ghost use Rattle.step_memory.specs.Step.{requested_place, seen_at};
 
     /// The place of the word that the request is on.
     pub fn place(self) -> u32
-        ensures { result ≡ place_of self }
+        ensures { result ≡ requested_place self }
     {
         match self {
             Request::Load { at } => at,

@@ -12,9 +12,9 @@ use Rattle.fast_slow_engine.specs.PhaseTable.{mech_fed, mech_started, mech_turn,
 use Rattle.fast_slow_engine.specs.Runs.{CanMove, begun, returned}
 use Rattle.fast_slow_engine.proofs.SameCalls.{same_fed}
 use Rattle.fast_slow_engine.specs.Lines.{returns}
-use Rattle.fast_slow_engine.proofs.LineLemmas.{calls_end, lines_are_own}
+use Rattle.fast_slow_engine.proofs.LineOwners.{calls_end, lines_are_own}
 use Rattle.shared_memory.specs.declared.view.View.{View}
-use Rattle.shared_memory.specs.Views.{Follows, Stepped, command_of, moved}
+use Rattle.shared_memory.specs.Views.{RunsOnFrom, Stepped, command_of, moved}
 use Rattle.thread_runs.specs.Work.{HasMade, RestsIn, Under, after_call}
 
 module _ {S W : Type 0} (form : NormalForm S W) where
@@ -26,7 +26,7 @@ module _ {S W : Type 0} (form : NormalForm S W) where
 
 module _ {C S W : Type 0} (form : NormalForm S W) where
   -- a machine of which a call runs is followed by itself
-  itself : (v : View C S W) (mech : Mech S W) → mech ≡ v.machine → rests mech.phase ≡ false → Follows form v mech
+  itself : (v : View C S W) (mech : Mech S W) → mech ≡ v.machine → rests mech.phase ≡ false → RunsOnFrom form v mech
   itself v mech same runs =
       let there : rests v.machine.phase ≡ false = ap (λ (m : Mech S W). rests m.phase) (sym same) ∙ runs in
       let none : command_of v.machine mech ≡ None = ap (λ b. if b then Some mech.op else None) there in

@@ -8,7 +8,7 @@ use Rattle.fast_slow_engine.specs.declared.setup.Setup.{Setup}
 use Rattle.fast_slow_engine.specs.Mechs.{Mech}
 use Rattle.fast_slow_engine.specs.PhaseTable.{rests}
 use Rattle.fast_slow_engine.specs.Runs.{run_of}
-use Rattle.run_laws.proofs.SeatLemmas.{seats_stay}
+use Rattle.run_laws.proofs.MachinesKept.{seats_stay}
 use Rattle.run_laws.proofs.Steps.{some_same}
 use Rattle.move_orders.specs.SeatLines.{lines_down, lines_of, ops_of}
 use Rattle.thread_runs.specs.Whole.{IsRun, IsRunBySeats, lines_at}

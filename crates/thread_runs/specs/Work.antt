@@ -8,7 +8,7 @@ use Rattle.fast_slow_engine.specs.Mechs.{Mech}
 use Rattle.fast_slow_engine.specs.PhaseTable.{rests}
 use Rattle.move_orders.specs.SeatLines.{ops_of}
 use Rattle.shared_memory.specs.declared.view.View.{View}
-use Rattle.shared_memory.specs.Views.{Follows}
+use Rattle.shared_memory.specs.Views.{RunsOnFrom}
 
 -- r is the last one of these
 abbrev pub IsLast : List Receipt → Receipt → Type 0
@@ -22,7 +22,7 @@ module _ {C S W : Type 0} where
 
   -- within the call of op that began at the view v0
   pub record Under (form : NormalForm S W) (v0 : View C S W) (op : Op) (v : View C S W) (mech : Mech S W) : Type 0 where
-    pub follows : Follows form v mech
+    pub follows : RunsOnFrom form v mech
     pub number : mech.number ≡ v0.machine.number + 1
     pub of_op : mech.op ≡ op
     pub of_seat : mech.seat ≡ v0.machine.seat

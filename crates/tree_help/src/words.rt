@@ -3,7 +3,7 @@ ghost use Rattle.std.specs.Prelude.{◌≡◌, ◌<◌, ◌^◌, ◌≤◌};
 ghost use Rattle.word_fields.specs.Versioned.{changed_word, is_modified, versioned_value};
 ghost use Rattle.tree_help.specs.Updates.{block_of, flag_place, note_at, place_in, state_of, updated};
 
-use node_arena::place_of;
+use node_arena::block_place;
 use node_arena::places::INFO_FIELD;
 use word_fields::VersionedWord;
 
@@ -11,7 +11,7 @@ use word_fields::VersionedWord;
 const PLACES: u64 = 1 << 32;
 
 /// The value of a word.
-#[tactic(auto, using(word_fields::proofs::VersionedLemmas::versioned_words))]
+#[tactic(auto, using(word_fields::proofs::ChangedWords::versioned_words))]
 pub fn value_of(word: u64) -> u32
     ensures value { result ≡ versioned_value word }
     ensures small { result < 2 ^ 24 }
@@ -65,7 +65,7 @@ pub fn note_at(block: u32, note: u32) -> u32
     requires note { note ≤ 4 }
     ensures { result ≡ note_at block note }
 {
-    place_of(block, INFO_FIELD + note)
+    block_place(block, INFO_FIELD + note)
 }
 
 /// The place that a word has.

@@ -12,7 +12,7 @@ use Rattle.step_memory.specs.declared.steps.Seen.{Seen}
 use Rattle.word_fields.specs.Versioned.{versioned_value, versioned_bit, is_modified, value_below}
 use Rattle.node_arena.specs.declared.places.TheConstants.{NODE_VALUE, NODE_NEXT}
 use Rattle.node_arena.specs.MemoryMap.{node_place, reference_to, block_place}
-use Rattle.node_arena.proofs.PlaceLemmas.{node_place-reference_to, block-reference_to, block_place_behind}
+use Rattle.node_arena.proofs.PlacesApart.{node_place-reference_to, block-reference_to, block_place_behind}
 use Rattle.normal_traits.specs.declared.form.Found.{Found}
 use Rattle.normal_traits.specs.declared.form.Found.TheVariants.{Going, Ready, Answer, Contended}
 use Rattle.normal_traits.specs.World.{World, Change, held_after, first_changes, RightSince, Listed, Won, Took, Stopped, Observes, ChangedBy}
@@ -30,7 +30,7 @@ use Rattle.treiber_stack_form.specs.Object.{is_put, stack_apply, stack_object}
 use Rattle.treiber_stack_form.specs.Steps.{begun, asked, asked_place, fed, met_by_put, met_by_take, Asks, IsReady, next_place, put_offer, top_entry, offered, told, told_by, wrap_begun}
 use Rattle.treiber_stack_form.specs.Meanings.{first_node, AreLinked, IsStack, WasTop, Learnt, Knows, AreEffective}
 use Rattle.treiber_stack_form.specs.Form.{stack_form}
-use Rattle.treiber_stack_form.proofs.Kept.{node_is_word, Extends, Anyhow, later, plain_stay, knows_later}
+use Rattle.treiber_stack_form.proofs.NodesStay.{node_is_word, Extends, Anyhow, later, plain_stay, knows_later}
 use Rattle.normal_traits.specs.declared.form.Wrapped.TheVariants as wrapped
 use Rattle.normal_traits.specs.declared.lists.Entry.{Entry}
 use Rattle.normal_traits.specs.Steps.{IsOffered}
@@ -39,7 +39,7 @@ use Rattle.client_lemmas.proofs.Entries.{none_beside}
 use Rattle.client_lemmas.proofs.Lost.{stopped_lost, lost_first, lost_later, lost_unchanged}
 use Rattle.treiber_stack_form.specs.declared.states.StackWrap.TheVariants.{Over}
 use Rattle.treiber_stack_form.specs.Tellable.{stack_exhausts}
-use Rattle.treiber_stack_form.proofs.Keeps.{shape_keeps}
+use Rattle.treiber_stack_form.proofs.ShapeKept.{shape_keeps}
 use Rattle.normal_traits.specs.AtOnce.{ChangesAtOnce}
 
 -- ---- the beginning
@@ -243,34 +243,36 @@ begun_fits op entries stop = either WrappedFits (eqb stop 0) wrapped.Restart (wr
 pub laws : Laws stack_form
 laws =
     record {
+      of_world = record {
+        effective = λ world newer older change stack split. effective_behind newer older change (subst AreEffective split stack.effective);
+        one_change_a_list = λ world stack. stack.made.lists_differ;
+        one_change_a_block = λ world stack. stack.made.blocks_differ;
+        causes_differ = λ world stack. stack.causes_differ;
+        causes_bounded = λ world stack.
+            all_among (λ (won : Won). (world.used won.cause.block ≡ true) × (won.cause.kind < 8)) world.journal (λ won a. ((stack.known won a).used, omega (arith, (stack.known won a).kind)));
+        begins_asking = λ op command. begins_asking op;
+        begins_knowing = λ world op command stack. begins_knowing world op;
+        notes_plain = λ block field some low. plain_place (block_place block field) (block_place_behind block field);
+        search_asks_well = λ world search op since command stack asks knows. asks_well world search asks knows.learnt;
+        contends = λ search seen asks found. contends search seen found;
+        lists = λ world search op since command knows ready. (refl, stack_exhausts op command.command);
+        offers = λ world search op since block command stack knows ready small. offers world search op since block command knows ready small;
+        same_entries = same_entries;
+        wrap_asks_well = λ world wrap list stop stack going follows. absurd follows;
+        wrap_begun = begun_well;
+        dead_unchanged = λ world list change stack dead among. lost_unchanged stack_form world list change stack.made dead among;
+        dead_first = λ world list search since entry stack dead offer fresh listed. lost_first stack_form world list entry dead listed;
+        beside = λ world list entry stack adds. absurd (none_beside list adds);
+        begun_fits = λ world list search since stop stack offer stopped. begun_fits list.call.op list.entries stop;
+      };
       opens = opens;
       shape_kept = shape_keeps;
-      effective = λ world newer older change stack split. effective_behind newer older change (subst AreEffective split stack.effective);
-      one_change_a_list = λ world stack. stack.made.lists_differ;
-      one_change_a_block = λ world stack. stack.made.blocks_differ;
-      causes_differ = λ world stack. stack.causes_differ;
-      causes_bounded = λ world stack.
-          all_among (λ (won : Won). (world.used won.cause.block ≡ true) × (won.cause.kind < 8)) world.journal (λ won a. ((stack.known won a).used, omega (arith, (stack.known won a).kind)));
-      begins_asking = λ op command. begins_asking op;
-      begins_knowing = λ world op command stack. begins_knowing world op;
-      notes_plain = λ block field some low. plain_place (block_place block field) (block_place_behind block field);
       knows_kept = λ world after search op since command stack knows step. knows_later world after (later world after stack step) (plain_stay world after step) search op since knows;
       follows_kept = λ world after wrap list stop stack follows step. follows;
       dead_kept = λ world after list stack dead step. lost_later stack_form Extends Anyhow world after list (later world after stack step) dead;
-      search_asks_well = λ world search op since command stack asks knows. asks_well world search asks knows.learnt;
       search_fed = λ world after seen search op since command stack asks knows requested. fed_well world after seen search op since stack asks knows (went stack_form (asked search) world after seen requested);
-      contends = λ search seen asks found. contends search seen found;
-      lists = λ world search op since command knows ready. (refl, stack_exhausts op command.command);
-      offers = λ world search op since block command stack knows ready small. offers world search op since block command knows ready small;
-      same_entries = same_entries;
-      wrap_asks_well = λ world wrap list stop stack going follows. absurd follows;
-      wrap_begun = begun_well;
       wrap_fed = λ world after seen wrap list stop command stack going follows requested. absurd follows;
-      dead_unchanged = λ world list change stack dead among. lost_unchanged stack_form world list change stack.made dead among;
-      dead_first = λ world list search since entry stack dead offer fresh listed. lost_first stack_form world list entry dead listed;
-      beside = λ world list entry stack adds. absurd (none_beside list adds);
       answers_fit = λ world after seen search op since command stack asks knows requested. found_fits search seen;
-      begun_fits = λ world list search since stop stack offer stopped. begun_fits list.call.op list.entries stop;
       wraps_fit = λ world after seen wrap list stop command stack going follows requested. absurd follows;
     }
 

@@ -1,3 +1,3 @@
-pub mod Kept
-pub mod Keeps
+pub mod NodesStay
+pub mod ShapeKept
 pub mod Laws

@@ -1,4 +1,4 @@
-pub mod Answered
+pub mod CallsLeave
 pub mod Answers
 pub mod Keys
 pub mod Ops

@@ -1,7 +1,7 @@
 //! The calls of a map.
 ghost use Rattle.std.specs.Prelude.{◌≡◌, Err};
 ghost use Rattle.handles.specs.Opening.{before_calls};
-ghost use Rattle.wait_free.specs.Answered.{CanCall, IsAnswered, IsRefused, IsSpent};
+ghost use Rattle.wait_free.specs.CallsLeave.{CanCall, IsAnswered, IsRefused, IsSpent};
 ghost use Rattle.wait_free.specs.Answers.{change_answer, look_answer};
 ghost use Rattle.wait_free.specs.Ops.{get_of, set_of, unset_of};
 ghost use Rattle.wait_free.specs.declared.refused.Refused.{Refused};

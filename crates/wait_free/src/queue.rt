@@ -1,7 +1,7 @@
 //! The calls of a queue.
 ghost use Rattle.std.specs.Prelude.{◌≡◌, Err};
 ghost use Rattle.handles.specs.Opening.{before_calls};
-ghost use Rattle.wait_free.specs.Answered.{CanCall, IsAnswered, IsRefused, IsSpent};
+ghost use Rattle.wait_free.specs.CallsLeave.{CanCall, IsAnswered, IsRefused, IsSpent};
 ghost use Rattle.wait_free.specs.Answers.{look_answer, put_answer, take_answer};
 ghost use Rattle.wait_free.specs.Ops.{peek_of, put_of, take_of};
 ghost use Rattle.wait_free.specs.declared.refused.Refused.{Refused};

@@ -1,7 +1,7 @@
 //! The calls of a sorted set.
 ghost use Rattle.std.specs.Prelude.{◌≡◌, Err, Ok};
 ghost use Rattle.handles.specs.Opening.{before_calls};
-ghost use Rattle.wait_free.specs.Answered.{CanCall, IsAnswered, IsRefused, IsSpent};
+ghost use Rattle.wait_free.specs.CallsLeave.{CanCall, IsAnswered, IsRefused, IsSpent};
 ghost use Rattle.wait_free.specs.Answers.{change_answer, contains_answer, least_answer};
 ghost use Rattle.wait_free.specs.Ops.{add_of, contains_of, least_of, remove_of};
 ghost use Rattle.wait_free.specs.declared.refused.Refused.{Refused};

@@ -1,8 +1,8 @@
 pub mod Ranges
-pub mod FieldLemmas
-pub mod VersionedLemmas
-pub mod QueueLemmas
-pub mod MemberLemmas
-pub mod RecordLemmas
-pub mod AnnouncedLemmas
-pub mod PayloadLemmas
+pub mod MasksAndShifts
+pub mod ChangedWords
+pub mod SeatsOfQueueWords
+pub mod MembersOfWords
+pub mod RecordWords
+pub mod AnnouncedWords
+pub mod PayloadParts

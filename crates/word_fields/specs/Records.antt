@@ -1,13 +1,13 @@
 -- A record word: how far the published call of a seat has come. Bits 0 to 2 have the phase, 3 to 18
 -- the call's number, 19 to 35 the round, 36 to 59 the payload.
 use Rattle.std.specs.Prelude.{ℕ, ◌+◌, ◌*◌, ◌^◌, ◌<◌, ◌==◌, if◌then◌else◌}
-use Rattle.word_fields.specs.declared.records.Phase.{Phase}
-use Rattle.word_fields.specs.declared.records.Phase.TheVariants.{Idle, Generate, Executing, Wrapping, Completed}
+use Rattle.word_fields.specs.declared.records.RecordPhase.{RecordPhase}
+use Rattle.word_fields.specs.declared.records.RecordPhase.TheVariants.{Idle, Generate, Executing, Wrapping, Completed}
 use Rattle.word_fields.specs.declared.records.RecordWord.{RecordWord}
 use Rattle.word_fields.specs.Fields.{field_of, field_below}
 
 -- the number that stands for a phase; a later phase has a greater one
-abbrev pub phase_number : Phase → ℕ
+abbrev pub phase_number : RecordPhase → ℕ
 phase_number Idle = 0
 phase_number Generate = 1
 phase_number Executing = 2
@@ -15,7 +15,7 @@ phase_number Wrapping = 3
 phase_number Completed = 4
 
 -- the phase that a number stands for; a number above 4 is read as Idle
-abbrev pub phase_of : ℕ → Phase
+abbrev pub phase_of : ℕ → RecordPhase
 phase_of n =
     if n == 1 then Generate
     else (if n == 2 then Executing
@@ -24,7 +24,7 @@ phase_of n =
     else Idle)))
 
 -- the phase of a word
-unfoldable pub record_phase : ℕ → Phase
+unfoldable pub record_phase : ℕ → RecordPhase
 record_phase w = phase_of (field_of 0 3 w)
 
 -- the number of the call
@@ -40,7 +40,7 @@ unfoldable pub record_payload : ℕ → ℕ
 record_payload w = field_of 36 24 w
 
 -- the word of a phase, a number, a round and a payload
-unfoldable pub record_word : Phase → ℕ → ℕ → ℕ → ℕ
+unfoldable pub record_word : RecordPhase → ℕ → ℕ → ℕ → ℕ
 record_word phase number round payload =
     phase_number phase + 2 ^ 3 * number + 2 ^ 19 * round + 2 ^ 36 * payload
 

@@ -4,7 +4,7 @@
 pub use announced::{OpWord, ValueWord};
 pub use field::Field;
 pub use queues::QueueWord;
-pub use records::{Phase, RecordWord};
+pub use records::{RecordPhase, RecordWord};
 pub use versioned::VersionedWord;
 
 pub mod announced;

@@ -79,7 +79,7 @@ pub fn head(word: u64) -> Option<u8>
 }
 
 /// The bits of seats in their places.
-#[tactic(auto, using(crate::proofs::QueueLemmas::write_more), unfolding(crate::specs::Seats::seats_word))]
+#[tactic(auto, using(crate::proofs::SeatsOfQueueWords::write_more), unfolding(crate::specs::Seats::seats_word))]
 fn write_seats(seats: &[u8]) -> u64
     requires { AreSeats seats.now }
     ensures { result ≡ seats_word seats.now }
@@ -97,7 +97,7 @@ impl QueueWord {
     ghost use Rattle.word_fields.specs.Queues.{queue_of, packed_queue};
 
     /// The fields of a word.
-    #[tactic(auto, using(crate::proofs::QueueLemmas::queue_seats_read, crate::specs::ProvedSeats::queue_seats_are), unfolding(crate::specs::Queues::queue_version))]
+    #[tactic(auto, using(crate::proofs::SeatsOfQueueWords::queue_seats_read, crate::specs::ProvedSeats::queue_seats_are), unfolding(crate::specs::Queues::queue_version))]
     pub fn unpack(word: u64) -> Self
         ensures fields { result ≡ queue_of word }
         ensures seats { ReadsSeats (places_of word) result.seats.items }
@@ -109,7 +109,7 @@ impl QueueWord {
     }
 
     /// The word with these fields.
-    #[tactic(auto, using(crate::proofs::QueueLemmas::queue_word_put))]
+    #[tactic(auto, using(crate::proofs::SeatsOfQueueWords::queue_word_put))]
     pub fn pack(&self) -> u64
         ensures word { result ≡ packed_queue self.now }
         ensures read_back { queue_of result ≡ self.now }

@@ -4,7 +4,7 @@ ghost use Rattle.std.specs.Prelude.{ℕ, ◌<◌, ◌^◌};
 use crate::field::Field;
 
 /// The phase, by its number.
-pub type RecordPhase = Field<0, 3>;
+pub type PhaseNumber = Field<0, 3>;
 /// The number of the call.
 pub type RecordNumber = Field<3, 16>;
 /// How often the call's list was made anew.
@@ -14,7 +14,7 @@ pub type RecordPayload = Field<36, 24>;
 
 /// Where a published call is. The phases follow one another in this order.
 #[derive(Clone, Copy, Debug, PartialEq, Eq)]
-pub enum Phase {
+pub enum RecordPhase {
     /// No call was published yet.
     Idle,
     /// The call's list is to be made.
@@ -27,7 +27,7 @@ pub enum Phase {
     Completed,
 }
 
-impl Phase {
+impl RecordPhase {
     ghost use Rattle.std.specs.Prelude.{◌≡◌};
     ghost use Rattle.word_fields.specs.Records.{phase_of, phase_number};
 
@@ -36,11 +36,11 @@ impl Phase {
         ensures { result ≡ phase_of number }
     {
         match number {
-            1 => Phase::Generate,
-            2 => Phase::Executing,
-            3 => Phase::Wrapping,
-            4 => Phase::Completed,
-            _ => Phase::Idle,
+            1 => RecordPhase::Generate,
+            2 => RecordPhase::Executing,
+            3 => RecordPhase::Wrapping,
+            4 => RecordPhase::Completed,
+            _ => RecordPhase::Idle,
         }
     }
 
@@ -49,11 +49,11 @@ impl Phase {
         ensures { result ≡ phase_number self.now }
     {
         match self {
-            Phase::Idle => 0,
-            Phase::Generate => 1,
-            Phase::Executing => 2,
-            Phase::Wrapping => 3,
-            Phase::Completed => 4,
+            RecordPhase::Idle => 0,
+            RecordPhase::Generate => 1,
+            RecordPhase::Executing => 2,
+            RecordPhase::Wrapping => 3,
+            RecordPhase::Completed => 4,
         }
     }
 }
@@ -61,7 +61,7 @@ impl Phase {
 /// A record word by its fields.
 #[derive(Clone, Copy, Debug, PartialEq, Eq)]
 pub struct RecordWord {
-    pub phase: Phase,
+    pub phase: RecordPhase,
     pub number: u16,
     pub round: u32,
     pub payload: u32,
@@ -81,7 +81,7 @@ impl RecordWord {
         ensures { result ≡ record_of word }
     {
         RecordWord {
-            phase: Phase::from_number(RecordPhase::get(word)),
+            phase: RecordPhase::from_number(PhaseNumber::get(word)),
             number: RecordNumber::get(word) as u16,
             round: RecordRound::get(word) as u32,
             payload: RecordPayload::get(word) as u32,
@@ -94,7 +94,7 @@ impl RecordWord {
         ensures read_back { record_of result ≡ self.now }
         ensures told_apart { (v : RecordWord) → packed_record v ≡ result → v ≡ self.now }
     {
-        let phase = RecordPhase::put(0, self.phase.number());
+        let phase = PhaseNumber::put(0, self.phase.number());
         let number = RecordNumber::put(phase, u64::from(self.number));
         let round = RecordRound::put(number, u64::from(self.round));
         RecordPayload::put(round, u64::from(self.payload))

@@ -5,7 +5,9 @@ use crate::payloads::{
     DONE, PayloadBlock, PayloadStop, ReplyKind, ReplyRest, ReplyValue, pack_reply,
 };
 use crate::queues::{QueuePlace, QueueVersion, QueueWord};
-use crate::records::{Phase, RecordNumber, RecordPayload, RecordPhase, RecordRound, RecordWord};
+use crate::records::{
+    PhaseNumber, RecordNumber, RecordPayload, RecordPhase, RecordRound, RecordWord,
+};
 use crate::versioned::{VersionedBit, VersionedValue, VersionedVersion, VersionedWord};
 use std::process::Abort;
 
@@ -54,7 +56,7 @@ fn versioned_fields_keep_apart(rt: HostRuntime) {
 
 #[test]
 fn record_fields_keep_apart(rt: HostRuntime) {
-    boundaries! { rt; RecordPhase, 0, 3; RecordNumber, 3, 16; RecordRound, 19, 17; RecordPayload, 36, 24; }
+    boundaries! { rt; PhaseNumber, 0, 3; RecordNumber, 3, 16; RecordRound, 19, 17; RecordPayload, 36, 24; }
 }
 
 #[test]
@@ -96,10 +98,15 @@ fn worked_versioned_words_are_packed_and_read(rt: HostRuntime) {
 fn worked_record_words_are_packed_and_read(rt: HostRuntime) {
     let done = pack_reply(DONE, 0);
     for (word, phase, payload, again) in [
-        (9, Phase::Generate, 0, 9),
-        (68_719_476_746, Phase::Executing, 1, 68_719_476_746),
-        (137_438_953_484, Phase::Completed, done, 137_438_953_484),
-        (15, Phase::Idle, 0, 8),
+        (9, RecordPhase::Generate, 0, 9),
+        (68_719_476_746, RecordPhase::Executing, 1, 68_719_476_746),
+        (
+            137_438_953_484,
+            RecordPhase::Completed,
+            done,
+            137_438_953_484,
+        ),
+        (15, RecordPhase::Idle, 0, 8),
     ] {
         let fields = RecordWord::unpack(word);
         assert_eq!(rt; (fields.phase, fields.payload), (phase, payload));

@@ -1,9 +1,11 @@
-//! Worked runs of the queue and of the stack on the engine, step by step.
+//! Worked runs of the queue, the list and the stack on the engine, step by step.
 #![tactic(auto)]
 
+#[cfg(test)]
+mod lists;
+#[cfg(test)]
+mod queues;
 #[cfg(test)]
 mod runs;
 #[cfg(test)]
 mod stacks;
-#[cfg(test)]
-mod tests;

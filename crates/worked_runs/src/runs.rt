@@ -56,12 +56,19 @@ pub fn make_steps(core: &mut Core<MsQueue>, seat: u32, count: u32)
     }
 }
 
-/// Drives a run of two seats by a schedule. Whether it is one.
-pub fn drive_two<C: Normalized>(alloc: Global, core: &mut Core<C>, schedule: &[u8]) -> bool
-    requires { length core.old.files ≡ 2 }
+/// Drives a run of so many seats by a schedule. Whether it is one.
+pub fn drive_seats<C: Normalized>(
+    alloc: Global,
+    core: &mut Core<C>,
+    seats: u32,
+    schedule: &[u8],
+) -> bool
+    requires some { 1 ≤ seats }
+    requires few { seats ≤ 8 }
+    requires files { length core.old.files ≡ seats }
     ensures { core.new.files ≡ core.old.files }
 {
-    let Ok(entries) = read_schedule(alloc, schedule, 2) else {
+    let Ok(entries) = read_schedule(alloc, schedule, seats) else {
         return false;
     };
     drive(core, &entries);

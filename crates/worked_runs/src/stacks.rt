@@ -1,7 +1,7 @@
 //! Runs of the stack: the last value in is the first out, on both paths and where a put loses its exchange.
 ghost use Rattle.std.specs.Prelude.{◌≡◌, ◌≤◌, IfSome, length};
 
-use crate::runs::drive_two;
+use crate::runs::drive_seats;
 use event_core::Core;
 use fast_slow_engine::Setup;
 use lin_report::calls::{PUT, TAKE};
@@ -55,7 +55,7 @@ fn the_last_value_in_is_the_first_out(rt: HostRuntime) {
         panic!(rt; "no memory")
     };
     let schedule = b"0 end\n1 end\n0 end\n1 end\n1 end\n";
-    assert!(rt; drive_two(rt.alloc(), &mut core, schedule));
+    assert!(rt; drive_seats(rt.alloc(), &mut core, 2, schedule));
     assert_eq!(rt; told(&core, 0), Some((0, Reply::Done, Path::Fast)));
     assert_eq!(rt; told(&core, 1), Some((1, Reply::Done, Path::Fast)));
     assert_eq!(rt; told(&core, 2), Some((0, Reply::Value(8), Path::Fast)));
@@ -69,7 +69,7 @@ fn published_calls_are_told_the_same(rt: HostRuntime) {
         panic!(rt; "no memory")
     };
     let schedule = b"0 end\n1 end\n0 end\n1 end\n1 end\n";
-    assert!(rt; drive_two(rt.alloc(), &mut core, schedule));
+    assert!(rt; drive_seats(rt.alloc(), &mut core, 2, schedule));
     assert_eq!(rt; told(&core, 1), Some((1, Reply::Done, Path::Slow)));
     assert_eq!(rt; told(&core, 2), Some((0, Reply::Value(8), Path::Slow)));
     assert_eq!(rt; told(&core, 3), Some((1, Reply::Value(7), Path::Slow)));
@@ -82,7 +82,7 @@ fn a_put_that_loses_its_exchange_goes_on_top(rt: HostRuntime) {
         panic!(rt; "no memory")
     };
     let schedule = b"0 exchange\n1 end\n0 end\n1 end\n0 end\n";
-    assert!(rt; drive_two(rt.alloc(), &mut core, schedule));
+    assert!(rt; drive_seats(rt.alloc(), &mut core, 2, schedule));
     assert_eq!(rt; told(&core, 0), Some((1, Reply::Done, Path::Fast)));
     assert_eq!(rt; told(&core, 1), Some((0, Reply::Done, Path::Fast)));
     assert_eq!(rt; told(&core, 2), Some((1, Reply::Value(7), Path::Fast)));

@@ -3,7 +3,7 @@ use Rattle.std.proofs.Common.{◌≡◌, ◌≢◌, ℕ, ◌<◌, Bool, true, fa
 use Rattle.std.specs.Prelude.{if◌then◌else◌}
 use Rattle.std.specs.FinMap as map
 use Rattle.word_fields.specs.Versioned.{versioned_value, versioned_bit, versioned_version, cleared_word}
-use Rattle.word_fields.proofs.VersionedLemmas.{value-changed, bit-changed, changed_below}
+use Rattle.word_fields.proofs.ChangedWords.{value-changed, bit-changed, changed_below}
 use Rattle.lin_report.specs.Object.{map_object}
 use Rattle.lin_report.specs.declared.calls.Reply.{Reply}
 use Rattle.normal_traits.specs.World.{Listed, Won, Change, World, Among, held_after}

@@ -1,7 +1,7 @@
 -- The step that takes a flag away keeps the shape.
 use Rattle.std.proofs.Common.{◌≡◌, ◌≢◌, ℕ, true, refl, sym, ap, subst, ◌∙◌, inl, inr, ◌⊎◌, arith}
 use Rattle.word_fields.specs.Versioned.{versioned_value, versioned_bit, versioned_version, changed_word, cleared_word}
-use Rattle.word_fields.proofs.VersionedLemmas.{cleared-clear, value-changed}
+use Rattle.word_fields.proofs.ChangedWords.{cleared-clear, value-changed}
 use Rattle.normal_traits.specs.World.{Listed, Won, World}
 use Rattle.flagged_register_form.specs.Register.{FLAG, REGISTER, flag_of, decision_place}
 use Rattle.flagged_register_form.specs.Meanings.{Flagged, Made, Stands, IsFlagger, Shape, IsBy, IsSpent, cause_here, IsGone, IsName}

@@ -1,7 +1,7 @@
 -- The lists that set the flag, before and after a step, and the one whose flag is up.
 use Rattle.std.proofs.Common.{◌≡◌, ℕ, ◌<◌, Bool, true, false, List, ◌∷◌, sym, ap, ◌∙◌, inl, inr, ◌⊎◌, arith}
 use Rattle.word_fields.specs.Versioned.{versioned_value, versioned_version, cleared_word}
-use Rattle.word_fields.proofs.VersionedLemmas.{value-cleared}
+use Rattle.word_fields.proofs.ChangedWords.{value-cleared}
 use Rattle.normal_traits.specs.World.{Listed, Maker, Won, World, Among}
 use Rattle.normal_traits.specs.World.Maker.{By, Beside}
 use Rattle.flagged_register_form.specs.Register.{FLAG, REGISTER, note_place, flag_value, flag_of, decided}

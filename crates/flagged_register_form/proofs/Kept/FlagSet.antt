@@ -3,7 +3,7 @@ use Rattle.std.proofs.Common.{◌≡◌, ◌≢◌, ℕ, true, false, refl, sym,
 use Rattle.std.specs.Prelude.{◌==◌}
 use Rattle.std.proofs.lemmas.Bool.{eq-eqb, or_left, or_right}
 use Rattle.word_fields.specs.Versioned.{versioned_value, versioned_bit, versioned_version, cleared_word}
-use Rattle.word_fields.proofs.VersionedLemmas.{value-cleared}
+use Rattle.word_fields.proofs.ChangedWords.{value-cleared}
 use Rattle.normal_traits.specs.World.{Listed, Won, World}
 use Rattle.flagged_register_form.specs.Register.{FLAG, REGISTER, note_place, flag_value, toggles, flag_of, decision_place, value_at}
 use Rattle.flagged_register_form.specs.Meanings.{Flagged, Made, Stands, IsFlagger, Shape, IsBy, IsSpent, flag_won, cause_here, IsGone, IsName}

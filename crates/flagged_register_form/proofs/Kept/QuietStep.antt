@@ -1,7 +1,7 @@
 -- A quiet step keeps the shape.
 use Rattle.std.proofs.Common.{◌≡◌, ℕ, true, sym, ap, subst, ◌∙◌, inl, inr, ◌⊎◌, arith}
 use Rattle.word_fields.specs.Versioned.{versioned_value, versioned_bit, versioned_version, cleared_word}
-use Rattle.word_fields.proofs.VersionedLemmas.{value-cleared, bit-cleared, cleared-clear}
+use Rattle.word_fields.proofs.ChangedWords.{value-cleared, bit-cleared, cleared-clear}
 use Rattle.normal_traits.specs.World.{Listed, World}
 use Rattle.flagged_register_form.specs.Register.{FLAG, toggles, decision_place}
 use Rattle.flagged_register_form.specs.Meanings.{Flagged, Made, Stands, IsFlagger, Shape, IsGone, IsName}

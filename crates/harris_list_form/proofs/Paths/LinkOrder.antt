@@ -4,7 +4,7 @@ use Rattle.normal_traits.specs.World.{Change}
 use Rattle.harris_list_form.specs.Lists.{Lists, AreLists}
 use Rattle.harris_list_form.specs.Nodes.{is_node, node_key, next_at, node_rank, place_rank, rank_of, IsOf, IsLink}
 use Rattle.harris_list_form.specs.Path.{stands, IsPath}
-use Rattle.harris_list_form.proofs.Places.{rank_start, rank_next, stands_next, same_next, start_not_next}
+use Rattle.harris_list_form.proofs.Held.Places.{rank_start, rank_next, stands_next, same_next, start_not_next}
 
 module _ (lists : Lists) (are : AreLists lists) (changes : List Change) (some : (block : ℕ) → is_node changes block ≡ true → 0 < block) where
   -- a link is one of one list

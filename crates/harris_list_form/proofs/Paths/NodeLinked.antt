@@ -2,15 +2,15 @@
 use Rattle.std.proofs.Common.{◌≡◌, ◌≢◌, ℕ, ◌+◌, ◌/◌, ◌<◌, ◌≤◌, Bool, true, false, eqb, List, ◌∷◌, refl, sym, ap, ◌∙◌, subst, inl, inr, ◌⊎◌, arith}
 use Rattle.std.proofs.lemmas.Bool.{true≢false, eqb-true, eq-eqb, or_left, or_right, or_cases, cases_eq, cases_order}
 use Rattle.node_arena.specs.MemoryMap.{reference_to}
-use Rattle.node_arena.proofs.PlaceLemmas.{block-reference_to}
+use Rattle.node_arena.proofs.PlacesApart.{block-reference_to}
 use Rattle.normal_traits.specs.World.{Change}
 use Rattle.normal_traits.specs.Steps.{using_block}
 use Rattle.harris_list_form.specs.Lists.{Lists, AreLists}
 use Rattle.harris_list_form.specs.Search.{is_add}
 use Rattle.harris_list_form.specs.Nodes.{is_node, node_key, next_at, node_rank, place_rank, rank_of, IsOf, IsLink, IsNamed}
 use Rattle.harris_list_form.specs.Path.{stands, IsPath}
-use Rattle.harris_list_form.proofs.Places.{rank_next, rank_named, stands_start, same_next, start_not_next}
-use Rattle.harris_list_form.proofs.Changes.{Extends, named_grows, rank_kept, place_kept, node_cases, node_own, key_own}
+use Rattle.harris_list_form.proofs.Held.Places.{rank_next, rank_named, stands_start, same_next, start_not_next}
+use Rattle.harris_list_form.proofs.Steps.Changes.{Extends, named_grows, rank_kept, place_kept, node_cases, node_own, key_own}
 use Rattle.harris_list_form.proofs.Paths.LinkOrder.{one_list, stands_at_node, ordered, one_a_rank}
 
 module _ (lists : Lists) (are : AreLists lists) (changes : List Change) (some : (block : ℕ) → is_node changes block ≡ true → 0 < block)

@@ -1,12 +1,12 @@
 -- What is between a link on the path and a later node, or the end, is unlinked.
 use Rattle.std.proofs.Common.{◌≡◌, ◌≢◌, ℕ, ◌/◌, ◌<◌, ◌≤◌, Bool, true, not, List, sym, ap, ◌∙◌, subst, inl, inr, ◌⊎◌, arith}
 use Rattle.std.proofs.lemmas.Bool.{both_ways, not-true, cases_eq, cases_lt, cases_order, and_parts, and_from}
-use Rattle.node_arena.proofs.PlaceLemmas.{block-reference_to}
+use Rattle.node_arena.proofs.PlacesApart.{block-reference_to}
 use Rattle.normal_traits.specs.World.{Change}
 use Rattle.harris_list_form.specs.Lists.{Lists, AreLists}
 use Rattle.harris_list_form.specs.Nodes.{is_node, node_key, node_rank, place_rank, rank_of, IsLink, IsNamed}
 use Rattle.harris_list_form.specs.Path.{stands, IsPath}
-use Rattle.harris_list_form.proofs.Places.{rank_some, stands_start}
+use Rattle.harris_list_form.proofs.Held.Places.{rank_some, stands_start}
 use Rattle.harris_list_form.proofs.Paths.Between.{is_between, without_between, between, not_between}
 use Rattle.harris_list_form.proofs.Paths.LinkOrder.{one_list, rank_at_start, rank_at_node, stands_at_node, ordered, one_a_rank}
 

@@ -4,12 +4,12 @@ use Rattle.lin_report.specs.declared.calls.Op.{Op}
 use Rattle.word_fields.specs.Announced.{op_word}
 use Rattle.word_fields.specs.Records.{record_number, record_payload, record_phase}
 use Rattle.word_fields.specs.Payloads.{payload_stop}
-use Rattle.word_fields.specs.declared.records.Phase.{Phase}
+use Rattle.word_fields.specs.declared.records.RecordPhase.{RecordPhase}
 use Rattle.normal_traits.specs.World.{World}
 use Rattle.normal_traits.specs.NormalForm.{NormalForm}
 use Rattle.normal_traits.specs.Steps.{IsOffered}
 use Rattle.normal_traits.specs.Laws.{Laws, IsGoodStore}
-use Rattle.cas_executor_laws.proofs.SiteLemmas.{knows_kept, stop_kept}
+use Rattle.cas_executor_laws.proofs.OfferedPartsKept.{knows_kept, stop_kept}
 use Rattle.fast_slow_engine.specs.declared.help.Work.{Work}
 use Rattle.fast_slow_engine.specs.HelpTable.{CanWork}
 use Rattle.fast_slow_engine.specs.HelpWords.{named_block}
@@ -18,24 +18,24 @@ use Rattle.offered_blocks.specs.Holds.{HasOffers}
 use Rattle.helper_knowledge.specs.Carried.{Carried, OfSome}
 use Rattle.move_kinds.proofs.BlockReads.{read_to}
 use Rattle.move_kinds.specs.Moves.{Leaves}
-use Rattle.helper_knowledge.specs.Callers.{Caller, IfStill, Follows}
-use Rattle.move_kinds.specs.Offering.{IsOfferFor, StopsAt}
+use Rattle.helper_knowledge.specs.Callers.{Caller, IfStill, KeepsCall}
+use Rattle.move_kinds.specs.Offering.{IsOfferFor, ListStopsAt}
 use Rattle.helper_knowledge.specs.Knowing.{KnowsOffer, KnowsSearch}
 use Rattle.helper_knowledge.specs.WorkKnown.{MayAdvance, IsNamed, IsSettled, NamedBy, KnowsWork}
 use Rattle.helper_knowledge.specs.WorkKnown.MayAdvance.{offers_it, answers, exhausts, settles, completes, restarts}
 use Rattle.move_kinds.proofs.OutcomesKept.{right_still, changed_still}
 use Rattle.move_kinds.proofs.Stores.Into.{offer_into}
-use Rattle.word_fields.specs.declared.records.Phase.TheVariants as marks
+use Rattle.word_fields.specs.declared.records.RecordPhase.TheVariants as marks
 use Rattle.fast_slow_engine.specs.declared.help.Work.TheVariants as work
 
 -- what holds where the seat still makes a call is kept
-pub if_still : (caller caller' : Caller) (number : ℕ) (P : Caller → Type 0) → Follows caller caller' number → IfStill caller number (P caller) → IfStill caller' number (P caller')
+pub if_still : (caller caller' : Caller) (number : ℕ) (P : Caller → Type 0) → KeepsCall caller caller' number → IfStill caller number (P caller) → IfStill caller' number (P caller')
 if_still caller caller' number P follows still makes =
     let same = follows makes in
     subst P (sym same) (still (ap (λ (c : Caller). c.number) (sym same) ∙ makes))
 
 -- a seat's number only rises, and no record has the number of a call to come
-pub follows_of : (caller caller' : Caller) (number : ℕ) → caller.number ≤ caller'.number → (caller'.number ≡ caller.number → caller' ≡ caller) → number ≤ caller.number → Follows caller caller' number
+pub follows_of : (caller caller' : Caller) (number : ℕ) → caller.number ≤ caller'.number → (caller'.number ≡ caller.number → caller' ≡ caller) → number ≤ caller.number → KeepsCall caller caller' number
 follows_of caller caller' number rises same below makes = same (omega (arith, rises, below, makes))
 
 module _ {S W : Type 0} (form : NormalForm S W) (laws : Laws form) (world after : World)
@@ -45,7 +45,7 @@ module _ {S W : Type 0} (form : NormalForm S W) (laws : Laws form) (world after 
   is_of : (block head number : ℕ) (offer : Offer S) → IsOfferFor offers block head number offer → IsOfferFor offers' block head number offer
   is_of block head number offer is = record { stands = leaves.offered block offer is.stands; seat_is = is.seat_is; number_is = is.number_is }
 
-  stopped : (block : ℕ) (offer : Offer S) (stop : ℕ) → offers block ≡ Some offer → StopsAt world offer stop → StopsAt after offer stop
+  stopped : (block : ℕ) (offer : Offer S) (stop : ℕ) → offers block ≡ Some offer → ListStopsAt world offer stop → ListStopsAt after offer stop
   stopped block offer stop stands is =
       let mine = holds.blocks.offered block offer stands in
       stop_kept (site_of offer) mine.site world.words (has_taken world.journal offer.list) after.words (has_taken after.journal offer.list) (leaves.deeds block offer stands) mine.parts.lives stop is
@@ -57,7 +57,7 @@ module _ {S W : Type 0} (form : NormalForm S W) (laws : Laws form) (world after 
   is_settled head word is =
       (is.0, is_of (named_block word) head (record_number word) is.0 is.1, stopped (named_block word) is.0 (payload_stop (record_payload word)) is.1.stands is.2)
 
-  pub named_by : (phase : Phase) (head word : ℕ) → NamedBy form world offers phase head word → NamedBy form after offers' phase head word
+  pub named_by : (phase : RecordPhase) (head word : ℕ) → NamedBy form world offers phase head word → NamedBy form after offers' phase head word
   named_by marks.Idle head word is = tt
   named_by marks.Generate head word is = tt
   named_by marks.Executing head word is = is_named head word is
@@ -66,7 +66,7 @@ module _ {S W : Type 0} (form : NormalForm S W) (laws : Laws form) (world after 
 
   -- ---- what a helper carries to the record
 
-  module _ (caller caller' : Caller) (head word : ℕ) (follows : Follows caller caller' (record_number word)) where
+  module _ (caller caller' : Caller) (head word : ℕ) (follows : KeepsCall caller caller' (record_number word)) where
     offered_still : (held : Offer S) → IsOffered form world held.list held.offering held.since → IsOffered form after held.list held.offering held.since
     offered_still held is = record {
       command = is.command;
@@ -81,7 +81,7 @@ module _ {S W : Type 0} (form : NormalForm S W) (laws : Laws form) (world after 
         → KnowsOffer form world caller head word block stores made held → KnowsOffer form after caller' head word block stores made held
     offer_kept block stores made held in_hand is =
         let stays = leaves.hand_stays block in_hand in
-        let good = (laws.offers world held.offering held.list.call.op held.since held.list.block is.offered.command holds.shape is.offered.knows is.offered.ready is.offered.small).stores in
+        let good = (laws.of_world.offers world held.offering held.list.call.op held.since held.list.block is.offered.command holds.shape is.offered.knows is.offered.ready is.offered.small).stores in
         let good' = subst (λ b. All (IsGoodStore form b) (form.offer_of held.offering held.list.call.op b).stores) is.block_is good in
         record {
           offered = offered_still held is.offered;

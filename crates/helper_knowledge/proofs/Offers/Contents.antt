@@ -3,7 +3,7 @@ use Rattle.std.proofs.Common.{◌≡◌, ◌∙◌, sym, ap, subst, ℕ, ◌<◌
 use Rattle.std.proofs.lemmas.Option.{slice_get_within}
 use Rattle.lin_report.specs.declared.calls.Op.{Op}
 use Rattle.word_fields.specs.Records.{record_number, number_below}
-use Rattle.word_fields.proofs.AnnouncedLemmas.{code-op_word, key-op_word, value-value_word}
+use Rattle.word_fields.proofs.AnnouncedWords.{code-op_word, key-op_word, value-value_word}
 use Rattle.node_arena.specs.declared.places.TheConstants.{OP_FIELD, VALUE_FIELD}
 use Rattle.node_arena.specs.MemoryMap.{block_place}
 use Rattle.normal_traits.specs.declared.lists.Entry.{Entry}
@@ -36,7 +36,7 @@ module _ {S W : Type 0} (form : NormalForm S W) (laws : Laws form) (world : Worl
       let code = code_fits form.object form.tellable op command in
       let key = key_fits form.object form.tellable op command in
       let few = number_below word in
-      let good = laws.offers world held.offering op held.since held.list.block knows.offered.command shape knows.offered.knows knows.offered.ready knows.offered.small in
+      let good = laws.of_world.offers world held.offering op held.since held.list.block knows.offered.command shape knows.offered.knows knows.offered.ready knows.offered.small in
       let small : (j : ℕ) (e : Entry) → slice_get held.list.entries j ≡ Some e → e.target < 2 ^ 32 =
       λ j e at. bounded e.target (all_at (IsGoodEntry form world) _ j e good.entries (ap (λ (es : List Entry). slice_get es j) (sym knows.offered.entries) ∙ at)).word in
       let stand : AllStand world.words (offer_stores block head number op held.list.entries made) =

@@ -34,10 +34,10 @@ use Rattle.fast_slow_engine.specs.HelpWords.{announced_op, named_block, told_wor
 use Rattle.offered_blocks.specs.Blocks.{Offer, has_taken, site_of}
 use Rattle.offered_blocks.proofs.Helpers.Running.{run_knows}
 use Rattle.move_kinds.specs.Kinds.{Kind}
-use Rattle.move_kinds.specs.Offering.{IsOfferFor, StopsAt}
+use Rattle.move_kinds.specs.Offering.{IsOfferFor, ListStopsAt}
 use Rattle.move_kinds.proofs.Does.{does_of, does_step}
 use Rattle.move_kinds.proofs.KindsLeave.{kind_leaves}
-use Rattle.cas_executor_laws.proofs.SiteLemmas.{stop_kept}
+use Rattle.cas_executor_laws.proofs.OfferedPartsKept.{stop_kept}
 use Rattle.helper_knowledge.specs.Callers.{Caller}
 use Rattle.helper_knowledge.specs.Carried.{Carried}
 use Rattle.helper_knowledge.specs.HelperStep.{HandIsSpare, RestsOn, Steps, UsedSmall}
@@ -167,14 +167,14 @@ module _ {S W : Type 0} (form : NormalForm S W) (laws : Laws form) (world after 
   -- ---- the list of the block that the record names
 
   -- a wrap-up that is over where it begins has an outcome that the record tells whole
-  begun_fits : UsedSmall world → (offer : Offer S) (of : IsOfferFor offers (named_block word) head (record_number word) offer) → StopsAt world offer (payload_stop (record_payload word))
+  begun_fits : UsedSmall world → (offer : Offer S) (of : IsOfferFor offers (named_block word) head (record_number word) offer) → ListStopsAt world offer (payload_stop (record_payload word))
       → (outcome : Outcome) → form.wrap_begun_of offer.list.call.op offer.list.entries (payload_stop (record_payload word)) ≡ wrapped.Done outcome → ToldWhole outcome
   begun_fits small' offer of stopped outcome at =
       let mine = rests.holds.blocks.offered (named_block word) offer of.stands in
       let stop = payload_stop (record_payload word) in
       let done = stopped_now form laws world rests.holds.shape offers rests.holds.blocks caller head word offer of stop stopped in
-      let fits = laws.begun_fits world offer.list offer.offering offer.since stop rests.holds.shape mine.offered done in
-      let well = laws.wrap_begun world offer.list offer.offering offer.since stop rests.holds.shape mine.offered done in
+      let fits = laws.of_world.begun_fits world offer.list offer.offering offer.since stop rests.holds.shape mine.offered done in
+      let well = laws.of_world.wrap_begun world offer.list offer.offering offer.since stop rests.holds.shape mine.offered done in
       let by = (subst (WrappedWell form world offer.list stop (form.begin_wrap_of offer.list.call.op offer.list.entries stop)) at well).0 in
       told_whole world outcome by.reply small' (subst WrappedFits at fits) by.told
 
@@ -194,7 +194,7 @@ module _ {S W : Type 0} (form : NormalForm S W) (laws : Laws form) (world after 
       (subst (λ (w : World). Helps (site_of offer) after.words (has_taken w.journal offer.list) (slow_fed run seen) (slow_execution run seen)) (sym same) runs)
 
   -- its wrap-up makes a step: the list has stopped where it had
-  wrap_stops : (wrap : W) → Stepped (work.Wrap wrap) → (knows : Known world hand own (work.Wrap wrap)) → StopsAt after knows.1.0 (payload_stop (record_payload word))
+  wrap_stops : (wrap : W) → Stepped (work.Wrap wrap) → (knows : Known world hand own (work.Wrap wrap)) → ListStopsAt after knows.1.0 (payload_stop (record_payload word))
   wrap_stops wrap is knows =
       let known = knows.1 in
       let offer = known.0 in

@@ -7,7 +7,7 @@ use Rattle.step_memory.specs.declared.steps.Request.TheVariants.{Load, Store, Ex
 use Rattle.step_memory.specs.declared.steps.Seen.{Seen}
 use Rattle.word_fields.specs.Records.{record_number}
 use Rattle.word_fields.specs.Versioned.{versioned_bit}
-use Rattle.word_fields.proofs.VersionedLemmas.{word-split}
+use Rattle.word_fields.proofs.ChangedWords.{word-split}
 use Rattle.normal_traits.specs.World.{Listed, World}
 use Rattle.normal_traits.specs.NormalForm.{NormalForm}
 use Rattle.normal_traits.specs.Steps.{IsStep, Requested, put_word}
@@ -40,11 +40,11 @@ module _ {S W : Type 0} (form : NormalForm S W) (laws : Laws form) (world : Worl
 
   pub search_kind : (s : S) (after : World) (seen : Seen) (op : Op) (since : ℕ) → IsCommandOf form.object op → form.asks s → form.knows s op world since → Requested form (form.request_of s) world after seen → Kind form world after offers offers mover hand
   search_kind s after seen op since command asks knows made =
-      asked (form.request_of s) after seen (laws.search_asks_well world s op since command shape asks knows) (searches s op since command asks knows made) made
+      asked (form.request_of s) after seen (laws.of_world.search_asks_well world s op since command shape asks knows) (searches s op since command asks knows made) made
 
   pub wrap_kind : (wrap : W) (after : World) (seen : Seen) (list : Listed) (stop : ℕ) → IsCommandOf form.object list.call.op → form.wraps wrap → form.follows wrap list stop world → Requested form (form.wrap_request_of wrap) world after seen → Kind form world after offers offers mover hand
   wrap_kind wrap after seen list stop command goes follows made =
-      asked (form.wrap_request_of wrap) after seen (laws.wrap_asks_well world wrap list stop shape goes follows) (wraps wrap list stop command goes follows made) made
+      asked (form.wrap_request_of wrap) after seen (laws.of_world.wrap_asks_well world wrap list stop shape goes follows) (wraps wrap list stop command goes follows made) made
 
   -- ---- a store
 
@@ -55,7 +55,7 @@ module _ {S W : Type 0} (form : NormalForm S W) (laws : Laws form) (world : Worl
     good : IsGoodOffer form world block (form.offer_of held.offering held.list.call.op block)
     good =
         subst (λ b. IsGoodOffer form world b (form.offer_of held.offering held.list.call.op b)) knows.block_is
-        (laws.offers world held.offering held.list.call.op held.since held.list.block knows.offered.command shape knows.offered.knows knows.offered.ready knows.offered.small)
+        (laws.of_world.offers world held.offering held.list.call.op held.since held.list.block knows.offered.command shape knows.offered.knows knows.offered.ready knows.offered.small)
 
     abbrev Clear : ℕ × ℕ → Type 0
     Clear store = form.is_versioned store.0 ≡ true → versioned_bit store.1 ≡ 0
@@ -67,7 +67,7 @@ module _ {S W : Type 0} (form : NormalForm S W) (laws : Laws form) (world : Worl
         (each_both Clear (low_stores block head (record_number word) held.list.call.op held.list.entries) (form.offer_of held.offering held.list.call.op block).stores
         (λ k store at versioned.
         let low = low_fields block head (record_number word) held.list.call.op held.list.entries k store at in
-        let none : form.is_versioned store.0 ≡ false = ap form.is_versioned low.place ∙ laws.notes_plain block low.field some low.is in
+        let none : form.is_versioned store.0 ≡ false = ap form.is_versioned low.place ∙ laws.of_world.notes_plain block low.field some low.is in
         absurd cc)
         (λ k store at versioned. small_clear store.1 ((all_at (IsGoodStore form block) _ k store good.stores at).versioned versioned)))
 

@@ -13,15 +13,15 @@ use Rattle.cas_executor.specs.declared.fast_run.Execution.TheVariants.{Running, 
 use Rattle.cas_executor.specs.declared.slow_run.SlowStep.TheVariants.{LoadState}
 use Rattle.cas_executor.specs.SlowRuns.{SlowWalk, slow_execution, slow_fed}
 use Rattle.cas_executor_laws.specs.Parts.{Helps, Knows}
-use Rattle.cas_executor_laws.proofs.SiteLemmas.{entry_at}
+use Rattle.cas_executor_laws.proofs.OfferedPartsKept.{entry_at}
 use Rattle.fast_slow_engine.specs.HelpWords.{again_word, named_block, wrapping_word}
 use Rattle.offered_blocks.specs.Blocks.{Offer, HasBlocks, has_taken, site_of}
 use Rattle.offered_blocks.proofs.Helpers.Allowed.{not_taken}
 use Rattle.helper_knowledge.specs.Callers.{Caller}
-use Rattle.move_kinds.specs.Offering.{StopsAt, IsOfferFor}
+use Rattle.move_kinds.specs.Offering.{ListStopsAt, IsOfferFor}
 use Rattle.helper_knowledge.specs.WorkKnown.{MayAdvance}
 use Rattle.helper_knowledge.specs.WorkKnown.MayAdvance.{settles, completes, restarts}
-use Rattle.word_fields.specs.declared.records.Phase.TheVariants as marks
+use Rattle.word_fields.specs.declared.records.RecordPhase.TheVariants as marks
 use Rattle.normal_traits.specs.declared.form.Wrapped.TheVariants as wrapped
 
 module _ {S W : Type 0} (form : NormalForm S W) (laws : Laws form) (world : World) (shape : form.shape world) (offers : ℕ → Option (Offer S)) (blocks : HasBlocks form world offers)
@@ -53,13 +53,13 @@ module _ {S W : Type 0} (form : NormalForm S W) (laws : Laws form) (world : Worl
   wrap_restarts hand held stop wrap what wraps is well = restarts offer wraps of refl (subst (WrappedWell form world offer.list stop wrap) is well)
 
   -- a list that the helper knows to have stopped has stopped for the client
-  took_before : (stop : ℕ) → StopsAt world offer stop → (j : ℕ) → j < stop → Took world offer.list j
+  took_before : (stop : ℕ) → ListStopsAt world offer stop → (j : ℕ) → j < stop → Took world offer.list j
   took_before stop stopped j before =
       let mine = blocks.offered (named_block word) offer of.stands in
       let at = entry_at offer.list.entries j (let within = stopped.within in omega (arith, before, within)) in
       mine.taken j ((mine.parts.lives j at.0 at.1).succeeded (stopped.done j at.0 at.1 before).succeeded)
 
-  failed_at : (stop : ℕ) → StopsAt world offer stop → stop < length offer.list.entries → Failed world offer.list stop
+  failed_at : (stop : ℕ) → ListStopsAt world offer stop → stop < length offer.list.entries → Failed world offer.list stop
   failed_at stop stopped short =
       let mine = blocks.offered (named_block word) offer of.stands in
       let at = entry_at offer.list.entries stop short in
@@ -67,15 +67,15 @@ module _ {S W : Type 0} (form : NormalForm S W) (laws : Laws form) (world : Worl
       let failed = stopped.failed short in
       record { entry = at.0; listed = at.1; passed = life.failed_past failed; lost = not_taken world offer.list offer.list stop (life.failed failed) refl }
 
-  pub stopped_now : (stop : ℕ) → StopsAt world offer stop → Stopped world offer.list stop
+  pub stopped_now : (stop : ℕ) → ListStopsAt world offer stop → Stopped world offer.list stop
   stopped_now stop stopped = record { within = (let within = stopped.within in omega (arith, within)); took = took_before stop stopped; failed = failed_at stop stopped }
 
   -- so a wrap-up that begins, however late, begins well
-  pub wrap_begins : (stop : ℕ) → StopsAt world offer stop
+  pub wrap_begins : (stop : ℕ) → ListStopsAt world offer stop
       → WrappedWell form world offer.list stop (form.begin_wrap_of offer.list.call.op offer.list.entries stop) (form.wrap_begun_of offer.list.call.op offer.list.entries stop)
   wrap_begins stop stopped =
       let mine = blocks.offered (named_block word) offer of.stands in
-      laws.wrap_begun world offer.list offer.offering offer.since stop shape mine.offered (stopped_now stop stopped)
+      laws.of_world.wrap_begun world offer.list offer.offering offer.since stop shape mine.offered (stopped_now stop stopped)
 
   -- and each of its steps leaves it well
   pub wrap_goes : (after : World) (seen : Seen) (stop : ℕ) (wrap : W) → form.wraps wrap → form.follows wrap offer.list stop world → Requested form (form.wrap_request_of wrap) world after seen

@@ -6,8 +6,8 @@ use Rattle.arrayvec.specs.ArrayVec.{ArrayVec}
 use Rattle.lin_report.specs.declared.calls.Op.{Op}
 use Rattle.lin_report.specs.declared.calls.Outcome.{Outcome}
 use Rattle.step_memory.specs.declared.steps.Seen.{Seen}
-use Rattle.step_memory.specs.Step.{place_of}
-use Rattle.word_fields.specs.declared.records.Phase.{Phase as Mark}
+use Rattle.step_memory.specs.Step.{requested_place}
+use Rattle.word_fields.specs.declared.records.RecordPhase.{RecordPhase as Mark}
 use Rattle.word_fields.specs.Payloads.{payload_stop}
 use Rattle.word_fields.specs.Records.{record_phase, record_number, record_payload}
 use Rattle.normal_traits.specs.declared.lists.Entry.{Entry}
@@ -18,7 +18,7 @@ use Rattle.cas_executor.specs.declared.block_read.ReadStep.{ReadStep}
 use Rattle.cas_executor.specs.declared.slow_run.SlowStep.TheVariants.{LoadState}
 use Rattle.cas_executor.specs.BlockReads.{ReadWalk, IsReading, read_at, read_fed, read_request, read_result}
 use Rattle.cas_executor_laws.specs.Reads.{stored_count, stored_entries, stored_in}
-use Rattle.cas_executor_laws.proofs.ReadLemmas.{reads_are_exact, reads_go_on}
+use Rattle.cas_executor_laws.proofs.ReadsAreExact.{reads_are_exact, reads_go_on}
 use Rattle.fast_slow_engine.specs.declared.help.Work.{Work}
 use Rattle.fast_slow_engine.specs.HelpTable.{given_work, read_work, wrapped_work, wrapping_up}
 use Rattle.fast_slow_engine.specs.HelpWords.{announced_op, is_executing, named_block}
@@ -26,13 +26,13 @@ use Rattle.offered_blocks.specs.Blocks.{Offer, HasBlocks}
 use Rattle.offered_blocks.proofs.Blocks.Named.{some_offer}
 use Rattle.helper_knowledge.specs.Carried.{Carried}
 use Rattle.helper_knowledge.specs.Callers.{Caller}
-use Rattle.move_kinds.specs.Offering.{StopsAt, IsOfferFor}
+use Rattle.move_kinds.specs.Offering.{ListStopsAt, IsOfferFor}
 use Rattle.helper_knowledge.specs.WorkKnown.{IsNamed, IsSettled, KnowsWork, NamedBy}
 use Rattle.move_kinds.specs.Contents.{HasContents}
 use Rattle.helper_knowledge.proofs.Own.OwnList.{begins_run, wrap_begins}
 use Rattle.helper_knowledge.specs.Knowing.{ToldWhole}
 use Rattle.helper_knowledge.proofs.Own.OwnSteps.{own_wrapped}
-use Rattle.word_fields.specs.declared.records.Phase.TheVariants as marks
+use Rattle.word_fields.specs.declared.records.RecordPhase.TheVariants as marks
 use Rattle.normal_traits.specs.declared.form.Wrapped.TheVariants as wrapped
 use Rattle.cas_executor.specs.declared.block_read.ReadStep.TheVariants as reads
 use Rattle.fast_slow_engine.specs.declared.help.Work.TheVariants as work
@@ -51,7 +51,7 @@ stop_if false stop count e within = refl
 
 module _ {S W : Type 0} (form : NormalForm S W) (laws : Laws form) (world : World) (shape : form.shape world) (offers : ℕ → Option (Offer S)) (blocks : HasBlocks form world offers)
     (caller : Caller) (head word : ℕ) (hand : Option ℕ) (own : Carried S) (contents : (block : ℕ) (offer : Offer S) → offers block ≡ Some offer → HasContents world offer)
-    (fits : (offer : Offer S) → IsOfferFor offers (named_block word) head (record_number word) offer → StopsAt world offer (payload_stop (record_payload word))
+    (fits : (offer : Offer S) → IsOfferFor offers (named_block word) head (record_number word) offer → ListStopsAt world offer (payload_stop (record_payload word))
     → (outcome : Outcome) → form.wrap_begun_of offer.list.call.op offer.list.entries (payload_stop (record_payload word)) ≡ wrapped.Done outcome → ToldWhole outcome) where
   abbrev Known : Work S W → Type 0
   Known does = KnowsWork form world offers caller head word hand own does
@@ -65,7 +65,7 @@ module _ {S W : Type 0} (form : NormalForm S W) (laws : Laws form) (world : Worl
     entries_some =
         let mine = blocks.offered (named_block word) offer of.stands in
         subst (λ (es : List Entry). 0 < length es) (sym mine.offered.entries)
-        (laws.offers world offer.offering offer.list.call.op offer.since offer.list.block mine.offered.command shape mine.offered.knows mine.offered.ready mine.offered.small).some
+        (laws.of_world.offers world offer.offering offer.list.call.op offer.since offer.list.block mine.offered.command shape mine.offered.knows mine.offered.ready mine.offered.small).some
 
     gives_execution : record_phase word ≡ marks.Executing → Known (given_work form offer.list.call.op offer.list.entries word)
     gives_execution executes =
@@ -80,7 +80,7 @@ module _ {S W : Type 0} (form : NormalForm S W) (laws : Laws form) (world : Worl
           ),
         )
 
-    gives_wrap : record_phase word ≡ marks.Wrapping → StopsAt world offer stop → Known (given_work form offer.list.call.op offer.list.entries word)
+    gives_wrap : record_phase word ≡ marks.Wrapping → ListStopsAt world offer stop → Known (given_work form offer.list.call.op offer.list.entries word)
     gives_wrap wraps stopped =
         subst (λ (b : Bool). Known (if b then work.Execute (record { block = named_block word; entries = offer.list.entries; next = 0; step = LoadState }) else wrapping_up form offer.list.call.op offer.list.entries word)) (sym (ap is_executing wraps))
         (subst (λ n. Known (wrapped_work (form.wrap_begun_of offer.list.call.op offer.list.entries n) (form.begin_wrap_of offer.list.call.op offer.list.entries n) word))
@@ -94,9 +94,9 @@ module _ {S W : Type 0} (form : NormalForm S W) (laws : Laws form) (world : Worl
   gives (inr wraps) named by =
       let settled : IsSettled form world offers head word = subst (λ (p : Mark). NamedBy form world offers p head word) wraps by in
       let same : settled.0 ≡ named.0 = some_offer settled.0 named.0 (offers (named_block word)) settled.1.stands named.1.stands in
-      gives_wrap named.0 named.1 wraps (subst (λ (o : Offer S). StopsAt world o stop) same settled.2)
+      gives_wrap named.0 named.1 wraps (subst (λ (o : Offer S). ListStopsAt world o stop) same settled.2)
 
-  pub own_read : (read : ReadWalk) (seen : Seen) → IsReading read → seen.before ≡ world.words (place_of (read_request read)) → Known (work.Read read) → Known (read_work form (read_fed read seen) (read_result read seen) word)
+  pub own_read : (read : ReadWalk) (seen : Seen) → IsReading read → seen.before ≡ world.words (requested_place (read_request read)) → Known (work.Read read) → Known (read_work form (read_fed read seen) (read_result read seen) word)
   own_read read seen can saw is = by_result (read_result read seen) refl
     where
       by_result : (given : Option (ℕ × ℕ × ArrayVec Entry)) → read_result read seen ≡ given → Known (read_work form (read_fed read seen) given word)

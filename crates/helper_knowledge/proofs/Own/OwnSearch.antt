@@ -6,7 +6,7 @@ use Rattle.lin_report.specs.Object.{IsCommandOf}
 use Rattle.step_memory.specs.declared.steps.Seen.{Seen}
 use Rattle.word_fields.specs.Announced.{op_word, op_number, value_number}
 use Rattle.word_fields.specs.Records.{record_number}
-use Rattle.word_fields.proofs.AnnouncedLemmas.{code-op_word, key-op_word, value-value_word}
+use Rattle.word_fields.proofs.AnnouncedWords.{code-op_word, key-op_word, value-value_word}
 use Rattle.node_arena.specs.MemoryMap.{op_place, value_place}
 use Rattle.normal_traits.specs.declared.form.Found.{Found}
 use Rattle.normal_traits.specs.World.{World}
@@ -46,7 +46,7 @@ module _ {S W : Type 0} (form : NormalForm S W) (laws : Laws form) (world : Worl
   pub begins_search : (op : Op) → IsCommandOf form.object op → IfStill caller (record_number word) (op ≡ caller.op) → caller.begun ≤ length world.changes
       → KnowsSearch form world caller word op (form.begin_of op) (length world.changes) × form.asks (form.begin_of op)
   begins_search op command op_is early =
-      (record { command = command; knows = laws.begins_knowing world op command shape; op_is = op_is; early = λ makes. early }, laws.begins_asking op command)
+      (record { command = command; knows = laws.of_world.begins_knowing world op command shape; op_is = op_is; early = λ makes. early }, laws.of_world.begins_asking op command)
 
   -- ---- a step of the search
 

@@ -26,14 +26,14 @@ use Rattle.cas_executor_laws.specs.Parts.{Helps}
 use Rattle.offered_blocks.specs.Blocks.{Offer, HasBlocks, has_taken, site_of}
 use Rattle.helper_knowledge.specs.Carried.{Carried, list_named}
 use Rattle.helper_knowledge.specs.Callers.{Caller}
-use Rattle.move_kinds.specs.Offering.{StopsAt, IsOfferFor}
+use Rattle.move_kinds.specs.Offering.{ListStopsAt, IsOfferFor}
 use Rattle.helper_knowledge.specs.Knowing.{KnowsSearch, ToldWhole}
 use Rattle.helper_knowledge.specs.WorkKnown.{KnowsWork}
 use Rattle.helper_knowledge.specs.WorkKnown.MayAdvance.{completes, restarts}
 use Rattle.helper_knowledge.proofs.Own.OwnList.{run_goes, run_settles, wrap_goes}
 use Rattle.helper_knowledge.proofs.Own.OwnSearch.{answer_known, asks_on, ready_now, search_goes}
 use Rattle.helper_knowledge.proofs.Own.OwnWork.{own_answers, own_exhausts, own_names}
-use Rattle.word_fields.specs.declared.records.Phase.TheVariants as marks
+use Rattle.word_fields.specs.declared.records.RecordPhase.TheVariants as marks
 use Rattle.normal_traits.specs.declared.form.Found.TheVariants as found
 use Rattle.normal_traits.specs.declared.form.Wrapped.TheVariants as wrapped
 use Rattle.fast_slow_engine.specs.declared.help.Work.TheVariants as work
@@ -83,7 +83,7 @@ module _ {S W : Type 0} (form : NormalForm S W) (laws : Laws form) (offers : ℕ
     stop = payload_stop (record_payload word)
 
     -- what has come of a wrap-up
-    pub own_wrapped : (what : Wrapped) (wrap : W) → record_phase word ≡ marks.Wrapping → StopsAt world offer stop → ((outcome : Outcome) → what ≡ wrapped.Done outcome → ToldWhole outcome)
+    pub own_wrapped : (what : Wrapped) (wrap : W) → record_phase word ≡ marks.Wrapping → ListStopsAt world offer stop → ((outcome : Outcome) → what ≡ wrapped.Done outcome → ToldWhole outcome)
         → WrappedWell form world offer.list stop wrap what → Known world own (wrapped_work what wrap word)
     own_wrapped wrapped.Going wrap wraps stopped fits well = (wraps, (offer, of, stopped, well.0, well.1))
     own_wrapped (wrapped.Done outcome) wrap wraps stopped fits well =
@@ -107,7 +107,7 @@ module _ {S W : Type 0} (form : NormalForm S W) (laws : Laws form) (offers : ℕ
 
   -- a step of a wrap-up
   pub own_wrap : (world after : World) (shape : form.shape world) (blocks : HasBlocks form world offers) (own own' : Carried S) (wrap : W) (seen : Seen) (made : Requested form (form.wrap_request_of wrap) world after seen)
-      → (knows : Known world own (work.Wrap wrap)) → StopsAt after knows.1.0 (payload_stop (record_payload word))
+      → (knows : Known world own (work.Wrap wrap)) → ListStopsAt after knows.1.0 (payload_stop (record_payload word))
       → ((outcome : Outcome) → form.wrap_found_of wrap seen ≡ wrapped.Done outcome → ToldWhole outcome)
       → Known after own' (wrapped_work (form.wrap_found_of wrap seen) (form.feed_wrap_of wrap seen) word)
   own_wrap world after shape blocks own own' wrap seen made knows stopped fits =

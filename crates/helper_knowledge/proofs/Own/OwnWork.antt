@@ -7,7 +7,7 @@ use Rattle.lin_report.specs.declared.calls.Outcome.{Outcome}
 use Rattle.lin_report.specs.declared.calls.Outcome.TheVariants.{Plain}
 use Rattle.lin_report.specs.declared.calls.Reply.TheVariants.{Exhausted}
 use Rattle.lin_report.specs.Object.{IsCommandOf}
-use Rattle.word_fields.specs.declared.records.Phase.{Phase as Mark}
+use Rattle.word_fields.specs.declared.records.RecordPhase.{RecordPhase as Mark}
 use Rattle.word_fields.specs.Announced.{op_number, value_number}
 use Rattle.word_fields.specs.Records.{record_of, record_phase, record_number}
 use Rattle.node_arena.specs.MemoryMap.{op_place, value_place}
@@ -32,7 +32,7 @@ use Rattle.move_kinds.proofs.Stores.Apart.{offer_own}
 use Rattle.move_kinds.proofs.Stores.Places.{OwnPlaces}
 use Rattle.helper_knowledge.proofs.Own.OwnFill.{begins_fill, fills_on}
 use Rattle.helper_knowledge.proofs.Own.OwnSearch.{begins_search, reads_call, reads_op}
-use Rattle.word_fields.specs.declared.records.Phase.TheVariants as marks
+use Rattle.word_fields.specs.declared.records.RecordPhase.TheVariants as marks
 use Rattle.fast_slow_engine.specs.declared.help.Work.TheVariants as work
 
 module _ {S W : Type 0} (form : NormalForm S W) (laws : Laws form) (world : World) (shape : form.shape world) (offers : ℕ → Option (Offer S)) (caller : Caller) (head word : ℕ) where
@@ -115,7 +115,7 @@ module _ {S W : Type 0} (form : NormalForm S W) (laws : Laws form) (world : Worl
           → KnowsWork form after offers caller head word hand own (if made + 1 == length stores.items then work.Advance (executing_word word (block_of hand)) else work.Fill stores (made + 1))
       by_held None is known = absurd known
       by_held (Some held) is known =
-          let good = laws.offers world held.offering held.list.call.op held.since held.list.block known.offered.command shape known.offered.knows known.offered.ready known.offered.small in
+          let good = laws.of_world.offers world held.offering held.list.call.op held.since held.list.block known.offered.command shape known.offered.knows known.offered.ready known.offered.small in
           let good' : IsGoodOffer form world block (form.offer_of held.offering held.list.call.op block) = subst (λ b. IsGoodOffer form world b (form.offer_of held.offering held.list.call.op b)) known.block_is good in
           let places : OwnPlaces stores.items =
           subst OwnPlaces (sym known.stores_are) (offer_own form world block head (record_number word) held.list.call.op held.list.entries (form.offer_of held.offering held.list.call.op block) good') in

@@ -6,7 +6,7 @@ use Rattle.lin_report.specs.declared.calls.Outcome.TheVariants.{Plain, ValueOf}
 use Rattle.lin_report.specs.declared.calls.Reply.{Reply}
 use Rattle.lin_report.specs.declared.calls.Reply.TheVariants.{Yes, No, Done, Value, Empty, Absent, Exhausted}
 use Rattle.node_arena.specs.MemoryMap.{block_at, node_place}
-use Rattle.node_arena.proofs.PlaceLemmas.{block_at-node_place}
+use Rattle.node_arena.proofs.PlacesApart.{block_at-node_place}
 use Rattle.normal_traits.specs.World.{StandsFor, World}
 use Rattle.normal_traits.specs.Laws.{FitsRecord}
 use Rattle.helper_knowledge.specs.HelperStep.{UsedSmall}

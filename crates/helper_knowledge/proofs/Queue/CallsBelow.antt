@@ -2,8 +2,8 @@
 use Rattle.std.proofs.Common.{◌≡◌, ap, subst, ℕ, ◌+◌, ◌<◌, ◌≤◌, ◌⊎◌, Bool, true, false, inl, inr, List, arith}
 use Rattle.word_fields.specs.Records.{record_number, record_of}
 use Rattle.op_record.specs.Progress.{IsEarlier}
-use Rattle.help_queue_laws.specs.declared.phases.Phase.{Phase as QueuePhase}
-use Rattle.help_queue_laws.specs.declared.phases.Phase.TheVariants.{Look, StoreValue, StoreOp, StoreRecord, Enters, Drive, Collect, Helps}
+use Rattle.help_queue_laws.specs.declared.phases.QueuePhase.{QueuePhase}
+use Rattle.help_queue_laws.specs.declared.phases.QueuePhase.TheVariants.{Look, StoreValue, StoreOp, StoreRecord, Enters, Drive, Collect, Helps}
 use Rattle.help_queue_laws.specs.declared.phases.Helping.{Helping}
 use Rattle.std.proofs.lemmas.Option.{slice_get_within}
 use Rattle.help_queue.specs.Gathers.{leads}

@@ -1,7 +1,7 @@
 -- Where a helper wins an exchange of a record, it works on the running call of the head: by the queue, and by what the
 -- record tells of that call.
 use Rattle.std.proofs.Common.{◌≡◌, ◌∙◌, sym, subst, ap, ℕ, ◌<◌, inl, slice_get, slice_index, Option, Some}
-use Rattle.word_fields.specs.declared.records.Phase.TheVariants.{Generate, Executing}
+use Rattle.word_fields.specs.declared.records.RecordPhase.TheVariants.{Generate, Executing}
 use Rattle.word_fields.specs.Records.{record_of, record_phase, record_number, packed_record}
 use Rattle.node_arena.specs.MemoryMap.{record_place}
 use Rattle.normal_traits.specs.World.{Listed, World}

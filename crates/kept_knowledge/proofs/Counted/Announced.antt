@@ -4,9 +4,9 @@ use Rattle.std.proofs.Common.{◌≡◌, ◌≢◌, ◌∙◌, refl, sym, subst,
 use Rattle.std.proofs.lemmas.Option.{slice_get_within}
 use Rattle.lin_report.specs.declared.calls.Op.{Op}
 use Rattle.word_fields.specs.Announced.{op_number, op_word, value_number, value_word}
-use Rattle.word_fields.proofs.AnnouncedLemmas.{number-op_word, number-value_word}
+use Rattle.word_fields.proofs.AnnouncedWords.{number-op_word, number-value_word}
 use Rattle.node_arena.specs.MemoryMap.{block_place, op_place, value_place, MayBeClients}
-use Rattle.node_arena.proofs.PlaceLemmas.{block_place_behind, engines_out}
+use Rattle.node_arena.proofs.PlacesApart.{block_place_behind, engines_out}
 use Rattle.normal_traits.specs.World.{World, is_word}
 use Rattle.normal_traits.specs.NormalForm.{NormalForm}
 use Rattle.normal_traits.specs.Laws.{Laws}
@@ -20,7 +20,7 @@ use Rattle.offered_blocks.specs.Holds.{HasOffers}
 use Rattle.offered_blocks.specs.HelperSteps.{Helps}
 use Rattle.offered_blocks.specs.HelperSteps.Helps.{looks, installs_first, installs_second, succeeds, fails, clears_bit}
 use Rattle.offered_blocks.proofs.Blocks.Places.{word_may}
-use Rattle.run_laws.proofs.SeatLemmas.{seats_stay}
+use Rattle.run_laws.proofs.MachinesKept.{seats_stay}
 use Rattle.run_queue.proofs.Runs.RunMoves.{runs_queued}
 use Rattle.run_knowledge.specs.RunGhosts.{ghost_of, world_of}
 use Rattle.run_knowledge.specs.Kept.{IsKept}

@@ -4,8 +4,8 @@ use Rattle.std.proofs.Common.{◌≡◌, ◌≢◌, ◌∙◌, refl, sym, subst,
 use Rattle.std.proofs.lemmas.Bool.{eq-eqb, and_from}
 use Rattle.std.proofs.lemmas.List.Elements.{All-head, All-tail}
 use Rattle.lin_report.specs.declared.calls.Outcome.{Outcome}
-use Rattle.word_fields.specs.declared.records.Phase as marks
-use Rattle.word_fields.specs.declared.records.Phase.TheVariants as record_phases
+use Rattle.word_fields.specs.declared.records.RecordPhase as marks
+use Rattle.word_fields.specs.declared.records.RecordPhase.TheVariants as record_phases
 use Rattle.word_fields.specs.Payloads.{payload_block}
 use Rattle.word_fields.specs.Records.{record_number, record_of, record_payload, record_phase}
 use Rattle.word_fields.specs.Versioned.{versioned_version}
@@ -37,7 +37,7 @@ use Rattle.move_kinds.specs.Owned.IsOwned.{unannounced, named, dead, changed}
 use Rattle.move_kinds.proofs.HelperChanges.{new_change}
 use Rattle.helper_knowledge.specs.Callers.{called}
 use Rattle.helper_knowledge.proofs.Queue.CallsBelow.{numbers_below}
-use Rattle.run_laws.proofs.SeatLemmas.{begun_number, begun_own, seats_stay}
+use Rattle.run_laws.proofs.MachinesKept.{begun_number, begun_own, seats_stay}
 use Rattle.run_laws.proofs.Steps.{some_same}
 use Rattle.run_queue.proofs.QueueLaws.{owners_hold}
 use Rattle.run_knowledge.specs.Ghosts.{Held}
@@ -85,12 +85,12 @@ held_call form (phase.Value reference) mech held is = absurd cc
 held_call form (phase.End reply) mech held is = absurd cc
 
 -- a record that is in Executing or Wrapping is open, and names a block
-opened_by : (p : marks.Phase) → (p ≡ record_phases.Executing) ⊎ (p ≡ record_phases.Wrapping) → is_open p ≡ true
+opened_by : (p : marks.RecordPhase) → (p ≡ record_phases.Executing) ⊎ (p ≡ record_phases.Wrapping) → is_open p ≡ true
 opened_by p (inl is) = ap is_open is
 opened_by p (inr is) = ap is_open is
 
 module _ {S W : Type 0} (form : NormalForm S W) (world : World) (offers : ℕ → Option (Offer S)) (call : Called) (begun' : ℕ) where
-  names_by : (p : marks.Phase) (payload : ℕ) (told : Option Outcome) → (p ≡ record_phases.Executing) ⊎ (p ≡ record_phases.Wrapping) → RecordTells form world offers call begun' p payload told → Names form world offers call begun' (payload_block payload)
+  names_by : (p : marks.RecordPhase) (payload : ℕ) (told : Option Outcome) → (p ≡ record_phases.Executing) ⊎ (p ≡ record_phases.Wrapping) → RecordTells form world offers call begun' p payload told → Names form world offers call begun' (payload_block payload)
   names_by record_phases.Executing payload told is tells = tells
   names_by record_phases.Wrapping payload told is tells = tells.0
   names_by record_phases.Idle payload told is tells = absurd (elim is [ inl e ↦ cc | inr e ↦ cc ])
@@ -167,12 +167,12 @@ module _ {S W : Type 0} (form : NormalForm S W) (laws : Laws form) (setup : Setu
   -- a list whose change is new was not dead, and had made none
   not_dead : {A : Type 0} (list : Listed) → IsStep form world after → after.changes ≡ change_of form.object list world.changes ∷ world.changes → form.dead list world → A
   not_dead list step made is =
-      absurd (laws.dead_unchanged after list (change_of form.object list world.changes) (laws.shape_kept world after kept.holds.shape step) (laws.dead_kept world after list kept.holds.shape is step)
+      absurd (laws.of_world.dead_unchanged after list (change_of form.object list world.changes) (laws.shape_kept world after kept.holds.shape step) (laws.dead_kept world after list kept.holds.shape is step)
       (subst (Among (change_of form.object list world.changes)) (sym made) (inl refl)) refl)
 
   not_changed : {A : Type 0} (list : Listed) → IsStep form world after → after.changes ≡ change_of form.object list world.changes ∷ world.changes → (change : Change) → Among change world.changes → change.list ≡ list → A
   not_changed list step made old among of =
-      let pairs = laws.one_change_a_list after (laws.shape_kept world after kept.holds.shape step) in
+      let pairs = laws.of_world.one_change_a_list after (laws.shape_kept world after kept.holds.shape step) in
       absurd (first_differs (change_of form.object list world.changes) world.changes old (subst (AllPairs DifferentLists) made pairs) among (ap (λ (l : Listed). l.identity) (sym of)))
 
   followed_begun : (list : Listed) → IsStep form world after → after.changes ≡ change_of form.object list world.changes ∷ world.changes → (seat : ℕ) (mate : Mech S W) → slice_get (run_of form setup older).mechs seat ≡ Some mate
@@ -219,7 +219,7 @@ module _ {S W : Type 0} (form : NormalForm S W) (laws : Laws form) (setup : Setu
   beside_only : (list : Option Listed) (entry : Entry) → form.adds_beside world entry ≡ list → IsStep form world after → after.changes ≡ with_change form.object list world.changes → Only
   beside_only None entry adds step made = same_changes made
   beside_only (Some list) entry adds step made =
-      let took = (laws.beside world list entry kept.holds.shape adds).1 in
+      let took = (laws.of_world.beside world list entry kept.holds.shape adds).1 in
       new_of list made (owned_begun list step made (kept.followed list took) (kept.owned list took))
 
   -- an entry of a list that its own seat executes: the mover holds it

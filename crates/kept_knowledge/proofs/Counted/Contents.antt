@@ -4,11 +4,11 @@ use Rattle.std.proofs.lemmas.Bool.{cases_eq}
 use Rattle.std.proofs.lemmas.Bool.Decides.{nat_tests}
 use Rattle.step_memory.specs.declared.steps.Seen.{Seen}
 use Rattle.step_memory.specs.Step.{seen_of}
-use Rattle.word_fields.specs.declared.records.Phase.TheVariants.{Completed, Generate, Wrapping}
+use Rattle.word_fields.specs.declared.records.RecordPhase.TheVariants.{Completed, Generate, Wrapping}
 use Rattle.word_fields.specs.Records.{record_phase}
-use Rattle.word_fields.proofs.RecordLemmas.{phase-word}
+use Rattle.word_fields.proofs.RecordWords.{phase-word}
 use Rattle.node_arena.specs.MemoryMap.{block_place, record_place}
-use Rattle.node_arena.proofs.PlaceLemmas.{block_place_behind}
+use Rattle.node_arena.proofs.PlacesApart.{block_place_behind}
 use Rattle.normal_traits.specs.World.{World, is_word}
 use Rattle.normal_traits.specs.NormalForm.{NormalForm}
 use Rattle.normal_traits.specs.Laws.{Laws}
@@ -29,14 +29,14 @@ use Rattle.offered_blocks.specs.Holds.{HasOffers}
 use Rattle.move_kinds.specs.Contents.{HasContents}
 use Rattle.move_kinds.specs.Moves.{NotesStay}
 use Rattle.move_kinds.proofs.Contents.{contents_kept}
-use Rattle.move_kinds.proofs.LawLemmas.{kinds_keep_contents}
+use Rattle.move_kinds.proofs.LawsOfKinds.{kinds_keep_contents}
 use Rattle.helper_knowledge.specs.Callers.{Caller}
 use Rattle.helper_knowledge.specs.Carried.{Carried, OfSome}
 use Rattle.helper_knowledge.specs.Knowing.{KnowsOffer}
 use Rattle.helper_knowledge.specs.Meetings.{offers_if, won_world}
 use Rattle.helper_knowledge.specs.WorkKnown.{KnowsWork, MayAdvance}
 use Rattle.helper_knowledge.specs.WorkKnown.MayAdvance.{offers_it, answers, exhausts, settles, completes, restarts}
-use Rattle.helper_knowledge.proofs.LawLemmas.{filled_holds}
+use Rattle.helper_knowledge.proofs.LawsOfHelpers.{filled_holds}
 use Rattle.run_knowledge.specs.Ghosts.{SeatGhost}
 use Rattle.run_knowledge.specs.RunGhosts.{ghost_of, world_of}
 use Rattle.run_knowledge.specs.Known.{KnowsHelp, KnowsIn}

@@ -9,7 +9,7 @@ use Rattle.step_memory.specs.Step.{seen_of}
 use Rattle.word_fields.specs.Payloads.{payload_stop}
 use Rattle.word_fields.specs.Records.{record_payload}
 use Rattle.word_fields.specs.Versioned.{changed_word, versioned_version}
-use Rattle.word_fields.proofs.VersionedLemmas.{version-changed}
+use Rattle.word_fields.proofs.ChangedWords.{version-changed}
 use Rattle.normal_traits.specs.declared.lists.Entry.{Entry}
 use Rattle.normal_traits.specs.World.{Listed, World}
 use Rattle.normal_traits.specs.World.Maker.{By}

@@ -1,7 +1,7 @@
 -- All that is kept holds where a run opens: no record has named a block, nothing took effect, and each seat has made no call.
 use Rattle.std.proofs.Common.{◌≡◌, ◌∙◌, refl, sym, subst, ap, ℕ, ◌<◌, [], slice_get, Some, arith, inl, inr}
 use Rattle.std.proofs.lemmas.Option.{slice_get_within}
-use Rattle.word_fields.specs.declared.records.Phase.TheVariants as record_phases
+use Rattle.word_fields.specs.declared.records.RecordPhase.TheVariants as record_phases
 use Rattle.word_fields.specs.Announced.{op_number, op_word, value_number, value_word}
 use Rattle.word_fields.specs.Records.{record_of, record_phase, record_payload}
 use Rattle.node_arena.specs.MemoryMap.{op_place, record_place, value_place}
@@ -17,9 +17,9 @@ use Rattle.fast_slow_engine.specs.Runs.{run_of}
 use Rattle.offered_blocks.specs.Blocks.{Offer}
 use Rattle.offered_blocks.specs.Holds.{HasOffers, no_offers}
 use Rattle.offered_blocks.specs.Records.{RecordIsRight, RecordTells}
-use Rattle.offered_blocks.proofs.LawLemmas.{opens_holding}
+use Rattle.offered_blocks.proofs.LawsOfBlocks.{opens_holding}
 use Rattle.helper_knowledge.specs.Callers.{Caller, called}
-use Rattle.run_laws.proofs.SeatLemmas.{new_mech, seats_stay}
+use Rattle.run_laws.proofs.MachinesKept.{new_mech, seats_stay}
 use Rattle.run_knowledge.specs.Ghosts.{opening_seat}
 use Rattle.run_knowledge.specs.RunGhosts.{ghost_of, world_of}
 use Rattle.run_knowledge.specs.Kept.{IsKept, KnowsWell, VersionsCount, callers_in}

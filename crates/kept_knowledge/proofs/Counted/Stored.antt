@@ -32,7 +32,7 @@ pub record IsStart {S W : Type 0} (form : NormalForm S W) (block : ℕ) (store :
 module _ {S W : Type 0} (form : NormalForm S W) (laws : Laws form) (block seat number : ℕ) (op : Op) (some : 0 < block) where
   plain_starts : (field word : ℕ) → field < 12 → (place : ℕ) → place ≡ block_place block field → StartsAtZero form (place, word)
   plain_starts field word small place here versioned =
-      let plain : form.is_versioned place ≡ false = ap form.is_versioned here ∙ laws.notes_plain block field some small in absurd (let both : true ≡ false = sym versioned ∙ plain in cc)
+      let plain : form.is_versioned place ≡ false = ap form.is_versioned here ∙ laws.of_world.notes_plain block field some small in absurd (let both : true ≡ false = sym versioned ∙ plain in cc)
 
   note_starts : (field word : ℕ) → field < 12 → IsStart form block (block_place block field, word)
   note_starts field word small = record { field = field; place = refl; zero = plain_starts field word small (block_place block field) refl }
@@ -61,7 +61,7 @@ module _ {S W : Type 0} (form : NormalForm S W) (laws : Laws form) (world : Worl
       let number = record_number word in
       let good : IsGoodOffer form world block (form.offer_of held.offering op block) =
       subst (λ b. IsGoodOffer form world b (form.offer_of held.offering op b)) knows.block_is
-      (laws.offers world held.offering op held.since held.list.block knows.offered.command shape knows.offered.knows knows.offered.ready knows.offered.small) in
+      (laws.of_world.offers world held.offering op held.since held.list.block knows.offered.command shape knows.offered.knows knows.offered.ready knows.offered.small) in
       subst (Each (IsStart form block)) (sym knows.stores_are)
       (each_both (IsStart form block) (low_stores block head number op held.list.entries) (form.offer_of held.offering op block).stores
       (λ k store at.

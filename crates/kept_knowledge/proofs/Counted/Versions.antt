@@ -3,9 +3,9 @@ use Rattle.std.proofs.Common.{◌≡◌, ◌∙◌, refl, sym, subst, ap, ℕ, �
 use Rattle.std.proofs.lemmas.Bool.{cases_eq}
 use Rattle.std.proofs.lemmas.Option.{slice_get_within}
 use Rattle.word_fields.specs.Versioned.{marked_word, versioned_version}
-use Rattle.word_fields.proofs.VersionedLemmas.{version-marked}
+use Rattle.word_fields.proofs.ChangedWords.{version-marked}
 use Rattle.node_arena.specs.MemoryMap.{block_place, op_place, value_place, MayBeClients}
-use Rattle.node_arena.proofs.PlaceLemmas.{engines_out}
+use Rattle.node_arena.proofs.PlacesApart.{engines_out}
 use Rattle.normal_traits.specs.declared.lists.Entry.{Entry}
 use Rattle.normal_traits.specs.World.{World}
 use Rattle.normal_traits.specs.NormalForm.{NormalForm}
@@ -82,7 +82,7 @@ module _ {S W : Type 0} (form : NormalForm S W) (laws : Laws form) (world after 
         let within = slice_get_within offer.list.entries j entry listed in
         let short = mine.site.short in
         let some : 0 < offer.list.block = subst (λ b. 0 < b) (sym mine.block_is) mine.some in
-        let none : form.is_versioned (block_place offer.list.block (9 + j)) ≡ false = laws.notes_plain offer.list.block (9 + j) some (omega (arith, within, short)) in
+        let none : form.is_versioned (block_place offer.list.block (9 + j)) ≡ false = laws.of_world.notes_plain offer.list.block (9 + j) some (omega (arith, within, short)) in
         absurd (let both : true ≡ false = sym versioned ∙ none in cc))
 
     helps_counts : (w : World) → Helps form world offer w → after ≡ w → Counts

@@ -26,10 +26,10 @@ use Rattle.fast_slow_engine.specs.PhaseTable.{mech_fed}
 use Rattle.fast_slow_engine.specs.Runs.{AreMoves, Move, RunState, begun, run_of}
 use Rattle.fast_slow_engine.proofs.SameCalls.{same_fed}
 use Rattle.helper_knowledge.specs.CallLaws.{HelpingBelow, LoadedBelow}
-use Rattle.helper_knowledge.specs.Callers.{Caller, Follows, called, caller_of}
-use Rattle.helper_knowledge.proofs.LawLemmas.{calls_follow}
+use Rattle.helper_knowledge.specs.Callers.{Caller, KeepsCall, called, caller_of}
+use Rattle.helper_knowledge.proofs.LawsOfHelpers.{calls_follow}
 use Rattle.helper_knowledge.proofs.Queue.CallsBelow.{numbers_below}
-use Rattle.run_laws.proofs.SeatLemmas.{begun_number}
+use Rattle.run_laws.proofs.MachinesKept.{begun_number}
 use Rattle.run_laws.proofs.Steps.{at_set, beside_set, move_steps}
 use Rattle.run_queue.specs.QueueGhosts.{queue_ghosts}
 use Rattle.run_queue.specs.QueueViews.{helping_view, next_number, phase_view}
@@ -114,7 +114,7 @@ module _ {S W : Type 0} (form : NormalForm S W) (laws : Laws form) (setup : Setu
   record_below = (numbers_below form setup older are.0 (keeps_queue form setup older are.0 kept) move.seat mech at).0
 
   -- where it draws its begin tick no record is of its call
-  drawn_follows : (begun move.begins mech).phase ≡ phase.Begin → (number : ℕ) → number ≤ record_number (record_in (run_of form setup older).words move.seat) → Follows old now number
+  drawn_follows : (begun move.begins mech).phase ≡ phase.Begin → (number : ℕ) → number ≤ record_number (record_in (run_of form setup older).words move.seat) → KeepsCall old now number
   drawn_follows draws number below makes =
       let not : is_unannounced (begun move.begins mech).phase ≡ true = ap (λ (p : Phase S W). is_unannounced p) draws in
       let earlier = (movers_before form setup older move mech are (keeps_queue form setup older are.0 kept) at not).earlier in
@@ -122,14 +122,14 @@ module _ {S W : Type 0} (form : NormalForm S W) (laws : Laws form) (setup : Setu
       absurd (omega (arith, earlier, below, makes, stays))
 
   begun_follows : (begins : Option Op) (seen : Seen) (count began number : ℕ) → ((begun begins mech).phase ≡ phase.Begin) ⊎ (begun_after (begun begins mech).phase count began ≡ began) → number ≤ mech.number
-      → ((begun begins mech).phase ≡ phase.Begin → Follows (caller_of (called mech) began) (caller_of (called (mech_fed form (begun begins mech) seen)) (begun_after (begun begins mech).phase count began)) number)
-      → Follows (caller_of (called mech) began) (caller_of (called (mech_fed form (begun begins mech) seen)) (begun_after (begun begins mech).phase count began)) number
+      → ((begun begins mech).phase ≡ phase.Begin → KeepsCall (caller_of (called mech) began) (caller_of (called (mech_fed form (begun begins mech) seen)) (begun_after (begun begins mech).phase count began)) number)
+      → KeepsCall (caller_of (called mech) began) (caller_of (called (mech_fed form (begun begins mech) seen)) (begun_after (begun begins mech).phase count began)) number
   begun_follows begins seen count began number (inl draws) below drawn = drawn draws
   begun_follows None seen count began number (inr same) below drawn =
-      subst (λ b. Follows (caller_of (called mech) began) (caller_of (called (mech_fed form mech seen)) b) number) (sym same) ((calls_follow form laws mech mech.op seen began number).0)
+      subst (λ b. KeepsCall (caller_of (called mech) began) (caller_of (called (mech_fed form mech seen)) b) number) (sym same) ((calls_follow form laws mech mech.op seen began number).0)
   begun_follows (Some op) seen count began number (inr same) below drawn = drawn refl
 
-  mover_follows : (number : ℕ) → number ≤ record_number (record_in (run_of form setup older).words move.seat) → Follows old now number
+  mover_follows : (number : ℕ) → number ≤ record_number (record_in (run_of form setup older).words move.seat) → KeepsCall old now number
   mover_follows number below =
       let one = begun move.begins mech in
       let ghost = ghost_of form setup older in
@@ -146,14 +146,14 @@ module _ {S W : Type 0} (form : NormalForm S W) (laws : Laws form) (setup : Setu
 
   -- so it is with the calls of all seats, for a word that isn't later than the record of its seat
   pub all_follow : (head : ℕ) (mate : Mech S W) → slice_get (run_of form setup older).mechs head ≡ Some mate → (word : ℕ) → record_number word ≤ record_number (record_in (run_of form setup older).words head)
-      → Follows (callers head) (callers' head) (record_number word) × ((callers head).number ≤ (callers' head).number)
+      → KeepsCall (callers head) (callers' head) (record_number word) × ((callers head).number ≤ (callers' head).number)
   all_follow head mate found word below =
       elim (cases_eq head move.seat) [
         | inl same ↦
-            subst (λ s. Follows (callers s) (callers' s) (record_number word) × ((callers s).number ≤ (callers' s).number)) (sym same)
+            subst (λ s. KeepsCall (callers s) (callers' s) (record_number word) × ((callers s).number ≤ (callers' s).number)) (sym same)
             (let was : callers move.seat ≡ old = ap (λ (o : Option (Mech S W)). caller_at o ((ghost_of form setup older).seats move.seat).begun) at in
-            subst (λ (c : Caller). Follows c (callers' move.seat) (record_number word) × (c.number ≤ (callers' move.seat).number)) (sym was)
-            (subst (λ (c : Caller). Follows old c (record_number word) × (old.number ≤ c.number)) (sym mover_called)
+            subst (λ (c : Caller). KeepsCall c (callers' move.seat) (record_number word) × (c.number ≤ (callers' move.seat).number)) (sym was)
+            (subst (λ (c : Caller). KeepsCall old c (record_number word) × (old.number ≤ c.number)) (sym mover_called)
             (mover_follows (record_number word) (subst (λ s. record_number word ≤ record_number (record_in (run_of form setup older).words s)) same below), mover_counts)))
         | inr apart ↦
             let stays = other_called head apart in

@@ -64,7 +64,7 @@ module _ {S W : Type 0} (form : NormalForm S W) (laws : Laws form) (world : Worl
 
   wrap_leaves : (wrap : W) (held : Option (Held S)) → OfSome (KnowsWrap form world wrap) held → LeavesOthers (form.wrap_request_of wrap)
   wrap_leaves wrap None knows = absurd knows
-  wrap_leaves wrap (Some held) knows = asks_leaves form world (form.wrap_request_of wrap) (laws.wrap_asks_well world wrap held.list held.stop holds.shape knows.wraps knows.follows)
+  wrap_leaves wrap (Some held) knows = asks_leaves form world (form.wrap_request_of wrap) (laws.of_world.wrap_asks_well world wrap held.list held.stop holds.shape knows.wraps knows.follows)
 
   -- ---- a head's
 
@@ -72,7 +72,7 @@ module _ {S W : Type 0} (form : NormalForm S W) (laws : Laws form) (world : Worl
   offer_leaves caller head word block stores made None knows = absurd knows
   offer_leaves caller head word block stores made (Some offer) knows =
       let offered = knows.offered in
-      let good = laws.offers world offer.offering offer.list.call.op offer.since offer.list.block offered.command holds.shape offered.knows offered.ready offered.small in
+      let good = laws.of_world.offers world offer.offering offer.list.call.op offer.since offer.list.block offered.command holds.shape offered.knows offered.ready offered.small in
       let all : All (IsGoodStore form block) (form.offer_of offer.offering offer.list.call.op block).stores =
       subst (λ b. All (IsGoodStore form b) (form.offer_of offer.offering offer.list.call.op b).stores) knows.block_is good.stores in
       stores_leave (slice_get stores made)
@@ -88,7 +88,7 @@ module _ {S W : Type 0} (form : NormalForm S W) (laws : Laws form) (world : Worl
   work_leaves caller head word hand own work.Op client knows = absurd cc
   work_leaves caller head word hand own (work.Value op) client knows = absurd cc
   work_leaves caller head word hand own (work.Generate op s Search) client knows =
-      asks_leaves form world (form.request_of s) (laws.search_asks_well world s op own.since knows.1.command holds.shape knows.2 knows.1.knows)
+      asks_leaves form world (form.request_of s) (laws.of_world.search_asks_well world s op own.since knows.1.command holds.shape knows.2 knows.1.knows)
   work_leaves caller head word hand own (work.Generate op s LookForBlock) client knows = absurd cc
   work_leaves caller head word hand own (work.Generate op s Claim) client knows = absurd cc
   work_leaves caller head word hand own (work.Fill stores made) client knows = offer_leaves caller head word knows.1.0 stores.items made own.filled knows.1.2
@@ -99,7 +99,7 @@ module _ {S W : Type 0} (form : NormalForm S W) (laws : Laws form) (world : Worl
       let known = knows.1.2 in
       slow_leaves form.is_root world run (λ entry at. (mine.targets run.next entry (ap (λ (l : List Entry). slice_get l run.next) (sym known.entries) ∙ at)).0)
   work_leaves caller head word hand own (work.Wrap wrap) client knows =
-      asks_leaves form world (form.wrap_request_of wrap) (laws.wrap_asks_well world wrap knows.1.0.list _ holds.shape knows.1.3 knows.1.4)
+      asks_leaves form world (form.wrap_request_of wrap) (laws.of_world.wrap_asks_well world wrap knows.1.0.list _ holds.shape knows.1.3 knows.1.4)
 
   help_leaves : (caller : Caller) (head : ℕ) (hand : Option ℕ) (own : Carried S) (help : Helping S W) → helps_for_client help ≡ true → KnowsHelp form world offers caller head hand own help → LeavesOthers (helping_request form help head)
   help_leaves caller head hand own (Record known) client knows = absurd cc
@@ -110,7 +110,7 @@ module _ {S W : Type 0} (form : NormalForm S W) (laws : Laws form) (world : Worl
   pub phase_leaves : (callers : ℕ → Caller) (mech : Mech S W) (own : SeatGhost S) (at : Phase S W) → ((block : ℕ) → mech.hand ≡ Some block → 0 < block) → is_for_client at ≡ true → MakesCommand form at mech
       → KnowsIn form at mech own world offers callers → HoldsIn form at mech own.held → BlockIn form at mech own.held → LeavesOthers (request_in form at mech)
   phase_leaves callers mech own (phase.Generate s Search) some client command knows lists block =
-      asks_leaves form world (form.request_of s) (laws.search_asks_well world s mech.op own.carried.since command holds.shape knows.0 knows.1)
+      asks_leaves form world (form.request_of s) (laws.of_world.search_asks_well world s mech.op own.carried.since command holds.shape knows.0 knows.1)
   phase_leaves callers mech own (phase.Generate s LookForBlock) some client command knows lists block = absurd cc
   phase_leaves callers mech own (phase.Generate s Claim) some client command knows lists block = absurd cc
   phase_leaves callers mech own (phase.Apply run stores (Fill made)) some client command knows lists block = fill_leaves run stores made mech own.held some block.0 block.2 lists knows

@@ -3,7 +3,7 @@
 use Rattle.std.proofs.Common.{◌≡◌, refl, sym, subst, ◌∙◌, ℕ, ◌<◌, true, inl, inr, List, ◌∷◌, slice_get, Some, arith}
 use Rattle.node_arena.specs.declared.places.TheConstants.{TICKS, CLAIMS}
 use Rattle.node_arena.specs.MemoryMap.{MayBeClients}
-use Rattle.node_arena.proofs.PlaceLemmas.{engines_out}
+use Rattle.node_arena.proofs.PlacesApart.{engines_out}
 use Rattle.normal_traits.specs.NormalForm.{NormalForm}
 use Rattle.normal_traits.specs.Laws.{Laws}
 use Rattle.fast_slow_engine.specs.declared.phases.Phase.{Phase}
@@ -21,7 +21,7 @@ use Rattle.fast_slow_engine.specs.Runs.{AreMoves, Move, begun, run_of}
 use Rattle.run_laws.specs.Premises as counters
 use Rattle.run_laws.specs.Claims.{KeepsClaims}
 use Rattle.run_laws.specs.Ticks.{KeepsTicks, LeavesWord}
-use Rattle.run_laws.proofs.PremiseLemmas.{client_keeps_claims, client_keeps_ticks}
+use Rattle.run_laws.proofs.CountersLeft.{client_keeps_claims, client_keeps_ticks}
 use Rattle.run_laws.proofs.Steps.{some_same}
 use Rattle.run_queue.specs.Premises as queue
 use Rattle.run_knowledge.specs.RunGhosts.{ghost_of, world_of}

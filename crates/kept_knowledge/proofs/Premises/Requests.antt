@@ -2,9 +2,9 @@
 use Rattle.std.proofs.Common.{◌≡◌, refl, sym, subst, ℕ, ◌+◌, true, inr, List, slice_get, Option, Some, None, Bool}
 use Rattle.step_memory.specs.declared.steps.Request.{Request}
 use Rattle.step_memory.specs.declared.steps.Request.TheVariants.{Load, Store, Exchange, Add}
-use Rattle.step_memory.specs.Step.{place_of}
+use Rattle.step_memory.specs.Step.{requested_place}
 use Rattle.node_arena.specs.MemoryMap.{block_place, MayBeClients}
-use Rattle.node_arena.proofs.PlaceLemmas.{block_place_behind}
+use Rattle.node_arena.proofs.PlacesApart.{block_place_behind}
 use Rattle.normal_traits.specs.declared.lists.Entry.{Entry}
 use Rattle.normal_traits.specs.World.{World, is_word}
 use Rattle.normal_traits.specs.NormalForm.{NormalForm}
@@ -15,14 +15,14 @@ use Rattle.cas_executor.specs.FastRuns.{FastWalk, exchange_of, fast_request}
 use Rattle.cas_executor.specs.SlowRuns.{SlowWalk, request_at, slow_request, step_request}
 use Rattle.fast_slow_engine.specs.OfferStores.{stored_by}
 use Rattle.run_laws.specs.Ticks.{LeavesWord}
-use Rattle.run_laws.proofs.PremiseLemmas.{leaves_elsewhere, leaves_load}
+use Rattle.run_laws.proofs.CountersLeft.{leaves_elsewhere, leaves_load}
 use Rattle.offered_blocks.proofs.Blocks.Places.{word_may}
 
 -- the request leaves each word that can't be the client's
 abbrev pub LeavesOthers : Request → Type 0
 LeavesOthers request = (place : ℕ) (words : List ℕ) → ¬ MayBeClients place → LeavesWord place request words
 
-pub leaves_at : (request : Request) → MayBeClients (place_of request) → LeavesOthers request
+pub leaves_at : (request : Request) → MayBeClients (requested_place request) → LeavesOthers request
 leaves_at request may place words apart = leaves_elsewhere place request words (λ same. apart (subst MayBeClients (sym same) may))
 
 pub loads_leave : (at : ℕ) → LeavesOthers (Load at)

@@ -101,7 +101,7 @@ fn append_request(room: &mut Vec<u8>, seat: u32, number: u32, op: Op)
 }
 
 /// Puts the line of an answered call last.
-#[tactic(auto, using(crate::proofs::Lines::length_answered))]
+#[tactic(auto, using(crate::proofs::LinePieces::length_answered))]
 pub(super) fn append_receipt(room: &mut Vec<u8>, receipt: &Receipt)
     requires { HasRoom room.old (length (call_line (answered_call receipt.now))) }
     ensures { Appends room.old room.new (call_line (answered_call receipt.now)) }
@@ -114,7 +114,7 @@ pub(super) fn append_receipt(room: &mut Vec<u8>, receipt: &Receipt)
 }
 
 /// Puts the line of a pending call last.
-#[tactic(auto, using(crate::proofs::Lines::length_pending))]
+#[tactic(auto, using(crate::proofs::LinePieces::length_pending))]
 pub(super) fn append_pending(room: &mut Vec<u8>, call: &PendingCall)
     requires { HasRoom room.old (length (call_line (pending_call call.now))) }
     ensures { Appends room.old room.new (call_line (pending_call call.now)) }

@@ -7,7 +7,7 @@ use Rattle.lin_report.specs.declared.calls.Op.{Op}
 use Rattle.word_fields.specs.Announced.{op_word, value_word}
 use Rattle.word_fields.specs.Owners.{owner_word}
 use Rattle.node_arena.specs.MemoryMap.{block_place}
-use Rattle.node_arena.proofs.PlaceLemmas.{same_field}
+use Rattle.node_arena.proofs.PlacesApart.{same_field}
 use Rattle.normal_traits.specs.declared.lists.Entry.{Entry}
 use Rattle.normal_traits.specs.World.{World}
 use Rattle.normal_traits.specs.NormalForm.{NormalForm, Offered}

@@ -1,7 +1,7 @@
 -- The stores of an offer are at different places, so a later one overwrites none of the earlier.
 use Rattle.std.proofs.Common.{◌≡◌, ◌≢◌, ◌∙◌, refl, sym, ap, ℕ, zero, suc, ◌+◌, ◌<◌, ◌≤◌, List, [], ◌∷◌, ◌++◌, slice_get, Some, arith}
 use Rattle.node_arena.specs.MemoryMap.{block_place}
-use Rattle.node_arena.proofs.PlaceLemmas.{same_field}
+use Rattle.node_arena.proofs.PlacesApart.{same_field}
 use Rattle.cas_executor_laws.proofs.Sets.{some_same}
 use Rattle.move_kinds.proofs.Stores.Into.{Each, each_none, each_more, each_both}
 

@@ -27,12 +27,12 @@ const FIRST_CALLS: u64 = 0x5555;
 const CALLS: u64 = 0xFFFF;
 
 /// The place of a call among all calls.
-fn place_of(seat: u32, number: u32) -> u32 {
+fn table_place(seat: u32, number: u32) -> u32 {
     seat.wrapping_mul(2).wrapping_add(number).wrapping_sub(1)
 }
 
 fn bit_of(seat: u32, number: u32) -> u64 {
-    1u64.wrapping_shl(place_of(seat, number))
+    1u64.wrapping_shl(table_place(seat, number))
 }
 
 /// Words, all 0, one for each call.
@@ -94,7 +94,7 @@ impl Gate for Meeting {
     }
 
     fn after<C: Normalized>(&self, receipt: &Receipt, _port: &SeatPort<C>) {
-        let place = place_of(receipt.seat, receipt.number);
+        let place = table_place(receipt.seat, receipt.number);
         keep(&self.begins, place, receipt.begin);
         keep(&self.ends, place, receipt.end);
         self.ended

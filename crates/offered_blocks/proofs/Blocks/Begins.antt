@@ -4,7 +4,7 @@ use Rattle.std.proofs.lemmas.Bool.{cases_eq, cases_lt}
 use Rattle.std.proofs.lemmas.Option.{slice_get_within, get_or_from_slice_get}
 use Rattle.std.specs.Prelude.{get_or}
 use Rattle.word_fields.specs.Versioned.{versioned_bit, versioned_version}
-use Rattle.word_fields.proofs.VersionedLemmas.{bit-changed, version-changed_below}
+use Rattle.word_fields.proofs.ChangedWords.{bit-changed, version-changed_below}
 use Rattle.normal_traits.specs.declared.lists.Entry.{Entry}
 use Rattle.normal_traits.specs.World.{World, is_word}
 use Rattle.normal_traits.specs.NormalForm.{NormalForm}
@@ -23,7 +23,7 @@ module _ {S W : Type 0} (form : NormalForm S W) (laws : Laws form) (world : Worl
     (room : (place : ℕ) → is_word form.is_root world place ≡ true → form.is_versioned place ≡ true → versioned_version (world.words place) + 1 < 2 ^ 39)
     (pending : (j : ℕ) → j < 2 → world.words (state_place block j) ≡ 0) (fresh : (j : ℕ) → has_taken world.journal offer.list j ≡ false) where
   good : IsGoodOffer form world offer.list.block (form.offer_of offer.offering offer.list.call.op offer.list.block)
-  good = laws.offers world offer.offering offer.list.call.op offer.since offer.list.block offered.command shape offered.knows offered.ready offered.small
+  good = laws.of_world.offers world offer.offering offer.list.call.op offer.since offer.list.block offered.command shape offered.knows offered.ready offered.small
 
   entry_good : (j : ℕ) (entry : Entry) → IsEntry offer.list.entries j entry → IsGoodEntry form world entry
   entry_good j entry listed = all_at (IsGoodEntry form world) _ j entry good.entries (ap (λ (es : List Entry). slice_get es j) (sym offered.entries) ∙ listed)

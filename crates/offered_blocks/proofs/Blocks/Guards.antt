@@ -6,7 +6,7 @@ use Rattle.step_memory.specs.declared.steps.Request.{Request}
 use Rattle.step_memory.specs.declared.steps.Request.TheVariants.{Load, Store, Exchange, Add}
 use Rattle.step_memory.specs.declared.steps.Seen.{Seen}
 use Rattle.word_fields.specs.Versioned.{versioned_bit, versioned_version, cleared_word}
-use Rattle.word_fields.proofs.VersionedLemmas.{version-cleared}
+use Rattle.word_fields.proofs.ChangedWords.{version-cleared}
 use Rattle.normal_traits.specs.declared.lists.Entry.{Entry}
 use Rattle.normal_traits.specs.World.{Listed, World, is_word}
 use Rattle.normal_traits.specs.NormalForm.{NormalForm}
@@ -70,8 +70,8 @@ module _ {S W : Type 0} (form : NormalForm S W) (laws : Laws form) (world : Worl
         | inl same ↦ clears_bit (word_put at _ world.words place same ∙ ap (λ p. cleared_word (world.words p)) (sym same))
         | inr apart ↦ stays (word_beside at _ world.words place apart)
       ]
-  step_goes after shape (searches {seen = seen} s op since command asking knows r) = request_goes (form.request_of s) after seen (laws.search_asks_well world s op since command shape asking knows) r
-  step_goes after shape (wraps {seen = seen} w list stop command asking follows r) = request_goes (form.wrap_request_of w) after seen (laws.wrap_asks_well world w list stop shape asking follows) r
+  step_goes after shape (searches {seen = seen} s op since command asking knows r) = request_goes (form.request_of s) after seen (laws.of_world.search_asks_well world s op since command shape asking knows) r
+  step_goes after shape (wraps {seen = seen} w list stop command asking follows r) = request_goes (form.wrap_request_of w) after seen (laws.of_world.wrap_asks_well world w list stop shape asking follows) r
   step_goes after shape (first list s since entry word offered fresh none needs listed at is) = entry_goes list s since 0 word entry shape offered listed at is
   step_goes after shape (first_of_block list s since entry word offered fresh some unused filled listed at is) = entry_goes list s since 0 word entry shape offered listed at is
   step_goes after shape (second list s since entry word offered took fails listed at is) = entry_goes list s since 1 word entry shape offered listed at is

@@ -47,7 +47,7 @@ module _ {S W : Type 0} (form : NormalForm S W) (laws : Laws form) (world after 
   pub waits_kept : (block : ℕ) (offer : Offer S) → offers block ≡ Some offer → Waits form after offer
   waits_kept block offer stands none =
       let mine = is.blocks.offered block offer stands in
-      let good = (laws.offers world offer.offering offer.list.call.op offer.since offer.list.block mine.offered.command is.shape mine.offered.knows mine.offered.ready mine.offered.small).stores in
+      let good = (laws.of_world.offers world offer.offering offer.list.call.op offer.since offer.list.block mine.offered.command is.shape mine.offered.knows mine.offered.ready mine.offered.small).stores in
       let was = is.waits block offer stands (none_before offer.list none) in
       let free : world.used block ≡ false = ap world.used (sym mine.block_is) ∙ was.0 in
       let stores = (form.offer_of offer.offering offer.list.call.op offer.list.block).stores in (

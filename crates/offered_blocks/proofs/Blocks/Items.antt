@@ -1,7 +1,7 @@
 -- Two entries that took effect at one place with the same `to` are one entry.
 use Rattle.std.proofs.Common.{◌≡◌, ◌∙◌, sym, ap, ℕ, Bool, true, false, Some, arith}
 use Rattle.word_fields.specs.Versioned.{versioned_bit, versioned_version, marked_word, cleared_word}
-use Rattle.word_fields.proofs.VersionedLemmas.{cleared-clear, cleared-marked}
+use Rattle.word_fields.proofs.ChangedWords.{cleared-clear, cleared-marked}
 use Rattle.normal_traits.specs.declared.lists.Entry.{Entry}
 use Rattle.normal_traits.specs.World.{Listed, Won, World, Took}
 use Rattle.normal_traits.specs.World.Maker.{By}

@@ -5,7 +5,7 @@ use Rattle.normal_traits.specs.NormalForm.{NormalForm}
 use Rattle.normal_traits.specs.Steps.{IsStep}
 use Rattle.normal_traits.specs.Laws.{Laws}
 use Rattle.cas_executor_laws.specs.Parts.{Deed, KnowsStop}
-use Rattle.cas_executor_laws.proofs.SiteLemmas.{offered_kept, stop_kept}
+use Rattle.cas_executor_laws.proofs.OfferedPartsKept.{offered_kept, stop_kept}
 use Rattle.offered_blocks.specs.Blocks.{Offer, site_of, has_taken, IsOffer, IsExecuting}
 
 module _ {S W : Type 0} (form : NormalForm S W) (laws : Laws form) (world after : World) (shape : form.shape world) (step : IsStep form world after)

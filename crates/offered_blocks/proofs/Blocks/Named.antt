@@ -6,7 +6,7 @@ use Rattle.std.proofs.lemmas.Option.{slice_get_within}
 use Rattle.word_fields.specs.Payloads.{payload_block}
 use Rattle.word_fields.specs.Records.{record_payload}
 use Rattle.word_fields.specs.Versioned.{versioned_bit, marked_word}
-use Rattle.word_fields.proofs.VersionedLemmas.{bit-marked}
+use Rattle.word_fields.proofs.ChangedWords.{bit-marked}
 use Rattle.node_arena.specs.MemoryMap.{record_place}
 use Rattle.normal_traits.specs.declared.lists.Entry.{Entry}
 use Rattle.normal_traits.specs.World.{World, is_word}
@@ -14,7 +14,7 @@ use Rattle.normal_traits.specs.NormalForm.{NormalForm}
 use Rattle.cas_executor.specs.SlowRuns.{SlowWalk, state_place}
 use Rattle.cas_executor_laws.specs.ExecRuns.{IsEntry}
 use Rattle.cas_executor_laws.specs.Parts.{KnowsStop, Knows, ShowsTaken}
-use Rattle.cas_executor_laws.proofs.SiteLemmas.{entry_at}
+use Rattle.cas_executor_laws.proofs.OfferedPartsKept.{entry_at}
 use Rattle.offered_blocks.specs.Blocks.{Offer, site_of, has_taken, IsOffer, HasBlocks, MayBeMarked, IsExecuting, record_for}
 use Rattle.offered_blocks.proofs.Blocks.Places.{word_may}
 

@@ -1,6 +1,6 @@
 -- At the opening no record has named a block, and all holds that is to hold of blocks.
 use Rattle.std.proofs.Common.{◌≡◌, ◌∙◌, refl, sym, ap, ℕ, ◌+◌, ◌≤◌, ◌<◌, inl, Some, arith}
-use Rattle.word_fields.specs.declared.records.Phase.TheVariants.{Executing, Idle}
+use Rattle.word_fields.specs.declared.records.RecordPhase.TheVariants.{Executing, Idle}
 use Rattle.word_fields.specs.Records.{record_phase}
 use Rattle.node_arena.specs.MemoryMap.{block_place, record_place}
 use Rattle.node_arena.proofs.Openings.{opens_zero_at, opens_zero_behind, opens_clear}

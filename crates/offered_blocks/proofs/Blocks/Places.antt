@@ -4,7 +4,7 @@ use Rattle.std.proofs.Common.{◌≡◌, ◌≢◌, ◌∙◌, refl, sym, subst,
 use Rattle.std.specs.Prelude.{not, nat_le}
 use Rattle.std.proofs.lemmas.Bool.Decides.{nat_tests}
 use Rattle.node_arena.specs.MemoryMap.{block_place, block_at, field_at, record_place, is_root_place, MayBeClients}
-use Rattle.node_arena.proofs.PlaceLemmas.{block_place_behind, block_at-block_place, field_at-block_place, engines_out}
+use Rattle.node_arena.proofs.PlacesApart.{block_place_behind, block_at-block_place, field_at-block_place, engines_out}
 use Rattle.normal_traits.specs.World.{World, is_state, is_word}
 
 low_word : (root place behind used rest : Bool) → place ≡ false → behind ≡ false → ((root && place) || (behind && used && rest)) ≡ false

@@ -4,7 +4,7 @@ use Rattle.std.proofs.Common.{◌≡◌, ◌∙◌, refl, sym, subst, ap, ℕ, �
 use Rattle.std.proofs.lemmas.Bool.{cases_Bool, cases_eq, eq-eqb, and_from, or_left, or_right}
 use Rattle.std.proofs.lemmas.Option.{slice_get_within}
 use Rattle.word_fields.specs.Versioned.{versioned_version, marked_word, cleared_word}
-use Rattle.word_fields.proofs.VersionedLemmas.{cleared-marked, cleared-clear}
+use Rattle.word_fields.proofs.ChangedWords.{cleared-marked, cleared-clear}
 use Rattle.normal_traits.specs.declared.lists.Entry.{Entry}
 use Rattle.normal_traits.specs.World.{Listed, Won, World, Among, Took, is_word}
 use Rattle.normal_traits.specs.World.Maker.{By}
@@ -13,7 +13,7 @@ use Rattle.normal_traits.specs.Steps.{IsStep, IsFresh, IsExchanged, put_word}
 use Rattle.normal_traits.specs.Steps.IsStep.{clears, elsewhere, first_of_block, second}
 use Rattle.cas_executor.specs.SlowRuns.{state_place}
 use Rattle.cas_executor_laws.specs.ExecRuns.{IsEntry}
-use Rattle.cas_executor_laws.proofs.SiteLemmas.{entry_at}
+use Rattle.cas_executor_laws.proofs.OfferedPartsKept.{entry_at}
 use Rattle.offered_blocks.specs.Blocks.{Offer, is_of, has_taken, IsOffer, HasBlocks}
 use Rattle.offered_blocks.specs.Holds.{Waits}
 use Rattle.offered_blocks.specs.HelperSteps.{AreBehind, entered, first_entered}

@@ -13,11 +13,11 @@ use Rattle.cas_executor.specs.declared.slow_run.SlowStep.{SlowStep}
 use Rattle.cas_executor.specs.declared.slow_run.SlowStep.TheVariants.{LoadState, Install, LoadTarget, Succeed, Fail, LoadDecision, Clear}
 use Rattle.cas_executor.specs.SlowRuns.{SlowWalk, installs, slow_request, state_place, step_request}
 use Rattle.cas_executor_laws.specs.ExecRuns.{IsEntry}
-use Rattle.cas_executor_laws.specs.Parts.{IsMade, Knows, TookBy}
+use Rattle.cas_executor_laws.specs.Parts.{RequestMade, Knows, TookBy}
 use Rattle.cas_executor_laws.proofs.Exchanges.{load_leaves, exchange_did}
 use Rattle.cas_executor_laws.proofs.Exchanges.Exchanged.{won, lost}
-use Rattle.cas_executor_laws.proofs.SiteLemmas.{entry_at}
-use Rattle.cas_executor_laws.proofs.RunLemmas.{request_is}
+use Rattle.cas_executor_laws.proofs.OfferedPartsKept.{entry_at}
+use Rattle.cas_executor_laws.proofs.StepsAreDeeds.{request_is}
 use Rattle.offered_blocks.specs.Blocks.{Offer, site_of, has_taken, IsOffer, IsBit, HasBlocks, MayBeMarked, IsExecuting}
 use Rattle.offered_blocks.proofs.Helpers.OwnDeeds.{installs_named}
 
@@ -32,7 +32,7 @@ executing_same world after list same is = record {
 
 module _ {S W : Type 0} (form : NormalForm S W) (world after : World) (offers : ℕ → Option (Offer S)) (blocks : HasBlocks form world offers)
     (block : ℕ) (offer : Offer S) (stands : offers block ≡ Some offer) (walk : SlowWalk) (seen : Seen)
-    (knows : Knows (site_of offer) world.words (has_taken world.journal offer.list) walk) (made : IsMade (slow_request walk) world.words after.words seen)
+    (knows : Knows (site_of offer) world.words (has_taken world.journal offer.list) walk) (made : RequestMade (slow_request walk) world.words after.words seen)
     (by : TookBy walk seen (has_taken world.journal offer.list) (has_taken after.journal offer.list))
     (states_plain : (i : ℕ) → i < 2 → form.is_versioned (state_place offer.list.block i) ≡ false)
     (grows : (list : Listed) (j : ℕ) → has_taken world.journal list j ≡ true → has_taken after.journal list j ≡ true)
@@ -49,8 +49,8 @@ module _ {S W : Type 0} (form : NormalForm S W) (world after : World) (offers : 
   own_few : walk.next < 2
   own_few = omega (arith, knows.within, mine.site.short)
 
-  made_on : IsMade (step_request offer.list.block walk.next own walk.step) world.words after.words seen
-  made_on = subst (λ r. IsMade r world.words after.words seen) (request_is (site_of offer) mine.site world.words after.words (has_taken world.journal offer.list) (has_taken world.journal offer.list) walk seen knows own own_listed) made
+  made_on : RequestMade (step_request offer.list.block walk.next own walk.step) world.words after.words seen
+  made_on = subst (λ r. RequestMade r world.words after.words seen) (request_is (site_of offer) mine.site world.words after.words (has_taken world.journal offer.list) (has_taken world.journal offer.list) walk seen knows own own_listed) made
 
   -- a bit that was there, at a word that stays
   old_bit : (place : ℕ) → after.words place ≡ world.words place → IsBit form world offers place → IsBit form after offers place
@@ -83,7 +83,7 @@ module _ {S W : Type 0} (form : NormalForm S W) (world after : World) (offers : 
             absurd cc)
       ]
 
-  bit_at : (step : SlowStep) → walk.step ≡ step → IsMade (step_request offer.list.block walk.next own step) world.words after.words seen → (place : ℕ) → MayBeMarked form place → versioned_bit (after.words place) ≡ 1 → IsBit form after offers place
+  bit_at : (step : SlowStep) → walk.step ≡ step → RequestMade (step_request offer.list.block walk.next own step) world.words after.words seen → (place : ℕ) → MayBeMarked form place → versioned_bit (after.words place) ≡ 1 → IsBit form after offers place
   bit_at LoadState is made' place may bit = kept_bit place may bit (load_leaves _ world.words after.words seen made' place)
   bit_at LoadTarget is made' place may bit = kept_bit place may bit (load_leaves _ world.words after.words seen made' place)
   bit_at LoadDecision is made' place may bit = kept_bit place may bit (load_leaves _ world.words after.words seen made' place)

@@ -4,9 +4,9 @@ use Rattle.std.proofs.lemmas.Bool.{cases_eq}
 use Rattle.std.proofs.lemmas.Option.{slice_get_within}
 use Rattle.step_memory.specs.declared.steps.Seen.{Seen}
 use Rattle.word_fields.specs.Versioned.{versioned_bit, versioned_version, marked_word, cleared_word}
-use Rattle.word_fields.proofs.VersionedLemmas.{bit-marked, version-marked, cleared-marked, cleared-clear}
+use Rattle.word_fields.proofs.ChangedWords.{bit-marked, version-marked, cleared-marked, cleared-clear}
 use Rattle.node_arena.specs.declared.places.TheConstants.{STATE_FIELD}
-use Rattle.node_arena.proofs.PlaceLemmas.{same_block}
+use Rattle.node_arena.proofs.PlacesApart.{same_block}
 use Rattle.normal_traits.specs.declared.lists.Entry.{Entry}
 use Rattle.normal_traits.specs.World.{Listed, World, is_word}
 use Rattle.normal_traits.specs.NormalForm.{NormalForm}
@@ -17,11 +17,11 @@ use Rattle.cas_executor_laws.specs.ExecRuns.{IsEntry}
 use Rattle.cas_executor_laws.specs.Entries.{Moves, Turn}
 use Rattle.cas_executor_laws.specs.Entries.Moves.{cleared, raised}
 use Rattle.cas_executor_laws.specs.Entries.Turn.{moves, stays}
-use Rattle.cas_executor_laws.specs.Parts.{Deed, IsMade, Knows, KnowsEntry, view_in}
+use Rattle.cas_executor_laws.specs.Parts.{Deed, RequestMade, Knows, KnowsEntry, view_in}
 use Rattle.cas_executor_laws.proofs.Exchanges.{load_leaves, exchange_did}
 use Rattle.cas_executor_laws.proofs.Exchanges.Exchanged.{won, lost}
-use Rattle.cas_executor_laws.proofs.SiteLemmas.{entry_at}
-use Rattle.cas_executor_laws.proofs.RunLemmas.{request_is}
+use Rattle.cas_executor_laws.proofs.OfferedPartsKept.{entry_at}
+use Rattle.cas_executor_laws.proofs.StepsAreDeeds.{request_is}
 use Rattle.offered_blocks.specs.Blocks.{Offer, site_of, has_taken, IsOffer, HasBlocks}
 use Rattle.offered_blocks.proofs.Blocks.Items.{marked_same, one_taken}
 use Rattle.offered_blocks.proofs.Blocks.Places.{words_apart, state_word}
@@ -40,7 +40,7 @@ word_no_state is_root world block i place some few word e = words_apart is_root 
 module _ {S W : Type 0} (form : NormalForm S W) (world : World) (offers : ℕ → Option (Offer S)) (blocks : HasBlocks form world offers) where
   -- a helper of one block makes a step
   module _ (block : ℕ) (offer : Offer S) (stands : offers block ≡ Some offer) (walk : SlowWalk) (seen : Seen) (after : ℕ → ℕ)
-      (knows : Knows (site_of offer) world.words (has_taken world.journal offer.list) walk) (made : IsMade (slow_request walk) world.words after seen) where
+      (knows : Knows (site_of offer) world.words (has_taken world.journal offer.list) walk) (made : RequestMade (slow_request walk) world.words after seen) where
     abbrev own : Entry
     own = (entry_at offer.list.entries walk.next knows.within).0
 
@@ -54,8 +54,8 @@ module _ {S W : Type 0} (form : NormalForm S W) (world : World) (offers : ℕ �
     own_few = omega (arith, knows.within, mine.site.short)
 
     -- what it asks for is the step on its entry
-    made_on : IsMade (step_request offer.list.block walk.next own walk.step) world.words after seen
-    made_on = subst (λ r. IsMade r world.words after seen) (request_is (site_of offer) mine.site world.words after (has_taken world.journal offer.list) (has_taken world.journal offer.list) walk seen knows own own_listed) made
+    made_on : RequestMade (step_request offer.list.block walk.next own walk.step) world.words after seen
+    made_on = subst (λ r. RequestMade r world.words after seen) (request_is (site_of offer) mine.site world.words after (has_taken world.journal offer.list) (has_taken world.journal offer.list) walk seen knows own own_listed) made
 
     -- another block, whose entries took effect as before
     module _ (other : ℕ) (mate : Offer S) (stands' : offers other ≡ Some mate) (apart : block ≢ other) (took' : ℕ → Bool) (same : (j : ℕ) → took' j ≡ has_taken world.journal mate.list j) where
@@ -115,7 +115,7 @@ module _ {S W : Type 0} (form : NormalForm S W) (world : World) (offers : ℕ �
           let both = one_taken world offer.list mate.list walk.next j own entry blocks.journal (mine.taken walk.next own_took) (theirs.taken j took) own_listed listed raised raised' (sym here) to in
           apart (blocks.apart block other offer mate stands stands' (ap (λ (l : Listed). l.identity) both.0))
 
-      turn_at : (step : SlowStep) → IsMade (step_request offer.list.block walk.next own step) world.words after seen → KnowsEntry step own (view_in (site_of offer) world.words (has_taken world.journal offer.list) walk.next own)
+      turn_at : (step : SlowStep) → RequestMade (step_request offer.list.block walk.next own step) world.words after seen → KnowsEntry step own (view_in (site_of offer) world.words (has_taken world.journal offer.list) walk.next own)
           → (j : ℕ) (entry : Entry) → IsEntry mate.list.entries j entry → TurnOf j entry
       turn_at LoadState made' k j entry listed = all_stay (load_leaves _ world.words after seen made') j entry
       turn_at LoadTarget made' k j entry listed = all_stay (load_leaves _ world.words after seen made') j entry
@@ -142,7 +142,7 @@ module _ {S W : Type 0} (form : NormalForm S W) (world : World) (offers : ℕ �
           ]
 
       -- no state of theirs changes
-      state_stays : (step : SlowStep) → IsMade (step_request offer.list.block walk.next own step) world.words after seen → (j : ℕ) → j < length mate.list.entries → after (state_place mate.list.block j) ≡ world.words (state_place mate.list.block j)
+      state_stays : (step : SlowStep) → RequestMade (step_request offer.list.block walk.next own step) world.words after seen → (j : ℕ) → j < length mate.list.entries → after (state_place mate.list.block j) ≡ world.words (state_place mate.list.block j)
       state_stays LoadState made' j within = load_leaves _ world.words after seen made' (state_place mate.list.block j)
       state_stays LoadTarget made' j within = load_leaves _ world.words after seen made' (state_place mate.list.block j)
       state_stays LoadDecision made' j within = load_leaves _ world.words after seen made' (state_place mate.list.block j)

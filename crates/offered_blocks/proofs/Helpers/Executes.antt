@@ -8,7 +8,7 @@ use Rattle.normal_traits.specs.World.Maker.{By}
 use Rattle.normal_traits.specs.NormalForm.{NormalForm}
 use Rattle.normal_traits.specs.Steps.{IsStep, listed_if, with_change}
 use Rattle.cas_executor.specs.SlowRuns.{SlowWalk, installs, slow_request}
-use Rattle.cas_executor_laws.specs.Parts.{IsMade, Knows, TookBy}
+use Rattle.cas_executor_laws.specs.Parts.{RequestMade, Knows, TookBy}
 use Rattle.offered_blocks.specs.Blocks.{Offer, site_of, has_taken}
 use Rattle.offered_blocks.proofs.Blocks.Items.{both}
 
@@ -37,7 +37,7 @@ module _ {S W : Type 0} (form : NormalForm S W) (world after : World) where
   pub record Executes (offers : ℕ → Option (Offer S)) (block : ℕ) (offer : Offer S) (walk : SlowWalk) (seen : Seen) : Type 0 where
     pub stands : offers block ≡ Some offer
     pub knows : Knows (site_of offer) world.words (has_taken world.journal offer.list) walk
-    pub made : IsMade (slow_request walk) world.words after.words seen
+    pub made : RequestMade (slow_request walk) world.words after.words seen
     pub tells : Tells offer.list walk seen
     pub used : (other : ℕ) → world.used other ≡ true → after.used other ≡ true
     pub uses : (other : ℕ) → after.used other ≡ true → (world.used other ≡ true) ⊎ ((other ≡ block) × (has_taken after.journal offer.list 0 ≡ true))

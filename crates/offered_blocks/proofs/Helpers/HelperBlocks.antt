@@ -4,7 +4,7 @@ use Rattle.std.proofs.lemmas.Bool.{cases_Bool, cases_eq, or_right}
 use Rattle.step_memory.specs.declared.steps.Seen.{Seen}
 use Rattle.word_fields.specs.Versioned.{versioned_version}
 use Rattle.node_arena.specs.MemoryMap.{block_place, record_place}
-use Rattle.node_arena.proofs.PlaceLemmas.{block_place_behind, same_block, same_field}
+use Rattle.node_arena.proofs.PlacesApart.{block_place_behind, same_block, same_field}
 use Rattle.normal_traits.specs.declared.lists.Entry.{Entry}
 use Rattle.normal_traits.specs.World.{Among, Listed, Took, Won, World, is_word}
 use Rattle.normal_traits.specs.World.Maker.{By}
@@ -15,9 +15,9 @@ use Rattle.cas_executor.specs.declared.slow_run.SlowStep.{SlowStep}
 use Rattle.cas_executor.specs.declared.slow_run.SlowStep.TheVariants.{LoadState, Install, LoadTarget, Succeed, Fail, LoadDecision, Clear}
 use Rattle.cas_executor.specs.SlowRuns.{SlowWalk, state_place, step_request}
 use Rattle.cas_executor_laws.specs.ExecRuns.{IsEntry}
-use Rattle.cas_executor_laws.specs.Parts.{IsMade, TookBy}
-use Rattle.cas_executor_laws.proofs.RunLemmas.{request_is}
-use Rattle.cas_executor_laws.proofs.SiteLemmas.{entry_at}
+use Rattle.cas_executor_laws.specs.Parts.{RequestMade, TookBy}
+use Rattle.cas_executor_laws.proofs.StepsAreDeeds.{request_is}
+use Rattle.cas_executor_laws.proofs.OfferedPartsKept.{entry_at}
 use Rattle.offered_blocks.specs.Blocks.{Offer, HasBlocks, IsOffer, JournalRises, has_taken, is_of, site_of}
 use Rattle.offered_blocks.specs.Holds.{HasOffers, IsUnnamed, JournalWords}
 use Rattle.offered_blocks.specs.OtherSteps.{IsStored}
@@ -34,7 +34,7 @@ use Rattle.offered_blocks.proofs.Helpers.RunKept.{run_kept}
 use Rattle.offered_blocks.proofs.Others.Stores.{stored_no_state}
 
 -- a step of a run is on a state of its block or on the target of its entry
-step_beside : (block j : ℕ) (entry : Entry) (step : SlowStep) (words after : ℕ → ℕ) (seen : Seen) → IsMade (step_request block j entry step) words after seen
+step_beside : (block j : ℕ) (entry : Entry) (step : SlowStep) (words after : ℕ → ℕ) (seen : Seen) → RequestMade (step_request block j entry step) words after seen
     → (place : ℕ) → place ≢ state_place block j → place ≢ entry.target → after place ≡ words place
 step_beside block j entry LoadState words after seen made place state target = made.beside place state
 step_beside block j entry Install words after seen made place state target = made.beside place target
@@ -61,9 +61,9 @@ module _ {S W : Type 0} (form : NormalForm S W) (laws : Laws form) (world after 
   own_word : is_word form.is_root world own.target ≡ true
   own_word = (mine.targets walk.next own own_listed).0
 
-  made_on : IsMade (step_request offer.list.block walk.next own walk.step) world.words after.words seen
+  made_on : RequestMade (step_request offer.list.block walk.next own walk.step) world.words after.words seen
   made_on =
-      subst (λ r. IsMade r world.words after.words seen)
+      subst (λ r. RequestMade r world.words after.words seen)
       (request_is (site_of offer) mine.site world.words after.words (has_taken world.journal offer.list) (has_taken world.journal offer.list) walk seen is.knows own own_listed) is.made
 
   -- it leaves what is beside the state and the target of its entry
@@ -137,7 +137,7 @@ module _ {S W : Type 0} (form : NormalForm S W) (laws : Laws form) (world after 
   pub helper_blocks : HasBlocks form after offers
   helper_blocks =
       run_kept form laws world after holds.shape is.step (word_grows form.is_root world after is.used) offers holds.blocks block offer is.stands walk seen is.knows is.made by
-      (λ i few. laws.notes_plain offer.list.block (9 + i) (let b = mine.block_is in let some = mine.some in omega (arith, b, some)) (omega (arith, few)))
+      (λ i few. laws.of_world.notes_plain offer.list.block (9 + i) (let b = mine.block_is in let some = mine.some in omega (arith, b, some)) (omega (arith, few)))
       (taken_grows is.tells) record_stays others taken (rises is.tells)
 
   -- ---- the blocks besides

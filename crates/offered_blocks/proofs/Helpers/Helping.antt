@@ -17,8 +17,8 @@ use Rattle.cas_executor.specs.declared.slow_run.SlowStep.{SlowStep}
 use Rattle.cas_executor.specs.declared.slow_run.SlowStep.TheVariants.{Install, Succeed, Fail, Clear}
 use Rattle.cas_executor.specs.SlowRuns.{SlowWalk, installs, request_at, slow_request, state_place, step_request}
 use Rattle.cas_executor_laws.specs.ExecRuns.{IsEntry}
-use Rattle.cas_executor_laws.specs.Parts.{AreDone, IsMade, Knows, KnowsEntry, view_in}
-use Rattle.cas_executor_laws.proofs.SiteLemmas.{entry_at}
+use Rattle.cas_executor_laws.specs.Parts.{AreDone, RequestMade, Knows, KnowsEntry, view_in}
+use Rattle.cas_executor_laws.proofs.OfferedPartsKept.{entry_at}
 use Rattle.offered_blocks.specs.Blocks.{Offer, IsOffer, has_taken, site_of}
 use Rattle.offered_blocks.specs.Holds.{HasOffers}
 use Rattle.offered_blocks.specs.HelperSteps.{AreBehind, Helps, entered, first_entered, state_at}
@@ -30,7 +30,7 @@ use Rattle.offered_blocks.proofs.Helpers.Executes.Tells.{no_win, wins}
 use Rattle.offered_blocks.proofs.Helpers.HelperBlocks.{executes_kept}
 
 -- an exchange that wins, as a step
-pub exchange_made : (at from to : ℕ) (words : ℕ → ℕ) → words at ≡ from → IsMade (Exchange at from to) words (with_word at to words) (record { before = words at; won = words at == from })
+pub exchange_made : (at from to : ℕ) (words : ℕ → ℕ) → words at ≡ from → RequestMade (Exchange at from to) words (with_word at to words) (record { before = words at; won = words at == from })
 exchange_made at from to words stood = record {
   here = word_put at to words at refl ∙ sym (ap (λ (b : Bool). if b then to else words at) (eq-eqb (words at) from stood));
   beside = λ place apart. word_beside at to words place apart;
@@ -94,7 +94,7 @@ module _ {S W : Type 0} (form : NormalForm S W) (laws : Laws form) (world : Worl
     record {
       stands = stands;
       knows = knows_of 0 Install entry listed nothing_behind tt;
-      made = subst (λ r. IsMade r world.words (first_entered form world offer entry).words (record { before = world.words entry.target; won = world.words entry.target == entry.from })) (request_of 0 Install entry listed)
+      made = subst (λ r. RequestMade r world.words (first_entered form world offer entry).words (record { before = world.words entry.target; won = world.words entry.target == entry.from })) (request_of 0 Install entry listed)
           (exchange_made entry.target entry.from (marked_word entry.to) world.words at);
       tells = wins refl (eq-eqb (world.words entry.target) entry.from at) entry (form.cause_of world (By offer.list 0) entry) listed at refl refl;
       used = λ other was. or_right (other == offer.list.block) (world.used other) was;
@@ -112,7 +112,7 @@ module _ {S W : Type 0} (form : NormalForm S W) (laws : Laws form) (world : Worl
     record {
       stands = stands;
       knows = knows_of 1 Install entry listed behind tt;
-      made = subst (λ r. IsMade r world.words (entered form world offer 1 entry).words (record { before = world.words entry.target; won = world.words entry.target == entry.from })) (request_of 1 Install entry listed)
+      made = subst (λ r. RequestMade r world.words (entered form world offer 1 entry).words (record { before = world.words entry.target; won = world.words entry.target == entry.from })) (request_of 1 Install entry listed)
           (exchange_made entry.target entry.from (marked_word entry.to) world.words at);
       tells = wins refl (eq-eqb (world.words entry.target) entry.from at) entry (form.cause_of world (By offer.list 1) entry) listed at refl refl;
       used = λ other was. was;
@@ -131,7 +131,7 @@ module _ {S W : Type 0} (form : NormalForm S W) (laws : Laws form) (world : Worl
     record {
       stands = stands;
       knows = knows;
-      made = subst (λ r. IsMade r world.words (put_word at to world).words (record { before = world.words at; won = world.words at == from })) (sym asks ∙ request_of j step entry listed) (exchange_made at from to world.words stood);
+      made = subst (λ r. RequestMade r world.words (put_word at to world).words (record { before = world.words at; won = world.words at == from })) (sym asks ∙ request_of j step entry listed) (exchange_made at from to world.words stood);
       tells = no_win (inl no_install) refl refl;
       used = λ other was. was;
       uses = λ other on. inl on;

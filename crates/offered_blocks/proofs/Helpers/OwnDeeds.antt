@@ -10,15 +10,15 @@ use Rattle.normal_traits.specs.NormalForm.{NormalForm}
 use Rattle.cas_executor.specs.SlowRuns.{SlowWalk, slow_request, slow_fed, slow_execution, state_place}
 use Rattle.cas_executor_laws.specs.ExecRuns.{IsEntry}
 use Rattle.cas_executor_laws.specs.Entries.{IsPast}
-use Rattle.cas_executor_laws.specs.Parts.{Offered, OwnDeed, IsMade, Knows, Helps, TookBy, view_in}
-use Rattle.cas_executor_laws.proofs.SiteLemmas.{entry_at, offered_kept}
-use Rattle.cas_executor_laws.proofs.RunLemmas.{deed_of, helps_after}
+use Rattle.cas_executor_laws.specs.Parts.{Offered, OwnDeed, RequestMade, Knows, Helps, TookBy, view_in}
+use Rattle.cas_executor_laws.proofs.OfferedPartsKept.{entry_at, offered_kept}
+use Rattle.cas_executor_laws.proofs.StepsAreDeeds.{deed_of, helps_after}
 use Rattle.offered_blocks.specs.Blocks.{Offer, site_of, has_taken, IsOffer, HasBlocks, IsExecuting}
 use Rattle.offered_blocks.proofs.Blocks.Named.{named_now, shows_taken}
 
 module _ {S W : Type 0} (form : NormalForm S W) (world : World) (offers : ℕ → Option (Offer S)) (blocks : HasBlocks form world offers)
     (block : ℕ) (offer : Offer S) (stands : offers block ≡ Some offer) (walk : SlowWalk) (seen : Seen) (after : ℕ → ℕ) (took' : ℕ → Bool)
-    (knows : Knows (site_of offer) world.words (has_taken world.journal offer.list) walk) (made : IsMade (slow_request walk) world.words after seen)
+    (knows : Knows (site_of offer) world.words (has_taken world.journal offer.list) walk) (made : RequestMade (slow_request walk) world.words after seen)
     (by : TookBy walk seen (has_taken world.journal offer.list) took') where
   mine : IsOffer form world block offer
   mine = blocks.offered block offer stands

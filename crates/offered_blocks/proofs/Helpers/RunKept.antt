@@ -8,7 +8,7 @@ use Rattle.normal_traits.specs.NormalForm.{NormalForm}
 use Rattle.normal_traits.specs.Steps.{IsStep}
 use Rattle.normal_traits.specs.Laws.{Laws}
 use Rattle.cas_executor.specs.SlowRuns.{SlowWalk, slow_request, state_place}
-use Rattle.cas_executor_laws.specs.Parts.{IsMade, Knows, TookBy}
+use Rattle.cas_executor_laws.specs.Parts.{RequestMade, Knows, TookBy}
 use Rattle.offered_blocks.specs.Blocks.{Offer, site_of, has_taken, IsOffer, HasBlocks, IsExecuting, JournalRises}
 use Rattle.offered_blocks.proofs.Blocks.Named.{some_offer}
 use Rattle.offered_blocks.proofs.Helpers.Deeds.{other_deed}
@@ -20,7 +20,7 @@ module _ {S W : Type 0} (form : NormalForm S W) (laws : Laws form) (world after 
     (words : (place : ℕ) → is_word form.is_root world place ≡ true → is_word form.is_root after place ≡ true)
     (offers : ℕ → Option (Offer S)) (blocks : HasBlocks form world offers)
     (block : ℕ) (offer : Offer S) (stands : offers block ≡ Some offer) (walk : SlowWalk) (seen : Seen)
-    (knows : Knows (site_of offer) world.words (has_taken world.journal offer.list) walk) (made : IsMade (slow_request walk) world.words after.words seen)
+    (knows : Knows (site_of offer) world.words (has_taken world.journal offer.list) walk) (made : RequestMade (slow_request walk) world.words after.words seen)
     (by : TookBy walk seen (has_taken world.journal offer.list) (has_taken after.journal offer.list))
     (states_plain : (i : ℕ) → i < 2 → form.is_versioned (state_place offer.list.block i) ≡ false)
     (grows : (list : Listed) (j : ℕ) → has_taken world.journal list j ≡ true → has_taken after.journal list j ≡ true)

@@ -13,11 +13,11 @@ use Rattle.cas_executor.specs.declared.slow_run.SlowStep.{SlowStep}
 use Rattle.cas_executor.specs.declared.slow_run.SlowStep.TheVariants.{LoadState, Install, LoadTarget, Succeed, Fail, LoadDecision, Clear}
 use Rattle.cas_executor.specs.SlowRuns.{SlowWalk, installs, slow_execution, slow_fed, slow_request, step_request}
 use Rattle.cas_executor_laws.specs.ExecRuns.{IsEntry}
-use Rattle.cas_executor_laws.specs.Parts.{Helps as RunHelps, IsMade, Knows, KnowsEntry, view_in}
+use Rattle.cas_executor_laws.specs.Parts.{Helps as RunHelps, RequestMade, Knows, KnowsEntry, view_in}
 use Rattle.cas_executor_laws.proofs.Exchanges.{exchange_did, load_leaves}
 use Rattle.cas_executor_laws.proofs.Exchanges.Exchanged.{lost, won}
-use Rattle.cas_executor_laws.proofs.RunLemmas.{request_is}
-use Rattle.cas_executor_laws.proofs.SiteLemmas.{entry_at}
+use Rattle.cas_executor_laws.proofs.StepsAreDeeds.{request_is}
+use Rattle.cas_executor_laws.proofs.OfferedPartsKept.{entry_at}
 use Rattle.offered_blocks.specs.Blocks.{Offer, IsOffer, has_taken, site_of}
 use Rattle.offered_blocks.specs.Holds.{HasOffers}
 use Rattle.offered_blocks.specs.HelperSteps.{AreBehind, Helps, entered, first_entered}
@@ -37,7 +37,7 @@ put_is at to words words' there others place =
 
 module _ {S W : Type 0} (form : NormalForm S W) (world : World) (offers : ℕ → Option (Offer S)) (holds : HasOffers form world offers)
     (block : ℕ) (offer : Offer S) (stands : offers block ≡ Some offer) (walk : SlowWalk) (seen : Seen) (words : ℕ → ℕ)
-    (knows : Knows (site_of offer) world.words (has_taken world.journal offer.list) walk) (made : IsMade (slow_request walk) world.words words seen) where
+    (knows : Knows (site_of offer) world.words (has_taken world.journal offer.list) walk) (made : RequestMade (slow_request walk) world.words words seen) where
   mine : IsOffer form world block offer
   mine = holds.blocks.offered block offer stands
 
@@ -117,7 +117,7 @@ module _ {S W : Type 0} (form : NormalForm S W) (world : World) (offers : ℕ �
             }
       ]
 
-  ran_at : (step : SlowStep) → walk.step ≡ step → IsMade (step_request offer.list.block walk.next own step) world.words words seen
+  ran_at : (step : SlowStep) → walk.step ≡ step → RequestMade (step_request offer.list.block walk.next own step) world.words words seen
       → KnowsEntry step own (view_in (site_of offer) world.words (has_taken world.journal offer.list) walk.next own) → Ran
   ran_at LoadState is made' known = stays_ran (ap installs is) (load_leaves _ world.words words seen made')
   ran_at LoadTarget is made' known = stays_ran (ap installs is) (load_leaves _ world.words words seen made')
@@ -146,7 +146,7 @@ module _ {S W : Type 0} (form : NormalForm S W) (world : World) (offers : ℕ �
   ran : Ran
   ran =
       ran_at walk.step refl
-      (subst (λ r. IsMade r world.words words seen) (request_is (site_of offer) mine.site world.words words (has_taken world.journal offer.list) (has_taken world.journal offer.list) walk seen knows own own_listed) made)
+      (subst (λ r. RequestMade r world.words words seen) (request_is (site_of offer) mine.site world.words words (has_taken world.journal offer.list) (has_taken world.journal offer.list) walk seen knows own own_listed) made)
       (knows.at_entry own own_listed)
 
   abbrev after_ran : World

@@ -6,7 +6,7 @@ use Rattle.step_memory.specs.declared.steps.Request.{Request}
 use Rattle.step_memory.specs.declared.steps.Request.TheVariants.{Load, Store, Exchange, Add}
 use Rattle.step_memory.specs.declared.steps.Seen.{Seen}
 use Rattle.word_fields.specs.Versioned.{versioned_bit}
-use Rattle.word_fields.proofs.VersionedLemmas.{bit-changed}
+use Rattle.word_fields.proofs.ChangedWords.{bit-changed}
 use Rattle.normal_traits.specs.declared.lists.Entry.{Entry}
 use Rattle.normal_traits.specs.World.{World}
 use Rattle.normal_traits.specs.World.Maker.{Beside}

@@ -2,7 +2,7 @@
 use Rattle.std.proofs.Common.{◌≡◌, ◌≢◌, ◌∙◌, refl, sym, subst, ap, ℕ, ◌<◌, ◌||◌, true, false, inl, inr, List, Option, Some, arith}
 use Rattle.std.proofs.lemmas.Bool.{cases_Bool, cases_eq, or_right}
 use Rattle.word_fields.specs.Versioned.{versioned_bit, versioned_version}
-use Rattle.word_fields.proofs.VersionedLemmas.{bit-cleared, version-cleared}
+use Rattle.word_fields.proofs.ChangedWords.{bit-cleared, version-cleared}
 use Rattle.node_arena.specs.MemoryMap.{block_place, record_place}
 use Rattle.normal_traits.specs.declared.lists.Entry.{Entry}
 use Rattle.normal_traits.specs.World.{Among, Listed, Maker, Took, Won, World, is_word}

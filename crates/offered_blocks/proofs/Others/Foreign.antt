@@ -2,7 +2,7 @@
 use Rattle.std.proofs.Common.{◌≡◌, ◌≢◌, ◌∙◌, ap, ℕ, ◌<◌, length, Option, Some, arith}
 use Rattle.std.proofs.lemmas.Option.{slice_get_within}
 use Rattle.word_fields.specs.Versioned.{versioned_bit, marked_word, cleared_word}
-use Rattle.word_fields.proofs.VersionedLemmas.{bit-marked}
+use Rattle.word_fields.proofs.ChangedWords.{bit-marked}
 use Rattle.normal_traits.specs.declared.lists.Entry.{Entry}
 use Rattle.normal_traits.specs.World.{World}
 use Rattle.normal_traits.specs.NormalForm.{NormalForm}

@@ -4,7 +4,7 @@ use Rattle.std.proofs.Common.{◌≡◌, ◌≢◌, ◌∙◌, refl, sym, subst,
 use Rattle.std.proofs.lemmas.Bool.{cases_eq}
 use Rattle.word_fields.specs.Versioned.{versioned_bit, versioned_version}
 use Rattle.node_arena.specs.MemoryMap.{block_place, record_place}
-use Rattle.node_arena.proofs.PlaceLemmas.{block_place_behind, same_block, same_field}
+use Rattle.node_arena.proofs.PlacesApart.{block_place_behind, same_block, same_field}
 use Rattle.normal_traits.specs.World.{World, is_word}
 use Rattle.normal_traits.specs.NormalForm.{NormalForm}
 use Rattle.normal_traits.specs.Steps.{IsStep, put_word}
@@ -13,7 +13,7 @@ use Rattle.normal_traits.specs.Laws.{Laws}
 use Rattle.normal_traits.proofs.Stays.{word_beside, word_put}
 use Rattle.cas_executor.specs.SlowRuns.{state_place}
 use Rattle.cas_executor_laws.specs.Parts.{Deed}
-use Rattle.cas_executor_laws.proofs.SiteLemmas.{beside_deed}
+use Rattle.cas_executor_laws.proofs.OfferedPartsKept.{beside_deed}
 use Rattle.offered_blocks.specs.Blocks.{Offer, HasBlocks, MayBeMarked, site_of, has_taken}
 use Rattle.offered_blocks.specs.Holds.{HasOffers}
 use Rattle.offered_blocks.specs.OtherSteps.{IsEngines, IsStored}

@@ -65,7 +65,7 @@ module _ {S W : Type 0} (form : NormalForm S W) (laws : Laws form) (world : Worl
       filled_now : FilledFor form named_world offer
       filled_now =
           let list = offer.list in
-          let good = (laws.offers world offer.offering list.call.op offer.since list.block can.offered.command is.shape can.offered.knows can.offered.ready can.offered.small).stores in
+          let good = (laws.of_world.offers world offer.offering list.call.op offer.since list.block can.offered.command is.shape can.offered.knows can.offered.ready can.offered.small).stores in
           filled_stays form list.block world named_world (λ field small stored. block_stays form laws world offers is seat word can.seated list.block field) list
           (form.offer_of offer.offering list.call.op list.block).stores refl good can.filled
 

@@ -1,11 +1,11 @@
 -- A word put into the record of a seat is an allowed step, and leaves what the blocks and the words of the client are.
 use Rattle.std.proofs.Common.{◌≡◌, ◌≢◌, ◌∙◌, refl, sym, ap, ℕ, ◌+◌, ◌<◌, true, inl, inr, Option, Some, arith, subst}
 use Rattle.std.proofs.lemmas.Bool.{cases_eq}
-use Rattle.word_fields.specs.declared.records.Phase.TheVariants.{Executing}
+use Rattle.word_fields.specs.declared.records.RecordPhase.TheVariants.{Executing}
 use Rattle.word_fields.specs.Records.{record_phase}
 use Rattle.word_fields.specs.Versioned.{versioned_version}
 use Rattle.node_arena.specs.MemoryMap.{block_place, record_place, MayBeClients}
-use Rattle.node_arena.proofs.PlaceLemmas.{block_place_behind}
+use Rattle.node_arena.proofs.PlacesApart.{block_place_behind}
 use Rattle.normal_traits.specs.World.{Listed, World, is_word}
 use Rattle.normal_traits.specs.NormalForm.{NormalForm}
 use Rattle.normal_traits.specs.Steps.{IsStep, put_word}
@@ -13,7 +13,7 @@ use Rattle.normal_traits.specs.Steps.IsStep.{elsewhere}
 use Rattle.normal_traits.specs.Laws.{Laws}
 use Rattle.normal_traits.proofs.Stays.{word_beside, word_put}
 use Rattle.cas_executor_laws.specs.Parts.{Deed, KnowsStop}
-use Rattle.cas_executor_laws.proofs.SiteLemmas.{beside_deed}
+use Rattle.cas_executor_laws.proofs.OfferedPartsKept.{beside_deed}
 use Rattle.offered_blocks.specs.Blocks.{Offer, HasBlocks, IsExecuting, JournalRises, MayBeMarked, site_of, has_taken}
 use Rattle.offered_blocks.specs.Holds.{HasOffers}
 use Rattle.offered_blocks.proofs.Blocks.HoldsKept.{holds_kept}

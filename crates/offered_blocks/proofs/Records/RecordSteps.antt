@@ -1,17 +1,17 @@
 -- What a won exchange of a record makes of what it tells, by what the helper knew.
 use Rattle.std.proofs.Common.{◌≡◌, ◌∙◌, sym, subst, ap, ℕ, ◌<◌, ◌^◌, ◌≤◌, Option, Some, arith}
 use Rattle.lin_report.specs.declared.calls.Outcome.{Outcome}
-use Rattle.word_fields.specs.declared.records.Phase.TheVariants as phase
+use Rattle.word_fields.specs.declared.records.RecordPhase.TheVariants as phase
 use Rattle.word_fields.specs.declared.records.RecordWord.{RecordWord}
 use Rattle.word_fields.specs.Payloads.{payload_block}
 use Rattle.word_fields.specs.Records.{record_of, record_phase, record_payload, record_word}
-use Rattle.word_fields.proofs.RecordLemmas.{phase-word, payload-word}
-use Rattle.word_fields.proofs.PayloadLemmas.{block-payload}
+use Rattle.word_fields.proofs.RecordWords.{phase-word, payload-word}
+use Rattle.word_fields.proofs.PayloadParts.{block-payload}
 use Rattle.normal_traits.specs.World.{Called, World, ChangedBy, RightSince}
 use Rattle.normal_traits.specs.NormalForm.{NormalForm}
 use Rattle.normal_traits.specs.Laws.{Laws, IsFixed}
 use Rattle.op_record.specs.Outcomes.{outcome_of, completed_word, FitsPayload}
-use Rattle.op_record.proofs.OutcomeLemmas.{outcome_of-completed}
+use Rattle.op_record.proofs.OutcomesReadBack.{outcome_of-completed}
 use Rattle.offered_blocks.specs.Blocks.{Offer}
 use Rattle.offered_blocks.specs.Records.{MadeNone, TellsRight, Names, RecordTells, RecordIsRight}
 use Rattle.offered_blocks.specs.Records.TellsRight.{observed, changed}
@@ -19,7 +19,7 @@ use Rattle.offered_blocks.specs.Records.TellsRight.{observed, changed}
 module _ {S W : Type 0} (form : NormalForm S W) (laws : Laws form) (world : World) (offers : ℕ → Option (Offer S)) (call : Called) (begun : ℕ) where
   -- a list that is named by its record is dead: the call made no change
   pub restarts : form.shape world → (block : ℕ) (names : Names form world offers call begun block) → form.dead names.offer.list world → MadeNone world call
-  restarts shape block names dead change among of = laws.dead_unchanged world names.offer.list change shape dead among (names.only change among of)
+  restarts shape block names dead change among of = laws.of_world.dead_unchanged world names.offer.list change shape dead among (names.only change among of)
 
   -- the list made the change, with this outcome
   pub done : (block : ℕ) (names : Names form world offers call begun block) (outcome : Outcome) → ChangedBy world names.offer.list outcome → IsFixed form outcome → TellsRight form world call begun outcome

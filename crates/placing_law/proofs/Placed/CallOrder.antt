@@ -7,14 +7,14 @@ use Rattle.lin_report.specs.Object.{Object}
 use Rattle.lin_report.specs.Calls.{Call, Report, answered_call, calls_of, IsSameCall, EndedBefore}
 use Rattle.lin_report.specs.Report.{IsReport}
 use Rattle.lin_report.specs.Linearizable.{IsLinearizable, WasExhausted}
-use Rattle.placing_law.specs.Placing.{Change, IsOf, held_at, HasObserved, IsPlaced}
+use Rattle.placing_law.specs.Placing.{ObjectChange, IsChangeOf, held_at, HasObserved, IsPlaced}
 use Rattle.placing_law.proofs.Items.{Item, Before, insert, Each, Pairs, Has, calls_in, each_weaker, each_from_all, all_from_each, each_insert, sorted_insert, pairs_insert, pairs_from_all, pairs_weaker, all_calls, all_pairs_of_calls, has_inserted, has_still, contains_from_has}
 use Rattle.placing_law.proofs.Changes.{not_exhausted, IsItem, IsStep, Fits, keeps, legal, fits_insert}
 use Rattle.placing_law.proofs.Placed.ChangeItems
 use Rattle.placing_law.proofs.Placed.SettledCalls
 use Rattle.placing_law.proofs.Placed.SettledCalls.{same_back}
 
-module _ (object : Object) (answers : (op : Op) (held : object.Held) → (object.apply op held).1 ≢ Exhausted) (files : List (List Op)) (report : Report) (history : List Change) (count_at : ℕ → ℕ) (is : IsReport files report) (placed : IsPlaced object history count_at report) where
+module _ (object : Object) (answers : (op : Op) (held : object.Held) → (object.apply op held).1 ≢ Exhausted) (files : List (List Op)) (report : Report) (history : List ObjectChange) (count_at : ℕ → ℕ) (is : IsReport files report) (placed : IsPlaced object history count_at report) where
   -- of this report
   abbrev from_none : 0 + length history ≡ length history
   from_none = ChangeItems.from_none object answers files report history count_at is placed
@@ -89,7 +89,7 @@ module _ (object : Object) (answers : (op : Op) (held : object.Held) → (object
       (λ sight. fits_insert object history count_at report 0 (seen_item r sight.seen) (order rs h.1) (seen_is_step r sight.seen) (omega arith) (seen_within r sight.seen) (omega arith) rest)
 
   -- a call that no change is of, and that is none of these, is not among them
-  order_apart : (c : Call) → All (λ change. ¬ IsOf change c.seat c.number) history → (rs : List Receipt) (h : Each IsReady rs) → Each (λ (r : Receipt). ¬ IsSameCall c (answered_call r)) rs
+  order_apart : (c : Call) → All (λ change. ¬ IsChangeOf change c.seat c.number) history → (rs : List Receipt) (h : Each IsReady rs) → Each (λ (r : Receipt). ¬ IsSameCall c (answered_call r)) rs
       → Each (λ (x : Item). ¬ IsSameCall c x.call) (order rs h)
   order_apart c none [] h apart =
       each_weaker (ChangeItems.IsLater object answers files report history count_at is placed 0) (λ (x : Item). ¬ IsSameCall c x.call)

@@ -9,25 +9,25 @@ use Rattle.lin_report.specs.declared.calls.Reply.TheVariants.{Exhausted}
 use Rattle.lin_report.specs.Object.{Object}
 use Rattle.lin_report.specs.Calls.{Call, Report, answered_call, pending_call, calls_of, IsSameCall}
 use Rattle.lin_report.specs.Report.{IsReport}
-use Rattle.placing_law.specs.Placing.{Change, change_of, IsOf, held_at, IsMade, IsPlaced}
+use Rattle.placing_law.specs.Placing.{ObjectChange, change_of, IsChangeOf, held_at, MadeByCall, IsPlaced}
 use Rattle.placing_law.proofs.Items.{Item, Before, Each, Pairs, Has, each_weaker}
 use Rattle.placing_law.proofs.Changes.{held_next, not_exhausted, IsItem, IsStep, Fits}
 
-module _ (object : Object) (answers : (op : Op) (held : object.Held) → (object.apply op held).1 ≢ Exhausted) (files : List (List Op)) (report : Report) (history : List Change) (count_at : ℕ → ℕ) (is : IsReport files report) (placed : IsPlaced object history count_at report) where
+module _ (object : Object) (answers : (op : Op) (held : object.Held) → (object.apply op held).1 ≢ Exhausted) (files : List (List Op)) (report : Report) (history : List ObjectChange) (count_at : ℕ → ℕ) (is : IsReport files report) (placed : IsPlaced object history count_at report) where
   forward : All (λ (c : Call). IfSome c.answer (λ answer. c.begin < answer.1)) (calls_of report)
   forward = All-append (λ (c : Call). IfSome c.answer (λ answer. c.begin < answer.1)) (map answered_call report.receipts) (map pending_call report.pending)
       (All-map (λ (c : Call). IfSome c.answer (λ answer. c.begin < answer.1)) answered_call report.receipts is.forward)
       (All-map (λ (c : Call). IfSome c.answer (λ answer. c.begin < answer.1)) pending_call report.pending (λ k d lt. tt))
 
   -- the item of a change
-  abbrev pub change_item : (place : ℕ) → IsMade object history count_at report place → Item
+  abbrev pub change_item : (place : ℕ) → MadeByCall object history count_at report place → Item
   change_item place made = record { call = made.call; after = suc place; late = 0 }
 
   ended_there : (place begin : ℕ) (answer : Option (Reply × ℕ)) → IfSome answer (λ a. place < count_at a.1) → IfSome answer (λ a. begin < a.1) → IfSome answer (λ a. (suc place ≤ count_at a.1) × (begin < a.1))
   ended_there place begin None ended forth = tt
   ended_there place begin (Some a) ended forth = (omega arith, forth)
 
-  change_is_item : (place : ℕ) (made : IsMade object history count_at report place) → IsItem object history count_at report (change_item place made)
+  change_is_item : (place : ℕ) (made : MadeByCall object history count_at report place) → IsItem object history count_at report (change_item place made)
   change_is_item place made =
       let begun = made.begun in
       record {
@@ -39,7 +39,7 @@ module _ (object : Object) (answers : (op : Op) (held : object.Held) → (object
         ended = ended_there place made.call.begin made.call.answer made.ended (All-contains (λ (c : Call). IfSome c.answer (λ answer. c.begin < answer.1)) (calls_of report) made.call forward made.known);
       }
 
-  change_is_step : (place : ℕ) (made : IsMade object history count_at report place) → IsStep object history count_at report place (change_item place made)
+  change_is_step : (place : ℕ) (made : MadeByCall object history count_at report place) → IsStep object history count_at report place (change_item place made)
   change_is_step place made = record {
     answers = made.reply;
     leaves = sym (held_next object object.empty history place (change_of made.call) made.change);
@@ -89,14 +89,14 @@ module _ (object : Object) (answers : (op : Op) (held : object.Held) → (object
     changes_sorted n (suc q) (next n q e),
   )
 
-  pub change_at : (place : ℕ) (c : Call) (d : Change) → slice_get history place ≡ Some (change_of c) → get_or history place d ≡ change_of c
+  pub change_at : (place : ℕ) (c : Call) (d : ObjectChange) → slice_get history place ≡ Some (change_of c) → get_or history place d ≡ change_of c
   change_at place c d at = get_or_from_slice_get history place (change_of c) d at
 
   changes_apart : (p q : ℕ) (c d : Call) → p < q → slice_get history p ≡ Some (change_of c) → slice_get history q ≡ Some (change_of d) → ¬ IsSameCall c d
   changes_apart p q c d before one two same =
       placed.once p q (change_of c) before (slice_get_within history q (change_of d) two)
-      (subst (λ (z : Change). IsOf z (get_or history q (change_of c)).seat (get_or history q (change_of c)).number) (sym (change_at p c (change_of c) one))
-      (subst (λ (z : Change). IsOf (change_of c) z.seat z.number) (sym (change_at q d (change_of c) two)) (same.seat, same.number)))
+      (subst (λ (z : ObjectChange). IsChangeOf z (get_or history q (change_of c)).seat (get_or history q (change_of c)).number) (sym (change_at p c (change_of c) one))
+      (subst (λ (z : ObjectChange). IsChangeOf (change_of c) z.seat z.number) (sym (change_at q d (change_of c) two)) (same.seat, same.number)))
 
   pub changes_once : (n q : ℕ) (e : q + n ≡ length history) → Pairs (λ (x y : Item). ¬ IsSameCall x.call y.call) (changes n q e)
   changes_once zero q e = tt
@@ -107,11 +107,11 @@ module _ (object : Object) (answers : (op : Op) (held : object.Held) → (object
       )
 
   -- a call that no change is of
-  pub unchanged : (c : Call) → All (λ change. ¬ IsOf change c.seat c.number) history → (x : Item) → IsLater 0 x → ¬ IsSameCall c x.call
+  pub unchanged : (c : Call) → All (λ change. ¬ IsChangeOf change c.seat c.number) history → (x : Item) → IsLater 0 x → ¬ IsSameCall c x.call
   unchanged c none x later same =
       let at = change_at later.place x.call (change_of x.call) later.change in
       none later.place (change_of x.call) (slice_get_within history later.place (change_of x.call) later.change)
-      (subst (λ (z : Change). IsOf z c.seat c.number) (sym at) (sym same.seat, sym same.number))
+      (subst (λ (z : ObjectChange). IsChangeOf z c.seat c.number) (sym at) (sym same.seat, sym same.number))
 
   -- the call whose change has a place is among them
   pub record Holds (place : ℕ) (xs : List Item) : Type 0 where

@@ -10,7 +10,7 @@ use Rattle.lin_report.specs.Object.{Object}
 use Rattle.lin_report.specs.Calls.{Call, Report, answered_call, calls_of, IsSameCall}
 use Rattle.lin_report.specs.Report.{IsReport}
 use Rattle.lin_report.proofs.Merging.{call_at_answered, count_of_calls}
-use Rattle.placing_law.specs.Placing.{Change, change_of, IsOf, HasObserved, IsAccounted, IsPlaced}
+use Rattle.placing_law.specs.Placing.{ObjectChange, change_of, IsChangeOf, HasObserved, IsAccounted, IsPlaced}
 use Rattle.placing_law.proofs.Items.{Item, Has}
 use Rattle.placing_law.proofs.Placed.ChangeItems
 
@@ -27,12 +27,12 @@ one_place R xs once both x y one two same =
     ]
 
 -- one of these changes is of this call
-record HasChangeOf (seat number : ℕ) (changes : List Change) : Type 0 where
-  change : Change
+record HasChangeOf (seat number : ℕ) (changes : List ObjectChange) : Type 0 where
+  change : ObjectChange
   among : Contains changes change
-  of : IsOf change seat number
+  of : IsChangeOf change seat number
 
-is_of_or_not : (change : Change) (seat number : ℕ) → IsOf change seat number ⊎ (¬ IsOf change seat number)
+is_of_or_not : (change : ObjectChange) (seat number : ℕ) → IsChangeOf change seat number ⊎ (¬ IsChangeOf change seat number)
 is_of_or_not change seat number = elim (cases_eq change.seat seat) [
   | inl seats ↦ elim (cases_eq change.number number) [
     | inl numbers ↦ inl (seats, numbers)
@@ -41,20 +41,20 @@ is_of_or_not change seat number = elim (cases_eq change.seat seat) [
   | inr apart ↦ inr (λ of. apart of.0)
 ]
 
-change_of_or_none : (seat number : ℕ) (changes : List Change) → HasChangeOf seat number changes ⊎ All (λ change. ¬ IsOf change seat number) changes
-change_of_or_none seat number [] = inr (All-nil (λ change. ¬ IsOf change seat number))
+change_of_or_none : (seat number : ℕ) (changes : List ObjectChange) → HasChangeOf seat number changes ⊎ All (λ change. ¬ IsChangeOf change seat number) changes
+change_of_or_none seat number [] = inr (All-nil (λ change. ¬ IsChangeOf change seat number))
 change_of_or_none seat number (change ∷ changes) = elim (is_of_or_not change seat number) [
   | inl of ↦ inl (record { change = change; among = (0, omega arith, refl); of = of })
   | inr not_first ↦ elim (change_of_or_none seat number changes) [
     | inl some ↦ let within = some.among.1 in inl (record { change = some.change; among = (suc some.among.0, omega arith, some.among.2); of = some.of })
-    | inr none ↦ inr (All-cons (λ change. ¬ IsOf change seat number) change changes not_first none)
+    | inr none ↦ inr (All-cons (λ change. ¬ IsChangeOf change seat number) change changes not_first none)
   ]
 ]
 
 pub same_back : (c d : Call) → IsSameCall c d → IsSameCall d c
 same_back c d same = record { seat = sym same.seat; number = sym same.number }
 
-module _ (object : Object) (answers : (op : Op) (held : object.Held) → (object.apply op held).1 ≢ Exhausted) (files : List (List Op)) (report : Report) (history : List Change) (count_at : ℕ → ℕ) (is : IsReport files report) (placed : IsPlaced object history count_at report) where
+module _ (object : Object) (answers : (op : Op) (held : object.Held) → (object.apply op held).1 ≢ Exhausted) (files : List (List Op)) (report : Report) (history : List ObjectChange) (count_at : ℕ → ℕ) (is : IsReport files report) (placed : IsPlaced object history count_at report) where
   one_call : (c d : Call) → Contains (calls_of report) c → Contains (calls_of report) d → IsSameCall c d → c ≡ d
   one_call = one_place IsSameCall (calls_of report) is.once same_back
 
@@ -65,20 +65,20 @@ module _ (object : Object) (answers : (op : Op) (held : object.Held) → (object
   -- a call that observed, and that no change is of
   pub record IsSight (r : Receipt) : Type 0 where
     pub seen : HasObserved object history count_at r
-    pub none : All (λ change. ¬ IsOf change r.seat r.number) history
+    pub none : All (λ change. ¬ IsChangeOf change r.seat r.number) history
 
   -- an answered call is exhausted, made a change, or observed and made none
   abbrev pub IsSettled : Receipt → Type 0
   IsSettled r = (r.reply ≡ Exhausted) ⊎ (Has (answered_call r) all_changes ⊎ IsSight r)
 
-  has_changed : (r : Receipt) → Contains (calls_of report) (answered_call r) → (change : Change) → Contains history change → IsOf change r.seat r.number → Has (answered_call r) all_changes
+  has_changed : (r : Receipt) → Contains (calls_of report) (answered_call r) → (change : ObjectChange) → Contains history change → IsChangeOf change r.seat r.number → Has (answered_call r) all_changes
   has_changed r known change at of =
       let maker = ChangeItems.changes_hold object answers files report history count_at is placed (length history) 0 (ChangeItems.from_none object answers files report history count_at is placed) at.0 (omega arith) at.1 in
       let one : change_of maker.call ≡ change = sym (ChangeItems.change_at object answers files report history count_at is placed at.0 maker.call change maker.change) ∙ at.2 in
-      let same : IsSameCall maker.call (answered_call r) = record { seat = ap (λ (z : Change). z.seat) one ∙ of.0; number = ap (λ (z : Change). z.number) one ∙ of.1 } in
+      let same : IsSameCall maker.call (answered_call r) = record { seat = ap (λ (z : ObjectChange). z.seat) one ∙ of.0; number = ap (λ (z : ObjectChange). z.number) one ∙ of.1 } in
       subst (λ c. Has c all_changes) (one_call maker.call (answered_call r) maker.known known same) maker.has
 
-  settled_sight : (r : Receipt) → Contains (calls_of report) (answered_call r) → HasObserved object history count_at r → HasChangeOf r.seat r.number history ⊎ All (λ change. ¬ IsOf change r.seat r.number) history → IsSettled r
+  settled_sight : (r : Receipt) → Contains (calls_of report) (answered_call r) → HasObserved object history count_at r → HasChangeOf r.seat r.number history ⊎ All (λ change. ¬ IsChangeOf change r.seat r.number) history → IsSettled r
   settled_sight r known seen (inl some) = inr (inl (has_changed r known some.change some.among some.of))
   settled_sight r known seen (inr none) = inr (inr (record { seen = seen; none = none }))
 

@@ -1,4 +1,4 @@
-use Rattle.refuted_forms.proofs.QueueLemmas.{no_laws_without_a_look}
+use Rattle.refuted_forms.proofs.TailNotMoved.{no_laws_without_a_look}
 use Rattle.refuted_forms.proofs.empty_without_a_look.Goals as goal
 
 pub returns : goal.returns

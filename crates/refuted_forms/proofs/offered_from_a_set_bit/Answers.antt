@@ -1,4 +1,4 @@
-use Rattle.refuted_forms.proofs.ListLemmas.{no_laws_from_a_set_bit}
+use Rattle.refuted_forms.proofs.SetBitsAndMarks.{no_laws_from_a_set_bit}
 use Rattle.refuted_forms.proofs.offered_from_a_set_bit.Goals as goal
 
 pub returns : goal.returns

@@ -1,4 +1,4 @@
-use Rattle.refuted_forms.proofs.QueueLemmas.{no_laws_with_one_cause}
+use Rattle.refuted_forms.proofs.TailNotMoved.{no_laws_with_one_cause}
 use Rattle.refuted_forms.proofs.one_cause_for_two.Goals as goal
 
 pub returns : goal.returns

@@ -1,4 +1,4 @@
-use Rattle.refuted_forms.proofs.QueueLemmas.{no_laws_with_a_restart}
+use Rattle.refuted_forms.proofs.TailNotMoved.{no_laws_with_a_restart}
 use Rattle.refuted_forms.proofs.restart_after_the_change.Goals as goal
 
 pub returns : goal.returns

@@ -1,4 +1,4 @@
-use Rattle.refuted_forms.proofs.ListLemmas.{no_laws_past_a_mark}
+use Rattle.refuted_forms.proofs.SetBitsAndMarks.{no_laws_past_a_mark}
 use Rattle.refuted_forms.proofs.searched_past_a_mark.Goals as goal
 
 pub returns : goal.returns

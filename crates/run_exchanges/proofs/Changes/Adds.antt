@@ -10,7 +10,7 @@ use Rattle.normal_traits.specs.World.Maker.{By, Beside}
 use Rattle.normal_traits.specs.NormalForm.{NormalForm}
 use Rattle.normal_traits.specs.Steps.{change_of, listed_if, with_change}
 use Rattle.cas_executor_laws.specs.Parts.{KnowsStop}
-use Rattle.cas_executor_laws.proofs.SiteLemmas.{entry_at}
+use Rattle.cas_executor_laws.proofs.OfferedPartsKept.{entry_at}
 use Rattle.fast_slow_engine.specs.declared.setup.Setup.{Setup}
 use Rattle.fast_slow_engine.specs.Runs.{Move}
 use Rattle.offered_blocks.specs.Blocks.{Offer, IsExecuting, IsOffer, has_taken, site_of}
@@ -25,7 +25,7 @@ use Rattle.run_invariant.specs.Tells.{IsFollowed}
 use Rattle.run_invariant.specs.Tells.IsFollowed.{with_seat, dead, changed}
 use Rattle.run_invariant.proofs.Names.Comes.{held_listed, offered_listed}
 use Rattle.run_invariant.proofs.Names.Journal.{won_came}
-use Rattle.run_invariant.proofs.InRuns.Moved.{Moved, after, offers, step, world}
+use Rattle.run_invariant.proofs.InRuns.MovesInRuns.{Moved, after, offers, step, world}
 use Rattle.run_exchanges.proofs.Changes.Items.{Does, nothing, beside, listed, item_of, step_does}
 use Rattle.run_exchanges.proofs.Moves.Served.{IsServed, executing_named, held_served, named_served}
 
@@ -141,7 +141,7 @@ module _ {S W : Type 0} (form : NormalForm S W) where
     -- ---- a change beside the lists
 
     pairs : AllPairs DifferentLists (after form m).changes
-    pairs = m.laws.one_change_a_list (after form m) m.later.holds.shape
+    pairs = m.laws.of_world.one_change_a_list (after form m) m.later.holds.shape
 
     new_change : Listed → Change
     new_change list = change_of form.object list (world form m).changes
@@ -149,7 +149,7 @@ module _ {S W : Type 0} (form : NormalForm S W) where
     not_dead : (list : Listed) → (after form m).changes ≡ change_of form.object list (world form m).changes ∷ (world form m).changes → ¬ form.dead list (world form m)
     not_dead list changes gone =
         let new = change_of form.object list (world form m).changes in
-        m.laws.dead_unchanged (after form m) list new m.later.holds.shape (m.laws.dead_kept (world form m) (after form m) list m.kept.holds.shape gone (step form m)) (subst (Among new) (sym changes) (inl refl)) refl
+        m.laws.of_world.dead_unchanged (after form m) list new m.later.holds.shape (m.laws.dead_kept (world form m) (after form m) list m.kept.holds.shape gone (step form m)) (subst (Among new) (sym changes) (inl refl)) refl
 
     not_changed : (list : Listed) → (after form m).changes ≡ change_of form.object list (world form m).changes ∷ (world form m).changes → (change : Change) → Among change (world form m).changes → change.list ≢ list
     not_changed list changes change among of =
@@ -172,7 +172,7 @@ module _ {S W : Type 0} (form : NormalForm S W) where
         → (one : Listed) → list ≡ Some one → IsServed form setup older one
     beside_served entry None adds changes one is = absurd cc
     beside_served entry (Some list) adds changes one is =
-        let took = (m.laws.beside (world form m) list entry m.kept.holds.shape adds).1 in
+        let took = (m.laws.of_world.beside (world form m) list entry m.kept.holds.shape adds).1 in
         let same : list ≡ one = cc in
         subst (IsServed form setup older) same (owned_served list took changes (m.kept.owned list took))
 

@@ -6,7 +6,7 @@ use Rattle.step_memory.specs.declared.steps.Request.TheVariants.{Load, Exchange}
 use Rattle.step_memory.specs.declared.steps.Seen.{Seen}
 use Rattle.word_fields.specs.Versioned.{cleared_word, marked_word, versioned_version}
 use Rattle.word_fields.specs.Records.{packed_record, record_of}
-use Rattle.word_fields.proofs.VersionedLemmas.{bit-marked, cleared-clear, cleared-marked, version-changed_below, version-marked, cleared-changed}
+use Rattle.word_fields.proofs.ChangedWords.{bit-marked, cleared-clear, cleared-marked, version-changed_below, version-marked, cleared-changed}
 use Rattle.node_arena.specs.MemoryMap.{record_place, MayBeClients}
 use Rattle.help_queue.specs.Enters.{enter_request}
 use Rattle.help_queue.specs.Removes.{remove_request}
@@ -25,7 +25,7 @@ use Rattle.cas_executor.specs.SlowRuns.{SlowWalk, request_at, slow_request, stat
 use Rattle.cas_executor.specs.declared.slow_run.EntryState.TheVariants.{Pending, Succeeded, Failed}
 use Rattle.cas_executor_laws.specs.Parts.{Knows}
 use Rattle.cas_executor_laws.specs.Entries.{IsRaised}
-use Rattle.cas_executor_laws.proofs.SiteLemmas.{entry_at}
+use Rattle.cas_executor_laws.proofs.OfferedPartsKept.{entry_at}
 use Rattle.fast_slow_engine.specs.declared.phases.Phase.{Phase}
 use Rattle.fast_slow_engine.specs.declared.phases.Phase.TheVariants as phase
 use Rattle.fast_slow_engine.specs.declared.phases.Announcing.TheVariants as announcing
@@ -61,7 +61,7 @@ use Rattle.run_invariant.proofs.Words.Moved.{made_moved}
 use Rattle.run_invariant.proofs.Bounds.InKept.{has_room}
 use Rattle.run_invariant.proofs.InRuns.MovesKinds.{is_inside}
 use Rattle.run_invariant.proofs.InRuns.OwnMade.{enter_at, remove_at}
-use Rattle.run_invariant.proofs.InRuns.Moved.{Moved, after, does, known, mech, mover, offers, own, seated, seen, world}
+use Rattle.run_invariant.proofs.InRuns.MovesInRuns.{Moved, after, does, known, mech, mover, offers, own, seated, seen, world}
 use Rattle.run_exchanges.proofs.Exchanges.Requests.{Asked, none, lost, elsewhere, clears, wins}
 
 module _ {S W : Type 0} (form : NormalForm S W) where
@@ -158,7 +158,7 @@ module _ {S W : Type 0} (form : NormalForm S W) where
     wrap_asked : (w : W) (held : Option (Held S)) → OfSome (KnowsWrap form (world form m) w) held → Requested form (form.wrap_request_of w) (world form m) (after form m) (seen form m) → Asks (form.wrap_request_of w)
     wrap_asked w None knows steps = absurd knows
     wrap_asked w (Some held) knows steps =
-        requested (form.wrap_request_of w) (world form m) (after form m) (seen form m) (m.laws.wrap_asks_well (world form m) w held.list held.stop m.kept.holds.shape knows.wraps knows.follows) steps
+        requested (form.wrap_request_of w) (world form m) (after form m) (seen form m) (m.laws.of_world.wrap_asks_well (world form m) w held.list held.stop m.kept.holds.shape knows.wraps knows.follows) steps
 
     -- ---- a helper
 
@@ -175,7 +175,7 @@ module _ {S W : Type 0} (form : NormalForm S W) where
         let next : slice_get run.entries run.next ≡ Some entry = ap (λ (l : List Entry). slice_get l run.next) knows.entries ∙ at.1 in
         let is : run.block ≡ block = knows.block ∙ mine.block_is in
         let plain : form.is_versioned (state_place run.block run.next) ≡ false =
-        subst (λ b. form.is_versioned (state_place b run.next) ≡ false) (sym is) (m.laws.notes_plain block (9 + run.next) some (omega (arith, short, within))) in
+        subst (λ b. form.is_versioned (state_place b run.next) ≡ false) (sym is) (m.laws.of_world.notes_plain block (9 + run.next) some (omega (arith, short, within))) in
         subst (λ (o : Option Entry). Asks (request_at run o)) (sym next)
         (step_asked (world form m) (after form m) offer run.block run.next entry (after form m).words plain (word_may form.is_root (world form m) entry.target target.0) target.1 (mine.site.raised run.next entry at.1) run.step (seen form m).won
         (journal ∙ ap (λ (o : Option Entry). (ran_by form (world form m) offer run.next (after form m).words (installs run.step && (seen form m).won) o).journal) at.1))
@@ -191,7 +191,7 @@ module _ {S W : Type 0} (form : NormalForm S W) where
     work_asked drives head seats word work.Op offers' own' caller is few knows steps = quiet (work_request form work.Op head word) (λ at from to e. cc) steps.1.0
     work_asked drives head seats word (work.Value op) offers' own' caller is few knows steps = quiet (work_request form (work.Value op) head word) (λ at from to e. cc) steps.1.0
     work_asked drives head seats word (work.Generate op s Search) offers' own' caller is few knows steps =
-        requested (form.request_of s) (world form m) (after form m) (seen form m) (m.laws.search_asks_well (world form m) s op (own form m).carried.since knows.1.command m.kept.holds.shape knows.2 knows.1.knows) steps.1.0
+        requested (form.request_of s) (world form m) (after form m) (seen form m) (m.laws.of_world.search_asks_well (world form m) s op (own form m).carried.since knows.1.command m.kept.holds.shape knows.2 knows.1.knows) steps.1.0
     work_asked drives head seats word (work.Generate op s LookForBlock) offers' own' caller is few knows steps = quiet (work_request form (work.Generate op s LookForBlock) head word) (λ at from to e. cc) steps.1.0
     work_asked drives head seats word (work.Generate op s Claim) offers' own' caller is few knows steps = put (work_request form (work.Generate op s Claim) head word) 2 steps.1.0.0 (λ at from to e. cc) steps.1.0.1
     work_asked drives head seats word (work.Fill stores made) offers' own' caller is few knows steps =
@@ -204,7 +204,7 @@ module _ {S W : Type 0} (form : NormalForm S W) where
         let for = knows.1.1 in
         run_asked run (named_block word) offer for.stands knows.1.2 (ap (λ (w : World). w.journal) (steps.1.1 offer for.stands))
     work_asked drives head seats word (work.Wrap wrap) offers' own' caller is few knows steps =
-        requested (form.wrap_request_of wrap) (world form m) (after form m) (seen form m) (m.laws.wrap_asks_well (world form m) wrap knows.1.0.list _ m.kept.holds.shape knows.1.3 knows.1.4) steps.1
+        requested (form.wrap_request_of wrap) (world form m) (after form m) (seen form m) (m.laws.of_world.wrap_asks_well (world form m) wrap knows.1.0.list _ m.kept.holds.shape knows.1.3 knows.1.4) steps.1
 
     help_asked : (drives : Bool) (head seats : ℕ) (at : Helping S W) (offers' : ℕ → Option (Offer S)) (own' : Carried S) → (mover form m).phase ≡ phase.Help drives (record { head = head; seats = seats; at = at }) → head < 8
         → KnowsHelp form (world form m) (offers form m) (callers_in (run_of form setup older) (ghost_of form setup older) head) head (mover form m).hand (own form m).carried at
@@ -223,7 +223,7 @@ module _ {S W : Type 0} (form : NormalForm S W) where
     asked_at phase.Begin offers' own' is command lists knows inside steps = put (request_in form phase.Begin (mover form m)) 0 steps.1.0 (λ at from to e. cc) steps.1.1
     asked_at phase.Look offers' own' is command lists knows inside steps = quiet (request_in form phase.Look (mover form m)) (λ at from to e. cc) steps.1
     asked_at (phase.Generate s Search) offers' own' is command lists knows inside steps =
-        requested (form.request_of s) (world form m) (after form m) (seen form m) (m.laws.search_asks_well (world form m) s (mover form m).op (own form m).carried.since command m.kept.holds.shape knows.0 knows.1) steps.1
+        requested (form.request_of s) (world form m) (after form m) (seen form m) (m.laws.of_world.search_asks_well (world form m) s (mover form m).op (own form m).carried.since command m.kept.holds.shape knows.0 knows.1) steps.1
     asked_at (phase.Generate s LookForBlock) offers' own' is command lists knows inside steps = quiet (request_in form (phase.Generate s LookForBlock) (mover form m)) (λ at from to e. cc) steps.1
     asked_at (phase.Generate s Claim) offers' own' is command lists knows inside steps = put (request_in form (phase.Generate s Claim) (mover form m)) 2 steps.1.0 (λ at from to e. cc) steps.1.1
     asked_at (phase.Apply run stores (Fill made)) offers' own' is command lists knows inside steps = none (not_stored (slice_get stores.items made)) (journal_at (phase.Apply run stores (Fill made)) is)

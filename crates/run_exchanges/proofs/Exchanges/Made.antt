@@ -30,8 +30,8 @@ use Rattle.run_invariant.specs.RunGhosts.{ghost_of, world_of}
 use Rattle.run_invariant.specs.Known.{KnowsIn}
 use Rattle.run_invariant.specs.Kept.{RunsAreKept, callers_in}
 use Rattle.run_invariant.proofs.Words.Wins.{nothing, beside, takes, installed, move_wins, won_by}
-use Rattle.run_invariant.proofs.InRuns.Moved.{Moved, after, known, mech, mover, offers, seated, seen, step, world, moved}
-use Rattle.run_invariant.proofs.InRuns.Moved as moves_of
+use Rattle.run_invariant.proofs.InRuns.MovesInRuns.{Moved, after, known, mech, mover, offers, seated, seen, step, world, moved}
+use Rattle.run_invariant.proofs.InRuns.MovesInRuns as moves_of
 use Rattle.run_exchanges.specs.Exchanges.{AreAtMostOnce, ExchangesOnce, IsMadeFor, IsWonBy, JournalsTell, WonExchange, block_executed, told_exchange}
 use Rattle.run_exchanges.specs.Exchanges.IsMadeFor.{own, helped}
 use Rattle.run_exchanges.proofs.Changes.Adds.{now_executing}

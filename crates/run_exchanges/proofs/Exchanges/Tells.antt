@@ -10,7 +10,7 @@ use Rattle.fast_slow_engine.specs.Runs.{AreMoves, Move, begun, run_of}
 use Rattle.run_laws.proofs.Steps.{some_same}
 use Rattle.run_invariant.specs.RunGhosts.{world_of}
 use Rattle.run_invariant.specs.Kept.{RunsAreKept}
-use Rattle.run_invariant.proofs.InRuns.Moved.{Moved, after, mech, mover, moved, moves_before, seated, seen, world}
+use Rattle.run_invariant.proofs.InRuns.MovesInRuns.{Moved, after, mech, mover, moved, moves_before, seated, seen, world}
 use Rattle.run_exchanges.specs.Exchanges.{OnlyClears, WonExchange, moved_exchanges, told_exchange, won_exchanges}
 use Rattle.run_exchanges.proofs.Exchanges.Asks.{move_asked}
 use Rattle.run_exchanges.proofs.Exchanges.Requests as requests

@@ -6,7 +6,7 @@ use Rattle.std.proofs.lemmas.List.Kept.{AllPairs-cons}
 use Rattle.step_memory.specs.declared.steps.Request.{Request}
 use Rattle.step_memory.specs.declared.steps.Seen.{Seen}
 use Rattle.word_fields.specs.Versioned.{versioned_version}
-use Rattle.word_fields.proofs.VersionedLemmas.{version-cleared}
+use Rattle.word_fields.proofs.ChangedWords.{version-cleared}
 use Rattle.normal_traits.specs.declared.lists.Entry.{Entry}
 use Rattle.normal_traits.specs.World.{Listed, Maker, Won, World, is_word}
 use Rattle.normal_traits.specs.NormalForm.{NormalForm}
@@ -23,8 +23,8 @@ use Rattle.run_invariant.specs.Kept.{RunsAreKept}
 use Rattle.run_invariant.proofs.Words.Grow.{world_grows}
 use Rattle.run_invariant.proofs.Bounds.Causes.{journal_few}
 use Rattle.run_invariant.proofs.Bounds.InKept.{used_within}
-use Rattle.run_invariant.proofs.InRuns.Moved as moves_of
-use Rattle.run_invariant.proofs.InRuns.Moved.{moved}
+use Rattle.run_invariant.proofs.InRuns.MovesInRuns as moves_of
+use Rattle.run_invariant.proofs.InRuns.MovesInRuns.{moved}
 use Rattle.run_exchanges.specs.Journals.{JournalsObey}
 use Rattle.offered_blocks.proofs.Blocks.Places.{word_grows}
 
@@ -70,8 +70,8 @@ module _ {S W : Type 0} (form : NormalForm S W) (laws : Laws form) where
   wins world after shape nothing = none refl
   wins world after shape (elsewhere at word is) = none refl
   wins world after shape (clears at is versioned listable) = none refl
-  wins world after shape (searches {seen = seen} s op since command asking knows r) = request_wins (form.request_of s) world after seen (laws.search_asks_well world s op since command shape asking knows) r
-  wins world after shape (wraps {seen = seen} w list stop command asking follows r) = request_wins (form.wrap_request_of w) world after seen (laws.wrap_asks_well world w list stop shape asking follows) r
+  wins world after shape (searches {seen = seen} s op since command asking knows r) = request_wins (form.request_of s) world after seen (laws.of_world.search_asks_well world s op since command shape asking knows) r
+  wins world after shape (wraps {seen = seen} w list stop command asking follows r) = request_wins (form.wrap_request_of w) world after seen (laws.of_world.wrap_asks_well world w list stop shape asking follows) r
   wins world after shape (first list s since entry word offered fresh block needs listed at is) = entry_wins world after list s since 0 word entry _ shape offered listed at is refl refl refl refl refl
   wins world after shape (first_of_block list s since entry word offered fresh some unused filled listed at is) = entry_wins world after list s since 0 word entry _ shape offered listed at is refl refl refl refl refl
   wins world after shape (second list s since entry word offered took fails listed at is) = entry_wins world after list s since 1 word entry _ shape offered listed at is refl refl refl refl refl
@@ -115,7 +115,7 @@ module _ {S W : Type 0} (form : NormalForm S W) (laws : Laws form) where
         record {
           once_from = on.once;
           raised = All-weaker (IsPast form.is_root world) (λ (won : Won). versioned_version won.after ≡ versioned_version won.before + 1) (λ item past. past.raised) world.journal on.each;
-          causes = laws.causes_differ world is.holds.shape;
-          bounded = All-weaker (λ (won : Won). (world.used won.cause.block ≡ true) × (won.cause.kind < 8)) (λ (won : Won). (won.cause.block ≤ setup.cap) × (won.cause.kind < 8)) (λ (won : Won) of. (used won.cause.block of.0, of.1)) world.journal (laws.causes_bounded world is.holds.shape);
+          causes = laws.of_world.causes_differ world is.holds.shape;
+          bounded = All-weaker (λ (won : Won). (world.used won.cause.block ≡ true) × (won.cause.kind < 8)) (λ (won : Won). (won.cause.block ≤ setup.cap) × (won.cause.kind < 8)) (λ (won : Won) of. (used won.cause.block of.0, of.1)) world.journal (laws.of_world.causes_bounded world is.holds.shape);
           few = journal_few form world setup.cap laws is.holds.shape used;
         }

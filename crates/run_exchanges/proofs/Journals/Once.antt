@@ -12,7 +12,7 @@ use Rattle.run_laws.proofs.Pairs.{pairs_cons, pairs_nil}
 use Rattle.run_invariant.specs.RunGhosts.{world_of}
 use Rattle.run_invariant.specs.Kept.{RunsAreKept}
 use Rattle.run_invariant.proofs.Names.Journal.{journal_identities}
-use Rattle.run_invariant.proofs.InRuns.Moved.{moved}
+use Rattle.run_invariant.proofs.InRuns.MovesInRuns.{moved}
 use Rattle.run_exchanges.specs.Exchanges.{IsOfItsEntry}
 use Rattle.run_exchanges.specs.Journals.{AreApart, WinsOnce}
 use Rattle.run_exchanges.proofs.Changes.Adds.{Adds, none, aside, serves, adds, all_of}

@@ -10,7 +10,7 @@ use Rattle.normal_traits.specs.NormalForm.{NormalForm}
 use Rattle.fast_slow_engine.specs.declared.setup.Setup.{Setup}
 use Rattle.fast_slow_engine.specs.Mechs.{Mech}
 use Rattle.fast_slow_engine.specs.Runs.{Move, AreMoves, run_of}
-use Rattle.run_laws.proofs.SeatLemmas.{seats_stay}
+use Rattle.run_laws.proofs.MachinesKept.{seats_stay}
 use Rattle.run_queue.specs.Premises.{KeepsQueue}
 use Rattle.run_queue.specs.QueueGhosts.{queue_ghosts}
 use Rattle.run_queue.specs.QueueLaws.{OwnsRecord}

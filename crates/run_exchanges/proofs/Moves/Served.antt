@@ -5,8 +5,8 @@ use Rattle.lin_report.specs.declared.calls.Outcome.{Outcome}
 use Rattle.lin_report.specs.declared.calls.Reply.{Reply}
 use Rattle.word_fields.specs.Payloads.{payload_block}
 use Rattle.word_fields.specs.Records.{record_number, record_of, record_payload, record_phase}
-use Rattle.word_fields.specs.declared.records.Phase as marks
-use Rattle.word_fields.specs.declared.records.Phase.TheVariants.{Executing, Wrapping}
+use Rattle.word_fields.specs.declared.records.RecordPhase as marks
+use Rattle.word_fields.specs.declared.records.RecordPhase.TheVariants.{Executing, Wrapping}
 use Rattle.node_arena.specs.MemoryMap.{record_place}
 use Rattle.op_record.specs.Outcomes.{outcome_of}
 use Rattle.help_queue.specs.Gathers.{is_open}
@@ -24,7 +24,7 @@ use Rattle.offered_blocks.proofs.Blocks.Named.{some_offer}
 use Rattle.move_kinds.specs.Owned.{IsNamedNow}
 use Rattle.helper_knowledge.specs.Callers.{called}
 use Rattle.helper_knowledge.specs.Carried.{OfSome}
-use Rattle.run_laws.proofs.SeatLemmas.{seats_stay}
+use Rattle.run_laws.proofs.MachinesKept.{seats_stay}
 use Rattle.run_queue.specs.QueueLaws.{Publishes}
 use Rattle.run_invariant.specs.Ghosts.{Held, SeatGhost}
 use Rattle.run_invariant.specs.Lists.{HoldsIn, IsHeld, IsOffering}
@@ -126,7 +126,7 @@ module _ {S W : Type 0} (form : NormalForm S W) where
     -- ---- a list that the record of its call names
 
     -- that record, by its phase
-    names_of : (call : Called) (begun : ℕ) (p : marks.Phase) (payload : ℕ) (told : Option Outcome) → (p ≡ Executing) ⊎ (p ≡ Wrapping) → RecordTells form world offers call begun p payload told
+    names_of : (call : Called) (begun : ℕ) (p : marks.RecordPhase) (payload : ℕ) (told : Option Outcome) → (p ≡ Executing) ⊎ (p ≡ Wrapping) → RecordTells form world offers call begun p payload told
         → Names form world offers call begun (payload_block payload)
     names_of call begun marks.TheVariants.Idle payload told at tells = elim at [ inl e ↦ absurd cc | inr e ↦ absurd cc ]
     names_of call begun marks.TheVariants.Generate payload told at tells = elim at [ inl e ↦ absurd cc | inr e ↦ absurd cc ]
@@ -134,7 +134,7 @@ module _ {S W : Type 0} (form : NormalForm S W) where
     names_of call begun Wrapping payload told at tells = tells.0
     names_of call begun marks.TheVariants.Completed payload told at tells = elim at [ inl e ↦ absurd cc | inr e ↦ absurd cc ]
 
-    opened : (p : marks.Phase) → (p ≡ Executing) ⊎ (p ≡ Wrapping) → is_open p ≡ true
+    opened : (p : marks.RecordPhase) → (p ≡ Executing) ⊎ (p ≡ Wrapping) → is_open p ≡ true
     opened p (inl e) = ap is_open e
     opened p (inr e) = ap is_open e
 

@@ -18,7 +18,7 @@ use Rattle.fast_slow_engine.specs.Mechs.{Mech}
 use Rattle.fast_slow_engine.specs.PhaseTable.{mech_request, request_in}
 use Rattle.fast_slow_engine.specs.Runs.{Move, RunState, begun, run_of}
 use Rattle.run_laws.specs.Claims.{claimed_by, claimed_in, claims_block, claims_of, helping_claims, work_claims}
-use Rattle.run_laws.proofs.ClaimLemmas.{claims_hold}
+use Rattle.run_laws.proofs.BlocksClaimed.{claims_hold}
 use Rattle.run_queue.specs.HeldBlocks as held
 use Rattle.run_queue.specs.Rounds.{one_if}
 use Rattle.run_queue.proofs.Blocks.HandLaws.{claims_keep_queue}

@@ -3,7 +3,7 @@ use Rattle.std.proofs.Common.{◌≡◌, ◌≢◌, ◌∙◌, refl, sym, subst,
 use Rattle.std.proofs.lemmas.List.Elements.{Contains-append_right}
 use Rattle.lin_report.specs.declared.calls.Op.{Op}
 use Rattle.step_memory.proofs.Words.{length-words_after}
-use Rattle.node_arena.proofs.OpeningLemmas.{length-opening_words}
+use Rattle.node_arena.proofs.ZerosOpen.{length-opening_words}
 use Rattle.normal_traits.specs.NormalForm.{NormalForm}
 use Rattle.fast_slow_engine.specs.declared.phases.Phase.{Phase}
 use Rattle.fast_slow_engine.specs.declared.setup.Setup.{Setup}
@@ -15,8 +15,8 @@ use Rattle.offered_blocks.specs.Holds.{IsUnnamed}
 use Rattle.run_laws.specs.Claims.{IsClaimed, KeepsClaims, claimed_by, claims_of}
 use Rattle.run_laws.specs.Seats.{EachMech}
 use Rattle.run_laws.proofs.ClaimKinds.{ClaimKind, claims, finds_none, keeps, claim_kind}
-use Rattle.run_laws.proofs.ClaimLemmas.{claims_hold}
-use Rattle.run_laws.proofs.SeatLemmas.{new_mech}
+use Rattle.run_laws.proofs.BlocksClaimed.{claims_hold}
+use Rattle.run_laws.proofs.MachinesKept.{new_mech}
 use Rattle.run_laws.proofs.Steps.{move_steps, some_same}
 use Rattle.run_world.specs.RunGhosts.{ghost_of}
 use Rattle.run_world.proofs.Holding.CarriedLists.{begun_carries, carried_held}

@@ -2,11 +2,11 @@
 use Rattle.std.proofs.Common.{◌≡◌, ◌≢◌, ◌∙◌, refl, sym, subst, ap, ℕ, ◌<◌, ◌^◌, ◌==◌, ◌&&◌, if◌then◌else◌, Bool, true, false, Option, Some, None, inl, inr, arith}
 use Rattle.std.proofs.lemmas.Bool.Decides.{nat_tests}
 use Rattle.step_memory.specs.declared.steps.Seen.{Seen}
-use Rattle.word_fields.specs.declared.records.Phase.TheVariants.{Executing}
+use Rattle.word_fields.specs.declared.records.RecordPhase.TheVariants.{Executing}
 use Rattle.word_fields.specs.Payloads.{payload_block}
 use Rattle.word_fields.specs.Records.{record_number, record_phase, record_round, number_below, round_below}
-use Rattle.word_fields.proofs.RecordLemmas.{payload-word}
-use Rattle.word_fields.proofs.PayloadLemmas.{block-payload}
+use Rattle.word_fields.proofs.RecordWords.{payload-word}
+use Rattle.word_fields.proofs.PayloadParts.{block-payload}
 use Rattle.normal_traits.specs.NormalForm.{NormalForm}
 use Rattle.fast_slow_engine.specs.declared.phases.Phase.{Phase}
 use Rattle.fast_slow_engine.specs.declared.phases.Phase.TheVariants.{Help}

@@ -22,7 +22,7 @@ use Rattle.fast_slow_engine.specs.Hands.{block_of, holds_none}
 use Rattle.fast_slow_engine.specs.Mechs.{Mech}
 use Rattle.fast_slow_engine.specs.PhaseTable.{executed, failed, in_phase, offered, searched, spent, stepped, stores_for, told, with_hand, wrapped_up}
 use Rattle.fast_slow_engine.specs.Runs.{begun}
-use Rattle.run_laws.proofs.SeatLemmas.{new_mech}
+use Rattle.run_laws.proofs.MachinesKept.{new_mech}
 use Rattle.run_world.specs.Ghosts.{Held, SeatGhost, stopped_in}
 use Rattle.run_world.specs.InHand.{BlockIn, ExecutesWith, HasBlock}
 use Rattle.run_world.specs.SeatSteps.{held_in, list_after, newly_held, offered_block}

@@ -7,8 +7,8 @@ use Rattle.fast_slow_engine.specs.Mechs.{Mech}
 use Rattle.fast_slow_engine.specs.Runs.{Move, AreMoves, begun, run_of}
 use Rattle.run_laws.specs.Claims.{KeepsClaims}
 use Rattle.run_laws.specs.Seats.{EachMech}
-use Rattle.run_laws.proofs.ClaimLemmas.{claims_hold}
-use Rattle.run_laws.proofs.SeatLemmas.{new_mech}
+use Rattle.run_laws.proofs.BlocksClaimed.{claims_hold}
+use Rattle.run_laws.proofs.MachinesKept.{new_mech}
 use Rattle.run_world.specs.InHand.{IsUnspent}
 use Rattle.run_world.specs.RunGhosts.{ghost_of, world_of}
 use Rattle.run_world.proofs.Words.Moved.{seen_by}

@@ -17,7 +17,7 @@ use Rattle.fast_slow_engine.specs.Mechs.{Mech}
 use Rattle.fast_slow_engine.specs.Runs.{Move, IsMove, AreMoves, begun, run_of}
 use Rattle.offered_blocks.specs.Blocks.{Offer}
 use Rattle.run_laws.specs.Claims.{KeepsClaims, claims_of}
-use Rattle.run_laws.proofs.ClaimLemmas.{claims_hold}
+use Rattle.run_laws.proofs.BlocksClaimed.{claims_hold}
 use Rattle.run_world.specs.Ghosts.{Held, uses_block}
 use Rattle.run_world.specs.InHand.{BlockIn, ExecutesWith}
 use Rattle.run_world.specs.RunGhosts.{ghost_of, world_of}

@@ -1,12 +1,12 @@
 -- What all agree on: of an offered block by what holds of all blocks, since where its list has stopped it stays so; and of a
 -- completed record since it stays until its seat announces the next call.
 use Rattle.std.proofs.Common.{◌≡◌, refl, ap, sym, subst, ◌∙◌, ℕ, ◌<◌, List, [], ◌∷◌, ◌++◌, arith, inl, inr, ◌⊎◌, Some}
-use Rattle.word_fields.specs.declared.records.Phase.TheVariants.{Completed}
+use Rattle.word_fields.specs.declared.records.RecordPhase.TheVariants.{Completed}
 use Rattle.word_fields.specs.Records.{record_number, record_phase}
 use Rattle.normal_traits.specs.NormalForm.{NormalForm}
 use Rattle.normal_traits.specs.Laws.{Laws}
-use Rattle.cas_executor_laws.proofs.SiteLemmas.{stop_kept}
-use Rattle.help_queue_laws.proofs.Acts.LaterLemmas.{done_closed}
+use Rattle.cas_executor_laws.proofs.OfferedPartsKept.{stop_kept}
+use Rattle.help_queue_laws.proofs.Acts.LearntStays.{done_closed}
 use Rattle.help_queue_laws.proofs.Known.QueueWords.{not_both}
 use Rattle.help_queue_laws.proofs.Known.Scenes.{Later, Scene, scene_of}
 use Rattle.help_queue_laws.proofs.Steps.Results.{seat_word}
@@ -15,16 +15,16 @@ use Rattle.fast_slow_engine.specs.Runs.{AreMoves, Move, run_of}
 use Rattle.offered_blocks.specs.Blocks.{Offer, has_taken, site_of}
 use Rattle.offered_blocks.specs.HelperSteps.{HasStopped}
 use Rattle.offered_blocks.proofs.Blocks.Settled.{known_stop, stop_known}
-use Rattle.offered_blocks.proofs.LawLemmas.{stops_agree}
+use Rattle.offered_blocks.proofs.LawsOfBlocks.{stops_agree}
 use Rattle.run_queue.specs.Premises.{KeepsQueue}
 use Rattle.run_queue.specs.QueueGhosts.{queue_ghosts}
 use Rattle.run_queue.proofs.Runs.RunMoves.{runs_later}
 use Rattle.kept_knowledge.specs.RunGhosts.{ghost_of, world_of}
 use Rattle.kept_knowledge.specs.Kept.{RunsAreKept}
 use Rattle.kept_knowledge.proofs.InRuns.Leaves.{leaves}
-use Rattle.kept_knowledge.proofs.InRuns.Moved.{moves_before}
+use Rattle.kept_knowledge.proofs.InRuns.MovesInRuns.{moves_before}
 use Rattle.run_invariant.specs.Agreed.{BlocksAgreed, OutcomesFixed, record_after}
-use Rattle.run_invariant.proofs.Kept.Runs.{queues_kept}
+use Rattle.run_invariant.proofs.Kept.EveryRun.{queues_kept}
 
 -- the record of the seat is still this word, or of a later call
 abbrev IsOrWas : ℕ → ℕ → Scene → Type 0

@@ -8,7 +8,7 @@ use Rattle.normal_traits.specs.Laws.{Laws}
 use Rattle.normal_traits.specs.Steps.{put_word}
 use Rattle.cas_executor.specs.SlowRuns.{SlowWalk}
 use Rattle.cas_executor_laws.proofs.RunTurns.{same_entry}
-use Rattle.cas_executor_laws.proofs.SiteLemmas.{entry_at}
+use Rattle.cas_executor_laws.proofs.OfferedPartsKept.{entry_at}
 use Rattle.fast_slow_engine.specs.declared.setup.Setup.{Setup}
 use Rattle.fast_slow_engine.specs.Mechs.{Mech}
 use Rattle.fast_slow_engine.specs.Runs.{AreMoves, Move, run_of}

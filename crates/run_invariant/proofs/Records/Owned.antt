@@ -1,9 +1,9 @@
 -- Each list that took effect is owned after a move: where a seat announces a call, its lists of that call are dead or have made
 -- their change.
 use Rattle.std.proofs.Common.{◌≡◌, ◌∙◌, refl, sym, subst, ap, ℕ, ◌<◌, ◌⊎◌, false, inl, inr, List, ◌∷◌, slice_get, Option, Some, None, arith}
-use Rattle.word_fields.specs.declared.records.Phase.TheVariants as marks
+use Rattle.word_fields.specs.declared.records.RecordPhase.TheVariants as marks
 use Rattle.word_fields.specs.Records.{record_number, record_phase}
-use Rattle.word_fields.proofs.RecordLemmas.{number-word}
+use Rattle.word_fields.proofs.RecordWords.{number-word}
 use Rattle.node_arena.specs.MemoryMap.{record_place}
 use Rattle.help_queue.specs.Gathers.{is_open}
 use Rattle.normal_traits.specs.World.{Among, Change, Listed, World}
@@ -20,7 +20,7 @@ use Rattle.offered_blocks.specs.Blocks.{Offer}
 use Rattle.move_kinds.specs.Kinds.{Kind}
 use Rattle.move_kinds.specs.Kinds.Kind.{quiet, counts, fills, announces, publishes, queues, names, settles, completes, restarts, executes, beside, enters}
 use Rattle.move_kinds.specs.Owned.{AllOwned, AnnouncesNone, LeavesNone}
-use Rattle.move_kinds.proofs.LawLemmas.{owners_kept}
+use Rattle.move_kinds.proofs.LawsOfKinds.{owners_kept}
 use Rattle.run_queue.specs.Premises.{KeepsQueue}
 use Rattle.kept_knowledge.specs.Ghosts.{SeatGhost}
 use Rattle.kept_knowledge.specs.Lists.{HoldsIn}

@@ -5,10 +5,10 @@ use Rattle.std.specs.Prelude.{slice_index}
 use Rattle.std.proofs.lemmas.Bool.{cases_eq}
 use Rattle.lin_report.specs.declared.calls.Op.{Op}
 use Rattle.step_memory.specs.declared.steps.Seen.{Seen}
-use Rattle.word_fields.specs.declared.records.Phase.TheVariants as marks
+use Rattle.word_fields.specs.declared.records.RecordPhase.TheVariants as marks
 use Rattle.word_fields.specs.declared.records.RecordWord.{RecordWord}
 use Rattle.word_fields.specs.Records.{packed_record, record_of, record_phase, record_word}
-use Rattle.word_fields.proofs.RecordLemmas.{record_of-packed}
+use Rattle.word_fields.proofs.RecordWords.{record_of-packed}
 use Rattle.node_arena.specs.declared.places.TheConstants.{TICKS, QUEUE, CLAIMS}
 use Rattle.node_arena.specs.MemoryMap.{op_place, record_place, value_place}
 use Rattle.help_queue.specs.Gathers.{is_open}
@@ -38,7 +38,7 @@ use Rattle.helper_knowledge.specs.Callers.{Caller, caller_of}
 use Rattle.helper_knowledge.specs.Meetings.{won_offers}
 use Rattle.helper_knowledge.specs.WorkKnown.{KnowsWork, MayAdvance}
 use Rattle.helper_knowledge.specs.WorkKnown.MayAdvance.{offers_it, answers, exhausts, settles, completes, restarts}
-use Rattle.helper_knowledge.proofs.LawLemmas.{advances_are_right}
+use Rattle.helper_knowledge.proofs.LawsOfHelpers.{advances_are_right}
 use Rattle.run_laws.proofs.Steps.{move_steps}
 use Rattle.run_queue.specs.Fits.{PhaseFits}
 use Rattle.run_queue.specs.Premises.{KeepsQueue, LeavesQueue, helps_for_client, is_for_client}

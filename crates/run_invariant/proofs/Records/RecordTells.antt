@@ -2,10 +2,10 @@
 use Rattle.std.proofs.Common.{◌≡◌, ◌≢◌, ◌∙◌, refl, sym, subst, ap, ℕ, ◌<◌, Bool, true, false, inl, inr, List, ◌∷◌, slice_get, Option, Some, None, arith}
 use Rattle.std.proofs.lemmas.Bool.{cases_Bool}
 use Rattle.lin_report.specs.declared.calls.Op.{Op}
-use Rattle.word_fields.specs.declared.records.Phase.{Phase as Mark}
-use Rattle.word_fields.specs.declared.records.Phase.TheVariants as marks
+use Rattle.word_fields.specs.declared.records.RecordPhase.{RecordPhase as Mark}
+use Rattle.word_fields.specs.declared.records.RecordPhase.TheVariants as marks
 use Rattle.word_fields.specs.Records.{record_number, record_of, record_payload, record_word}
-use Rattle.word_fields.proofs.RecordLemmas.{phase-word}
+use Rattle.word_fields.proofs.RecordWords.{phase-word}
 use Rattle.node_arena.specs.MemoryMap.{record_place}
 use Rattle.op_record.specs.Outcomes.{outcome_of}
 use Rattle.normal_traits.specs.World.{Called, World}
@@ -23,7 +23,7 @@ use Rattle.fast_slow_engine.proofs.SameCalls.{same_fed}
 use Rattle.offered_blocks.specs.Blocks.{Offer}
 use Rattle.offered_blocks.specs.Records.{MadeNone, RecordIsRight, RecordTells}
 use Rattle.move_kinds.specs.Owned.{RecordKnown}
-use Rattle.move_kinds.proofs.LawLemmas.{records_kept}
+use Rattle.move_kinds.proofs.LawsOfKinds.{records_kept}
 use Rattle.helper_knowledge.specs.Callers.{Caller, called, caller_of}
 use Rattle.run_queue.specs.Premises.{KeepsQueue}
 use Rattle.run_queue.proofs.Runs.RunMoves.{runs_queued}

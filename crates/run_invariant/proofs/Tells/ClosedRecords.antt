@@ -1,8 +1,8 @@
 -- While the record of a seat is closed, a move makes no change of a call of the seat but by the list that the seat holds.
 use Rattle.std.proofs.Common.{◌≡◌, ◌∙◌, sym, subst, ap, ℕ, ◌<◌, false, ◌⊎◌, inl, inr, List, ◌∷◌, slice_get, Option, Some, None, AllPairs}
 use Rattle.std.proofs.lemmas.Bool.{cases_eq}
-use Rattle.word_fields.specs.declared.records.Phase.{Phase as Mark}
-use Rattle.word_fields.specs.declared.records.Phase.TheVariants.{Executing, Wrapping}
+use Rattle.word_fields.specs.declared.records.RecordPhase.{RecordPhase as Mark}
+use Rattle.word_fields.specs.declared.records.RecordPhase.TheVariants.{Executing, Wrapping}
 use Rattle.word_fields.specs.Records.{record_number, record_phase}
 use Rattle.node_arena.specs.MemoryMap.{record_place}
 use Rattle.help_queue.specs.Gathers.{is_open}
@@ -51,12 +51,12 @@ module _ {S W : Type 0} (form : NormalForm S W) (laws : Laws form) (setup : Setu
   -- a dead list makes no change
   dead_not : {A : Type 0} (change : Change) → Among change after.changes → form.dead change.list world → A
   dead_not change among gone =
-      absurd (laws.dead_unchanged after change.list change shape (laws.dead_kept world after change.list kept.holds.shape gone (allowed form laws setup older move mech are at kept)) among (λ i. change.list))
+      absurd (laws.of_world.dead_unchanged after change.list change shape (laws.dead_kept world after change.list kept.holds.shape gone (allowed form laws setup older move mech are at kept)) among (λ i. change.list))
 
   -- and a list that made its change makes no other
   once : {A : Type 0} (change old : Change) → after.changes ≡ change ∷ world.changes → Among old world.changes → old.list ≡ change.list → A
   once change old made among of =
-      absurd (first_differs change world.changes old (subst (AllPairs DifferentLists) made (laws.one_change_a_list after shape)) among (ap (λ (l : Listed). l.identity) (sym of)))
+      absurd (first_differs change world.changes old (subst (AllPairs DifferentLists) made (laws.of_world.one_change_a_list after shape)) among (ap (λ (l : Listed). l.identity) (sym of)))
 
   -- what the seat of a list holds, if it is that list
   abbrev With : Listed → Type 0

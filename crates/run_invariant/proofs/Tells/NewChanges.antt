@@ -84,7 +84,7 @@ module _ {S W : Type 0} (form : NormalForm S W) (laws : Laws form) (setup : Setu
   beside_new None entry adds made change among = same_changes made change among
   beside_new (Some list) entry adds made change among =
       elim (subst (Among change) made among) [
-        | inl new ↦ inr (took (subst (λ (c : Change). Took world c.list 0) (sym new) (laws.beside world list entry kept.holds.shape adds).1) (made ∙ ap (λ (c : Change). c ∷ world.changes) (sym new)))
+        | inl new ↦ inr (took (subst (λ (c : Change). Took world c.list 0) (sym new) (laws.of_world.beside world list entry kept.holds.shape adds).1) (made ∙ ap (λ (c : Change). c ∷ world.changes) (sym new)))
         | inr old ↦ inl old
       ]
 

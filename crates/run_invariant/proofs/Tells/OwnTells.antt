@@ -9,8 +9,8 @@ use Rattle.std.specs.Prelude.{unwrap_or}
 use Rattle.step_memory.specs.declared.steps.Seen.{Seen}
 use Rattle.step_memory.specs.Step.{seen_of, words_after}
 use Rattle.step_memory.proofs.Words.{load_keeps, load_tells}
-use Rattle.word_fields.specs.declared.records.Phase.{Phase as Mark}
-use Rattle.word_fields.specs.declared.records.Phase.TheVariants.{Completed}
+use Rattle.word_fields.specs.declared.records.RecordPhase.{RecordPhase as Mark}
+use Rattle.word_fields.specs.declared.records.RecordPhase.TheVariants.{Completed}
 use Rattle.word_fields.specs.Records.{record_number, record_of, record_payload, record_phase}
 use Rattle.node_arena.specs.declared.places.TheConstants.{NODE_VALUE}
 use Rattle.node_arena.specs.MemoryMap.{node_place, record_place}

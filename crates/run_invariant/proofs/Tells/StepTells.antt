@@ -9,7 +9,7 @@ use Rattle.lin_report.specs.Object.{IsCommandOf}
 use Rattle.step_memory.specs.declared.steps.Seen.{Seen}
 use Rattle.node_arena.specs.declared.places.TheConstants.{NODE_VALUE}
 use Rattle.node_arena.specs.MemoryMap.{block_at, node_place}
-use Rattle.node_arena.proofs.PlaceLemmas.{block_at-node_place}
+use Rattle.node_arena.proofs.PlacesApart.{block_at-node_place}
 use Rattle.help_queue.specs.declared.enter.Entering.{Entering}
 use Rattle.help_queue.specs.declared.enter.Entering.TheVariants as entering_to
 use Rattle.help_queue.specs.Enters.{Owner, enter_fed, entering, outcome_or_done}
@@ -125,7 +125,7 @@ module _ {S W : Type 0} (form : NormalForm S W) (laws : Laws form) (after : Worl
   wrapped_tells (wrapped.Done outcome) w fed stop mech held call made well = told_tells outcome mech (Some held) (changed held.list call well.0 well.1 made)
   wrapped_tells wrapped.Restart w fed stop mech held call made well =
       tried_tells (Some held) (record mech { failures = min (mech.failures + 1) mech.setup.limit })
-      (λ change among of. laws.dead_unchanged after held.list change shape well among (made change among of))
+      (λ change among of. laws.of_world.dead_unchanged after held.list change shape well among (made change among of))
 
   -- ---- the queue
 

@@ -148,7 +148,7 @@ module _ {S W : Type 0} (form : NormalForm S W) where
     request_answers request world after seen shape (won place from to stood raised) well =
         let entry : Entry = record { target = place; from = from; to = to } in
         exchange_answers world Beside (form.adds_beside world entry) entry to (λ one j is. beside_by one j is)
-        (λ one is. (let before = (laws.beside world one entry shape is).1 in well.listed one 0 _ before.won refl)) well
+        (λ one is. (let before = (laws.of_world.beside world one entry shape is).1 in well.listed one 0 _ before.won refl)) well
 
     -- every allowed step keeps it
     pub answers_kept : (world after : World) → form.shape world → IsStep form world after → AnswersWell world → AnswersWell after

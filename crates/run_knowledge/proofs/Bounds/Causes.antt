@@ -49,9 +49,9 @@ module _ {S W : Type 0} (form : NormalForm S W) where
   -- the journal is no longer than there are causes
   pub journal_few : (world : World) (cap : ℕ) → Laws form → form.shape world → ((block : ℕ) → world.used block ≡ true → block ≤ cap) → length world.journal ≤ 8 * (cap + 1)
   journal_few world cap laws shape used =
-      let bounded = laws.causes_bounded world shape in
+      let bounded = laws.of_world.causes_bounded world shape in
       let differ : AllPairs (λ (a b : Won). cause_code a ≢ cause_code b) world.journal =
-      λ i j d before inside. λ same. laws.causes_differ world shape i j d before inside
+      λ i j d before inside. λ same. laws.of_world.causes_differ world shape i j d before inside
       (same_cause (get_or world.journal i d) (get_or world.journal j d) (bounded i d (omega (arith, before, inside))).1 (bounded j d inside).1 same) in
       let below : All (λ (won : Won). cause_code won < 8 * (cap + 1)) world.journal =
       λ i d inside. code_below cap (get_or world.journal i d) (used _ (bounded i d inside).0) (bounded i d inside).1 in

@@ -7,7 +7,7 @@ use Rattle.fast_slow_engine.specs.declared.setup.Setup.{Setup}
 use Rattle.fast_slow_engine.specs.Runs.{Move, AreMoves, run_of}
 use Rattle.helper_knowledge.specs.HelperStep.{UsedSmall}
 use Rattle.run_laws.specs.Claims.{KeepsClaims}
-use Rattle.run_laws.proofs.PremiseLemmas.{client_keeps_claims}
+use Rattle.run_laws.proofs.CountersLeft.{client_keeps_claims}
 use Rattle.run_queue.specs.Premises.{KeepsQueue}
 use Rattle.run_world.specs.RunGhosts.{world_of}
 use Rattle.run_hands.proofs.Blocks.Counts.{queue_kept}

@@ -3,8 +3,8 @@ use Rattle.std.proofs.Common.{◌≡◌, ◌∙◌, refl, ap, ℕ, ◌<◌, ◌�
 use Rattle.std.proofs.lemmas.Bool.Decides.{nat_tests}
 use Rattle.step_memory.proofs.Words.{length-words_after}
 use Rattle.node_arena.specs.MemoryMap.{words_of, block_at, field_at, is_root_place}
-use Rattle.node_arena.proofs.OpeningLemmas.{length-opening_words}
-use Rattle.node_arena.proofs.PlaceLemmas.{block_place_inside, field_at_below, place_split}
+use Rattle.node_arena.proofs.ZerosOpen.{length-opening_words}
+use Rattle.node_arena.proofs.PlacesApart.{block_place_inside, field_at_below, place_split}
 use Rattle.normal_traits.specs.World.{World, is_state, is_word}
 use Rattle.normal_traits.specs.NormalForm.{NormalForm}
 use Rattle.fast_slow_engine.specs.declared.setup.Setup.{Setup}

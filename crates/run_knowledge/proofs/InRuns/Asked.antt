@@ -5,14 +5,14 @@ use Rattle.std.proofs.lemmas.Bool.Decides.{nat_tests}
 use Rattle.step_memory.specs.declared.steps.Request.{Request}
 use Rattle.step_memory.specs.declared.steps.Request.TheVariants.{Load, Store, Exchange, Add}
 use Rattle.step_memory.specs.declared.steps.Seen.{Seen}
-use Rattle.step_memory.specs.Step.{place_of, seen_at, seen_of, word_after, words_after}
+use Rattle.step_memory.specs.Step.{requested_place, seen_at, seen_of, word_after, words_after}
 use Rattle.normal_traits.specs.World.{World}
 use Rattle.normal_traits.specs.NormalForm.{NormalForm}
 use Rattle.normal_traits.specs.Steps.{Requested, put_word, with_word}
 use Rattle.normal_traits.specs.Steps.Requested.{loaded, lost, won}
 use Rattle.run_world.specs.Worlds.{asked_beside}
 use Rattle.run_world.proofs.Words.Moved.{with_list}
-use Rattle.run_world.proofs.Words.WordLemmas.{word_in, words_move}
+use Rattle.run_world.proofs.Words.WordsAfterMoves.{word_in, words_move}
 use Rattle.run_knowledge.specs.InMemory.{AsksInside}
 
 -- a world with these words
@@ -20,11 +20,11 @@ abbrev pub of_words : (ℕ → ℕ) → World → World
 of_words words world = record { words = words; changes = world.changes; used = world.used; journal = world.journal }
 
 -- what a request tells of a word of the memory
-pub seen_inside : (request : Request) (words : List ℕ) → place_of request < length words → seen_at request (word_in words (place_of request)) ≡ seen_of request words
+pub seen_inside : (request : Request) (words : List ℕ) → requested_place request < length words → seen_at request (word_in words (requested_place request)) ≡ seen_of request words
 unfolding seen_of
 seen_inside request words inside =
     let past : Seen = record { before = 0; won = false } in
-    ap (λ b. if b then seen_at request (word_in words (place_of request)) else past) (sym (lt-ltb (place_of request) (length words) inside))
+    ap (λ b. if b then seen_at request (word_in words (requested_place request)) else past) (sym (lt-ltb (requested_place request) (length words) inside))
 
 module _ (words : List ℕ) (world : World) where
   abbrev pub here : World

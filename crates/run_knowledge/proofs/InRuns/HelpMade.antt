@@ -3,7 +3,7 @@ use Rattle.std.proofs.Common.{◌≡◌, ◌∙◌, refl, sym, ap, ℕ, ◌+◌,
 use Rattle.std.proofs.lemmas.Bool.{lt-ltb}
 use Rattle.lin_report.specs.declared.calls.Op.{Op}
 use Rattle.step_memory.specs.declared.steps.Seen.{Seen}
-use Rattle.step_memory.specs.Step.{place_of, seen_of, words_after}
+use Rattle.step_memory.specs.Step.{requested_place, seen_of, words_after}
 use Rattle.step_memory.proofs.Words.{load_tells, word_at_place, word_elsewhere}
 use Rattle.word_fields.specs.Records.{packed_record, record_of}
 use Rattle.node_arena.specs.declared.places.TheConstants.{CLAIMS}
@@ -33,7 +33,7 @@ use Rattle.helper_knowledge.specs.Meetings.{won_offers}
 use Rattle.run_world.specs.SeatSteps.{filled_helped, filled_worked, helps_on, named_if, offers_helped, offers_worked, works_on}
 use Rattle.run_world.specs.Worlds.{asked_named, world_helped, world_worked}
 use Rattle.run_world.proofs.Words.Moved.{with_list}
-use Rattle.run_world.proofs.Words.WordLemmas.{word_in}
+use Rattle.run_world.proofs.Words.WordsAfterMoves.{word_in}
 use Rattle.step_knowledge.specs.Moves.{Advances, HelpSteps, WorkSteps}
 use Rattle.step_knowledge.specs.Moves.Advances.{lost, won}
 use Rattle.run_knowledge.specs.InMemory.{HelpInside, WorkInside}
@@ -105,7 +105,7 @@ module _ {S W : Type 0} (form : NormalForm S W) (words : List ℕ) (world : Worl
   ran_words offer j true None ws = refl
   ran_words offer j true (Some entry) ws = refl
 
-  execute_steps : (run : SlowWalk) (word : ℕ) → place_of (slow_request run) < length words → Stepped (work.Execute run) word
+  execute_steps : (run : SlowWalk) (word : ℕ) → requested_place (slow_request run) < length words → Stepped (work.Execute run) word
   execute_steps run word inside =
       let request = slow_request run in
       let seen = seen_of request words in (

@@ -3,8 +3,8 @@
 use Rattle.std.proofs.Common.{◌≡◌, ◌∙◌, refl, sym, subst, ap, ℕ, ◌<◌, ◌≤◌, Bool, true, false, inl, inr, List, slice_get, Option, Some, arith}
 use Rattle.std.proofs.lemmas.Option.{slice_get_cases}
 use Rattle.lin_report.specs.declared.calls.Outcome.{Outcome}
-use Rattle.word_fields.specs.declared.records.Phase as marks
-use Rattle.word_fields.specs.declared.records.Phase.TheVariants as record_phases
+use Rattle.word_fields.specs.declared.records.RecordPhase as marks
+use Rattle.word_fields.specs.declared.records.RecordPhase.TheVariants as record_phases
 use Rattle.word_fields.specs.Records.{record_number, record_of, record_payload, record_phase}
 use Rattle.node_arena.specs.MemoryMap.{record_place}
 use Rattle.help_queue.specs.Gathers.{is_open}
@@ -31,7 +31,7 @@ use Rattle.helper_knowledge.specs.Callers.{Caller, HasAnnounced, called, caller_
 use Rattle.helper_knowledge.specs.HelperStep.{RestsOn}
 use Rattle.helper_knowledge.specs.Meetings.{IsNew}
 use Rattle.helper_knowledge.specs.WorkKnown.{NamedBy}
-use Rattle.helper_knowledge.proofs.LawLemmas.{wins_meet}
+use Rattle.helper_knowledge.proofs.LawsOfHelpers.{wins_meet}
 use Rattle.run_queue.specs.QueueGhosts.{queue_ghosts}
 use Rattle.run_queue.specs.QueueLaws.{Advances, HelpingAdvances, Publishes}
 use Rattle.run_queue.specs.QueueViews.{next_number, phase_view}
@@ -94,7 +94,7 @@ module _ {S W : Type 0} (form : NormalForm S W) (laws : Laws form) (setup : Setu
         })
 
     -- what its record names, if it is open
-    names_by : (p : marks.Phase) (word : ℕ) (told : Option Outcome) → record_number word ≡ mate.number → RecordTells form world offers (called mate) (begun_at head) p (record_payload word) told → NamedBy form world offers p head word
+    names_by : (p : marks.RecordPhase) (word : ℕ) (told : Option Outcome) → record_number word ≡ mate.number → RecordTells form world offers (called mate) (begun_at head) p (record_payload word) told → NamedBy form world offers p head word
     names_by record_phases.Idle word told number tells = tt
     names_by record_phases.Generate word told number tells = tt
     names_by record_phases.Executing word told number tells =

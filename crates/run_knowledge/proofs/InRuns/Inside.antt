@@ -4,11 +4,11 @@ use Rattle.std.proofs.lemmas.Option.{slice_get_cases}
 use Rattle.arrayvec.specs.ArrayVec.{ArrayVec}
 use Rattle.step_memory.specs.declared.steps.Request.{Request}
 use Rattle.step_memory.specs.declared.steps.Request.TheVariants.{Load, Store, Exchange, Add}
-use Rattle.step_memory.specs.Step.{place_of}
+use Rattle.step_memory.specs.Step.{requested_place}
 use Rattle.word_fields.specs.Versioned.{versioned_version}
-use Rattle.word_fields.proofs.VersionedLemmas.{version-changed_below}
+use Rattle.word_fields.proofs.ChangedWords.{version-changed_below}
 use Rattle.node_arena.specs.MemoryMap.{block_place}
-use Rattle.node_arena.proofs.PlaceLemmas.{block_place_inside}
+use Rattle.node_arena.proofs.PlacesApart.{block_place_inside}
 use Rattle.normal_traits.specs.declared.lists.Entry.{Entry}
 use Rattle.normal_traits.specs.World.{World}
 use Rattle.normal_traits.specs.NormalForm.{NormalForm}
@@ -59,7 +59,7 @@ module _ {S W : Type 0} (form : NormalForm S W) (laws : Laws form) (setup : Setu
 
   pub wrap_inside : (wrap : W) (held : Option (Held S)) → OfSome (KnowsWrap form world wrap) held → AsksInside (form.wrap_request_of wrap) words
   wrap_inside wrap None knows = absurd knows
-  wrap_inside wrap (Some held) knows = asks_inside (form.wrap_request_of wrap) (laws.wrap_asks_well world wrap held.list held.stop kept.holds.shape knows.wraps knows.follows)
+  wrap_inside wrap (Some held) knows = asks_inside (form.wrap_request_of wrap) (laws.of_world.wrap_asks_well world wrap held.list held.stop kept.holds.shape knows.wraps knows.follows)
 
   pub fill_inside : (run : FastWalk) (stores : ArrayVec (ℕ × ℕ)) (made : ℕ) (mech : Mech S W) (held : Option (Held S)) → ((block : ℕ) → mech.hand ≡ Some block → (0 < block) × (block ≤ setup.cap)) → form.needs_block mech.op ≡ true
       → OfSome (λ (h : Held S). mech.hand ≡ Some h.list.block) held → OfSome (IsOffering form run stores mech) held → OfSome (KnowsFill form world run stores made) held → StoresInside (slice_get stores.items made) words
@@ -88,7 +88,7 @@ module _ {S W : Type 0} (form : NormalForm S W) (laws : Laws form) (setup : Setu
 
   -- ---- a named list
 
-  step_inside : (at : SlowStep) (block j : ℕ) (entry : Entry) → block ≤ setup.cap → j < 2 → entry.target < length words → place_of (step_request block j entry at) < length words
+  step_inside : (at : SlowStep) (block j : ℕ) (entry : Entry) → block ≤ setup.cap → j < 2 → entry.target < length words → requested_place (step_request block j entry at) < length words
   step_inside slow.LoadState block j entry within few target = field_inside block (9 + j) within (omega (arith, few))
   step_inside slow.Install block j entry within few target = target
   step_inside slow.LoadTarget block j entry within few target = target
@@ -97,9 +97,9 @@ module _ {S W : Type 0} (form : NormalForm S W) (laws : Laws form) (setup : Setu
   step_inside slow.LoadDecision block j entry within few target = field_inside block (9 + j) within (omega (arith, few))
   step_inside slow.Clear block j entry within few target = target
 
-  pub slow_inside : (run : SlowWalk) → run.block ≤ setup.cap → run.next < 2 → ((entry : Entry) → slice_get run.entries run.next ≡ Some entry → entry.target < length words) → place_of (slow_request run) < length words
+  pub slow_inside : (run : SlowWalk) → run.block ≤ setup.cap → run.next < 2 → ((entry : Entry) → slice_get run.entries run.next ≡ Some entry → entry.target < length words) → requested_place (slow_request run) < length words
   slow_inside run within few targets = by_entry (slice_get run.entries run.next) refl
     where
-      by_entry : (entry : Option Entry) → slice_get run.entries run.next ≡ entry → place_of (request_at run entry) < length words
+      by_entry : (entry : Option Entry) → slice_get run.entries run.next ≡ entry → requested_place (request_at run entry) < length words
       by_entry None at = (let count = words_count form setup older are in omega (arith, count))
       by_entry (Some entry) at = step_inside run.step run.block run.next entry within few (targets entry at)

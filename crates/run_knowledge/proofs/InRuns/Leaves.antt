@@ -13,7 +13,7 @@ use Rattle.offered_blocks.specs.Holds.{HasOffers}
 use Rattle.move_kinds.specs.Kinds.{Kind}
 use Rattle.move_kinds.specs.Moves.{Leaves}
 use Rattle.move_kinds.proofs.KindsLeave.{kind_leaves}
-use Rattle.move_kinds.proofs.LawLemmas.{kinds_keep_blocks}
+use Rattle.move_kinds.proofs.LawsOfKinds.{kinds_keep_blocks}
 use Rattle.run_world.specs.RunGhosts.{ghost_of, world_of}
 use Rattle.run_knowledge.specs.Kept.{IsKept}
 use Rattle.run_knowledge.proofs.InRuns.MovesKinds.{moves_are_kinds}

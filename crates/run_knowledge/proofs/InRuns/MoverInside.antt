@@ -42,7 +42,7 @@ module _ {S W : Type 0} (form : NormalForm S W) (laws : Laws form) (setup : Setu
   offer_inside caller head word block stores made None within knows = absurd knows
   offer_inside caller head word block stores made (Some offer) within knows =
       let offered = knows.offered in
-      let good = laws.offers world offer.offering offer.list.call.op offer.since offer.list.block offered.command kept.holds.shape offered.knows offered.ready offered.small in
+      let good = laws.of_world.offers world offer.offering offer.list.call.op offer.since offer.list.block offered.command kept.holds.shape offered.knows offered.ready offered.small in
       let all : All (IsGoodStore form block) (form.offer_of offer.offering offer.list.call.op block).stores =
       subst (λ b. All (IsGoodStore form b) (form.offer_of offer.offering offer.list.call.op b).stores) knows.block_is good.stores in
       λ store at. (
@@ -58,7 +58,7 @@ module _ {S W : Type 0} (form : NormalForm S W) (laws : Laws form) (setup : Setu
   work_inside caller head word hand own work.Op small fits knows = tt
   work_inside caller head word hand own (work.Value op) small fits knows = tt
   work_inside caller head word hand own (work.Generate op s Search) small fits knows =
-      asks_inside form laws setup older are kept (form.request_of s) (laws.search_asks_well world s op own.since knows.1.command kept.holds.shape knows.2 knows.1.knows)
+      asks_inside form laws setup older are kept (form.request_of s) (laws.of_world.search_asks_well world s op own.since knows.1.command kept.holds.shape knows.2 knows.1.knows)
   work_inside caller head word hand own (work.Generate op s LookForBlock) small fits knows = tt
   work_inside caller head word hand own (work.Generate op s Claim) small fits knows = tt
   work_inside caller head word hand own (work.Fill stores made) small fits knows =
@@ -75,4 +75,4 @@ module _ {S W : Type 0} (form : NormalForm S W) (laws : Laws form) (setup : Setu
       slow_inside form laws setup older are kept run (subst (λ b. b ≤ setup.cap) (sym here) claimed.within) (let within = known.within in let short = mine.site.short in omega (arith, within, short))
       (λ entry at. bounds.inside form setup older are kept entry.target (mine.targets run.next entry (ap (λ (l : List Entry). slice_get l run.next) (sym known.entries) ∙ at)).0)
   work_inside caller head word hand own (work.Wrap wrap) small fits knows =
-      asks_inside form laws setup older are kept (form.wrap_request_of wrap) (laws.wrap_asks_well world wrap knows.1.0.list _ kept.holds.shape knows.1.3 knows.1.4)
+      asks_inside form laws setup older are kept (form.wrap_request_of wrap) (laws.of_world.wrap_asks_well world wrap knows.1.0.list _ kept.holds.shape knows.1.3 knows.1.4)

@@ -54,7 +54,7 @@ module _ {S W : Type 0} (form : NormalForm S W) (laws : Laws form) (setup : Setu
   phase_inside : (p : Phase S W) → mech.phase ≡ p → MakesCommand form p mech → KnowsIn form p mech own (world_of form setup older) (ghost_of form setup older).offers callers → HoldsIn form p mech own.held → BlockIn form p mech own.held
       → PhaseFits setup.seats p → PhaseInside form p words
   phase_inside (phase.Generate s Search) is command knows lists block fits =
-      asks_inside form laws setup older are.0 kept (form.request_of s) (laws.search_asks_well (world_of form setup older) s mech.op own.carried.since command kept.holds.shape knows.0 knows.1)
+      asks_inside form laws setup older are.0 kept (form.request_of s) (laws.of_world.search_asks_well (world_of form setup older) s mech.op own.carried.since command kept.holds.shape knows.0 knows.1)
   phase_inside (phase.Generate s LookForBlock) is command knows lists block fits = tt
   phase_inside (phase.Generate s Claim) is command knows lists block fits = tt
   phase_inside (phase.Apply run stores (Fill made)) is command knows lists block fits = fill_inside form laws setup older are.0 kept run stores made mech own.held hand_within block.0 block.2 lists knows

@@ -33,7 +33,7 @@ use Rattle.run_world.specs.Lists.{IsOffering}
 use Rattle.run_world.specs.Ghosts.{Held, uses_block}
 use Rattle.run_world.specs.Worlds.{asked_listed, won_entry, world_stepped}
 use Rattle.run_world.proofs.Words.Moved.{with_list}
-use Rattle.run_world.proofs.Words.WordLemmas.{word_in}
+use Rattle.run_world.proofs.Words.WordsAfterMoves.{word_in}
 use Rattle.step_knowledge.specs.Moves.{Announces, Enters, OwnSteps, Puts}
 use Rattle.step_knowledge.specs.Moves.Enters.{misses, wins}
 use Rattle.run_knowledge.specs.InMemory.{IsInside}

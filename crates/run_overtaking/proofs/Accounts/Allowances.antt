@@ -9,7 +9,7 @@ use Rattle.run_overtaking.specs.Waiting.{position}
 use Rattle.run_overtaking.specs.Counts.{allowance}
 use Rattle.run_overtaking.specs.Accounts.{sum_below, overtakers, most_overtaken}
 use Rattle.run_overtaking.proofs.Accounts.Places.{here, behind, in_rest, position_below, out_past}
-use Rattle.run_overtaking.proofs.Accounts.Sums.{sum_add, sum_but, sum_grows, sum_zero}
+use Rattle.run_overtaking.proofs.Accounts.SeatSums.{sum_add, sum_but, sum_grows, sum_zero}
 
 lt_suc : (a b : ℕ) → nat_lt (suc a) (suc b) ≡ nat_lt a b
 lt_suc a b = elim (cases_lt a b) [ inl less ↦ lt-ltb (suc a) (suc b) (omega (arith, less)) ∙ sym (lt-ltb a b less) | inr past ↦ le-ltb (suc a) (suc b) (omega (arith, past)) ∙ sym (le-ltb a b past) ]

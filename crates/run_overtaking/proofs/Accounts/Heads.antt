@@ -17,11 +17,11 @@ use Rattle.help_queue.specs.declared.remove.RemoveStage.{RemoveStage}
 use Rattle.help_queue.specs.declared.remove.RemoveStage.TheVariants as remove
 use Rattle.help_queue.specs.Gathers.{gather_over, is_open, leads, removed_word}
 use Rattle.help_queue.specs.Removes.{Removal, completes, remove_new, removing_in, remove_request_in}
-use Rattle.help_queue.proofs.GatherLemmas.{written_seats, are_behind}
+use Rattle.help_queue.proofs.SeatsGathered.{written_seats, are_behind}
 use Rattle.help_queue_laws.specs.declared.phases.Helping as seen_at
 use Rattle.help_queue_laws.specs.declared.phases.Helping.TheVariants as at
-use Rattle.help_queue_laws.specs.declared.phases.Phase as queue
-use Rattle.help_queue_laws.specs.declared.phases.Phase.TheVariants as in_queue
+use Rattle.help_queue_laws.specs.declared.phases.QueuePhase as queue
+use Rattle.help_queue_laws.specs.declared.phases.QueuePhase.TheVariants as in_queue
 use Rattle.help_queue_laws.specs.Ghosts.{Ghosts}
 use Rattle.help_queue_laws.proofs.Known.Scenes.{Scene, scene_of, IsClosed, IsDone, IsHead, IsSound, Later}
 use Rattle.help_queue_laws.proofs.Known.Knowledge.{HelpFacts, RemoveFacts, IsRemovalOf}
@@ -51,7 +51,7 @@ HeadFacts a n s (at.Complete word) = (n ≤ record_number word) × (record_numbe
 HeadFacts a n s (at.Removes removal) = (n ≤ removal.number) × (removal.number ≤ record_number (a.records s)) × (record_number (a.records s) ≡ removal.number → IsClosed a s)
 
 -- so knows a seat that helps since its look
-abbrev pub LookFacts : Scene → ℕ → queue.Phase → Type 0
+abbrev pub LookFacts : Scene → ℕ → queue.QueuePhase → Type 0
 LookFacts a n (in_queue.Helps s false at') = HeadFacts a n s at'
 LookFacts a n _ = Unit {0}
 
@@ -65,7 +65,7 @@ module _ (seats who : ℕ) (a b : Scene) (l : Later seats who a b) (n : ℕ) whe
   head_later s (at.Complete word) h = (h.0, let up = number_rises seats who a b l s in let low = h.1 in omega (arith, low, up))
   head_later s (at.Removes removal) h = (h.0, let up = number_rises seats who a b l s in let low = h.1 in omega (arith, low, up), closed_stays seats who a b l s removal.number h.1 h.2)
 
-  pub look_later : (phase : queue.Phase) → LookFacts a n phase → LookFacts b n phase
+  pub look_later : (phase : queue.QueuePhase) → LookFacts a n phase → LookFacts b n phase
   look_later in_queue.Look h = tt
   look_later in_queue.StoreValue h = tt
   look_later in_queue.StoreOp h = tt

@@ -17,22 +17,22 @@ use Rattle.run_overtaking.proofs.Accounts.Scenes.{Dropped, queue_goes, nearer, p
 abbrev pub ahead_in : Scene → ℕ → ℕ → Bool
 ahead_in a u x = waits_ahead a.queue a.records u x
 
-abbrev pub place_of : Scene → ℕ → ℕ
-place_of a t = position t (queue_seats a.queue)
+abbrev pub queue_place : Scene → ℕ → ℕ
+queue_place a t = position t (queue_seats a.queue)
 
-ahead_from : (a : Scene) (u x : ℕ) → place_of a u < place_of a x → IsOpen a u → ahead_in a u x ≡ true
-ahead_from a u x less opened = ap (λ b. b && is_open (record_phase (a.records u))) (lt-ltb (place_of a u) (place_of a x) less) ∙ opened
+ahead_from : (a : Scene) (u x : ℕ) → queue_place a u < queue_place a x → IsOpen a u → ahead_in a u x ≡ true
+ahead_from a u x less opened = ap (λ b. b && is_open (record_phase (a.records u))) (lt-ltb (queue_place a u) (queue_place a x) less) ∙ opened
 
 -- what it says of the two: they stand in this order, and u is in the word with an open record
 record Ahead (a : Scene) (u x : ℕ) : Type 0 where
-  pub less : place_of a u < place_of a x
+  pub less : queue_place a u < queue_place a x
   pub in' : IsIn a u
   pub opened : IsOpen a u
 
 ahead_parts : (a : Scene) (u x : ℕ) → IsIn a x → ahead_in a u x ≡ true → Ahead a u x
 ahead_parts a u x in' h =
-    let parts = and_parts (nat_lt (place_of a u) (place_of a x)) (is_open (record_phase (a.records u))) h in
-    let less = ltb-true (place_of a u) (place_of a x) parts.0 in
+    let parts = and_parts (nat_lt (queue_place a u) (queue_place a x)) (is_open (record_phase (a.records u))) h in
+    let less = ltb-true (queue_place a u) (queue_place a x) parts.0 in
     let below = position_below x (queue_seats a.queue) in' in
     record { less = less; in' = place_in u (queue_seats a.queue) (omega (arith, less, below)); opened = parts.1 }
 
@@ -64,7 +64,7 @@ module _ (b : Scene) (sound : IsSound b) (x u : ℕ) (in' : IsIn b x) (held : Bo
             omega (arith, is, first))
       ]
 
-  pub publishes : KeepsAccount (allowance x u (queue_seats b.queue)) 0 (place_of b x) (place_of b u) (ahead_in b u x) held
+  pub publishes : KeepsAccount (allowance x u (queue_seats b.queue)) 0 (queue_place b x) (queue_place b u) (ahead_in b u x) held
   publishes = record {
     before = λ h. (let parts = ahead_parts b u x in' h in let less = parts.less in let is = allowed_ahead less in (refl, omega (arith, is, less)));
     since = λ none. (let is = allowed_since none in record { loose = omega (arith, is); strict = λ _. omega (arith, is) });
@@ -73,19 +73,19 @@ module _ (b : Scene) (sound : IsSound b) (x u : ℕ) (in' : IsIn b x) (held : Bo
 -- ---- the call waits on
 
 module _ (seats who : ℕ) (a b : Scene) (l : Later seats who a b) (x u : ℕ) (in' : IsIn a x) (opens : IsOpen a x) where
-  out_stays : holds a.queue u ≡ false → place_of b x ≤ place_of b u
+  out_stays : holds a.queue u ≡ false → queue_place b x ≤ queue_place b u
   out_stays out =
       let below = position_below x (queue_seats a.queue) in' in
       elim (queue_goes seats who a b l) [
         | inl behind ↦ (
-            let far : length (queue_seats a.queue) ≤ place_of b u = subst (λ qs. length (queue_seats a.queue) ≤ position u qs) (sym behind.1) (out_behind u (queue_seats a.queue) behind.0 out) in
+            let far : length (queue_seats a.queue) ≤ queue_place b u = subst (λ qs. length (queue_seats a.queue) ≤ position u qs) (sym behind.1) (out_behind u (queue_seats a.queue) behind.0 out) in
             elim (places seats who a b l x in' opens) [ inl same ↦ omega (arith, far, below, same) | inr near ↦ omega (arith, far, below, near) ])
         | inr (inl same) ↦ (
-            let far : length (queue_seats a.queue) ≤ place_of b u = subst (λ q. length (queue_seats a.queue) ≤ position u (queue_seats q)) (sym same) (out_past u (queue_seats a.queue) out) in
+            let far : length (queue_seats a.queue) ≤ queue_place b u = subst (λ q. length (queue_seats a.queue) ≤ position u (queue_seats q)) (sym same) (out_past u (queue_seats a.queue) out) in
             elim (places seats who a b l x in' opens) [ inl still' ↦ omega (arith, far, below, still') | inr near ↦ omega (arith, far, below, near) ])
         | inr (inr d) ↦ (
             let rest = drop 1 (queue_seats a.queue) in
-            let far : length (drop 1 (queue_seats a.queue)) ≤ place_of b u = subst (λ qs. length (drop 1 (queue_seats a.queue)) ≤ position u qs) (sym d.seats) (out_behind u (drop 1 (queue_seats a.queue)) d.more (tail_out u (queue_seats a.queue) out)) in
+            let far : length (drop 1 (queue_seats a.queue)) ≤ queue_place b u = subst (λ qs. length (drop 1 (queue_seats a.queue)) ≤ position u qs) (sym d.seats) (out_behind u (drop 1 (queue_seats a.queue)) d.more (tail_out u (queue_seats a.queue) out)) in
             let less = length-drop 1 (queue_seats a.queue) in
             let near = nearer seats who a b l x in' opens d in
             omega (arith, far, less, near, below))
@@ -104,10 +104,10 @@ module _ (seats who : ℕ) (a b : Scene) (l : Later seats who a b) (x u : ℕ) (
       ]
 
   -- who waited ahead and doesn't now is the head, whose call was completed
-  ahead_completed : Ahead a u x → ahead_in b u x ≡ false → place_of a u ≡ 0
+  ahead_completed : Ahead a u x → ahead_in b u x ≡ false → queue_place a u ≡ 0
   ahead_completed was none =
       let less = was.less in
-      let less' : place_of b u < place_of b x = elim (both_places seats who a b l x u in' opens was.in' was.opened) [ inl same ↦ (let p = same.0 in let q = same.1 in omega (arith, p, q, less)) | inr near ↦ (let p = near.0 in let q = near.1 in omega (arith, p, q, less)) ] in
+      let less' : queue_place b u < queue_place b x = elim (both_places seats who a b l x u in' opens was.in' was.opened) [ inl same ↦ (let p = same.0 in let q = same.1 in omega (arith, p, q, less)) | inr near ↦ (let p = near.0 in let q = near.1 in omega (arith, p, q, less)) ] in
       let closed : IsClosed b u = elim (cases_Bool (is_open (record_phase (b.records u)))) [ inl opened ↦ absurd (not_both (ahead_from b u x less' opened) none) | inr closed ↦ closed ] in
       elim (l.moves u) [
         | inl stays ↦ absurd (not_both (ap (λ w. is_open (record_phase w)) stays.same ∙ was.opened) closed)
@@ -115,7 +115,7 @@ module _ (seats who : ℕ) (a b : Scene) (l : Later seats who a b) (x u : ℕ) (
         | inr (inr advances) ↦ first_place u (queue_seats a.queue) advances.head
       ]
 
-  module _ (allowed r : ℕ) (held held' ret : Bool) (account : KeepsAccount allowed r (place_of a x) (place_of a u) (ahead_in a u x) held) (on : held ≡ true → (held' ≡ true) ⊎ Dropped a b) (back : ret ≡ true → (held ≡ false) × (held' ≡ true) × IsClosed a u) where
+  module _ (allowed r : ℕ) (held held' ret : Bool) (account : KeepsAccount allowed r (queue_place a x) (queue_place a u) (ahead_in a u x) held) (on : held ≡ true → (held' ≡ true) ⊎ Dropped a b) (back : ret ≡ true → (held ≡ false) × (held' ≡ true) × IsClosed a u) where
     abbrev next : ℕ
     next = if ret then suc r else r
 
@@ -123,20 +123,20 @@ module _ (seats who : ℕ) (a b : Scene) (l : Later seats who a b) (x u : ℕ) (
     none_returns : IsOpen a u → next ≡ r
     none_returns opened = elim (cases_Bool ret) [ inl does ↦ absurd (not_both opened (back does).2) | inr none ↦ cond-false ret (suc r) r none ]
 
-    waited : Account allowed r (place_of a x) held → Account allowed r (place_of b x) held'
+    waited : Account allowed r (queue_place a x) held → Account allowed r (queue_place b x) held'
     waited old =
         elim (places seats who a b l x in' opens) [
-          | inr near ↦ leaves allowed r (place_of a x) (place_of b x) held held' near old
+          | inr near ↦ leaves allowed r (queue_place a x) (queue_place b x) held held' near old
           | inl same ↦ elim (cases_Bool held) [
             | inl back' ↦ elim (on back') [
-              | inl still' ↦ stays allowed r (place_of a x) (place_of b x) held held' same (λ _. still') old
-              | inr d ↦ leaves allowed r (place_of a x) (place_of b x) held held' (nearer seats who a b l x in' opens d) old
+              | inl still' ↦ stays allowed r (queue_place a x) (queue_place b x) held held' same (λ _. still') old
+              | inr d ↦ leaves allowed r (queue_place a x) (queue_place b x) held held' (nearer seats who a b l x in' opens d) old
             ]
-            | inr free ↦ stays allowed r (place_of a x) (place_of b x) held held' same (λ back'. absurd (not_both back' free)) old
+            | inr free ↦ stays allowed r (queue_place a x) (queue_place b x) held held' same (λ back'. absurd (not_both back' free)) old
           ]
         ]
 
-    returned_once : Account allowed r (place_of a x) held → held ≡ false → held' ≡ true → Account allowed (suc r) (place_of b x) held'
+    returned_once : Account allowed r (queue_place a x) held → held ≡ false → held' ≡ true → Account allowed (suc r) (queue_place b x) held'
     returned_once old free back' =
         let s = old.strict free in
         record {
@@ -144,15 +144,15 @@ module _ (seats who : ℕ) (a b : Scene) (l : Later seats who a b) (x u : ℕ) (
           strict = λ e. absurd (not_both back' e);
         }
 
-    since_on : Account allowed r (place_of a x) held → Account allowed next (place_of b x) held'
+    since_on : Account allowed r (queue_place a x) held → Account allowed next (queue_place b x) held'
     since_on old =
         elim (cases_Bool ret) [
-          | inl does ↦ subst (λ c. Account allowed (if c then suc r else r) (place_of b x) held') (sym does) (returned_once old (back does).0 (back does).1)
-          | inr none ↦ subst (λ c. Account allowed (if c then suc r else r) (place_of b x) held') (sym none) (waited old)
+          | inl does ↦ subst (λ c. Account allowed (if c then suc r else r) (queue_place b x) held') (sym does) (returned_once old (back does).0 (back does).1)
+          | inr none ↦ subst (λ c. Account allowed (if c then suc r else r) (queue_place b x) held') (sym none) (waited old)
         ]
 
     -- the call of a seat ahead was completed: its account begins
-    begins : Ahead a u x → ahead_in b u x ≡ false → Account allowed next (place_of b x) held'
+    begins : Ahead a u x → ahead_in b u x ≡ false → Account allowed next (queue_place b x) held'
     begins was none =
         let k = account.before (ahead_from a u x was.less was.opened) in
         let zero' = k.0 in
@@ -164,7 +164,7 @@ module _ (seats who : ℕ) (a b : Scene) (l : Later seats who a b) (x u : ℕ) (
           | inr near ↦ record { loose = omega (arith, zero', sum, head, same, near); strict = λ _. omega (arith, zero', sum, head, same, near) }
         ]
 
-    pub goes_on : IsIn b x → KeepsAccount allowed next (place_of b x) (place_of b u) (ahead_in b u x) held'
+    pub goes_on : IsIn b x → KeepsAccount allowed next (queue_place b x) (queue_place b u) (ahead_in b u x) held'
     goes_on in'' = record {
       before = λ h.
           let was = ahead_before h in'' in
@@ -179,8 +179,8 @@ module _ (seats who : ℕ) (a b : Scene) (l : Later seats who a b) (x u : ℕ) (
 -- ---- whether it has just entered or was there
 
 pub account_goes : (seats who : ℕ) (a b : Scene) (l : Later seats who a b) (sound : IsSound b) (x u : ℕ) (in' : IsIn b x) (opened : IsOpen b x) (allowed r : ℕ) (held held' ret : Bool)
-    → (IsIn a x → IsOpen a x → KeepsAccount allowed r (place_of a x) (place_of a u) (ahead_in a u x) held) → (IsIn a x → held ≡ true → (held' ≡ true) ⊎ Dropped a b) → (ret ≡ true → (held ≡ false) × (held' ≡ true) × IsClosed a u)
-    → KeepsAccount (if enters a.queue b.queue x then allowance x u (queue_seats b.queue) else allowed) (if enters a.queue b.queue x then 0 else (if ret then suc r else r)) (place_of b x) (place_of b u) (ahead_in b u x) held'
+    → (IsIn a x → IsOpen a x → KeepsAccount allowed r (queue_place a x) (queue_place a u) (ahead_in a u x) held) → (IsIn a x → held ≡ true → (held' ≡ true) ⊎ Dropped a b) → (ret ≡ true → (held ≡ false) × (held' ≡ true) × IsClosed a u)
+    → KeepsAccount (if enters a.queue b.queue x then allowance x u (queue_seats b.queue) else allowed) (if enters a.queue b.queue x then 0 else (if ret then suc r else r)) (queue_place b x) (queue_place b u) (ahead_in b u x) held'
 account_goes seats who a b l sound x u in' opened allowed r held held' ret account on back =
     let fresh = allowance x u (queue_seats b.queue) in
     let next = if ret then suc r else r in
@@ -188,9 +188,9 @@ account_goes seats who a b l sound x u in' opened allowed r held held' ret accou
       | inl was ↦ (
           let none : enters a.queue b.queue x ≡ false = ap (λ c. not c && holds b.queue x) was in
           let opens = opened_before seats who a b l x was opened in
-          subst (λ c. KeepsAccount (if c then fresh else allowed) (if c then 0 else next) (place_of b x) (place_of b u) (ahead_in b u x) held') (sym none)
+          subst (λ c. KeepsAccount (if c then fresh else allowed) (if c then 0 else next) (queue_place b x) (queue_place b u) (ahead_in b u x) held') (sym none)
           (goes_on seats who a b l x u was opens allowed r held held' ret (account was opens) (on was) back in'))
       | inr out ↦ (
           let entered : enters a.queue b.queue x ≡ true = ap (λ c. not c && holds b.queue x) out ∙ in' in
-          subst (λ c. KeepsAccount (if c then fresh else allowed) (if c then 0 else next) (place_of b x) (place_of b u) (ahead_in b u x) held') (sym entered) (publishes b sound x u in' held'))
+          subst (λ c. KeepsAccount (if c then fresh else allowed) (if c then 0 else next) (queue_place b x) (queue_place b u) (ahead_in b u x) held') (sym entered) (publishes b sound x u in' held'))
     ]

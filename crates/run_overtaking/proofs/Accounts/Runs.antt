@@ -18,7 +18,7 @@ use Rattle.help_queue_laws.proofs.Known.Scenes.{Scene, scene_of, IsOpen, IsClose
 use Rattle.help_queue_laws.proofs.Known.Knowledge.{PhaseFacts}
 use Rattle.help_queue_laws.proofs.Known.QueueWords.{not_both}
 use Rattle.help_queue_laws.proofs.Steps.Results.{seat_word}
-use Rattle.help_queue_laws.proofs.Runs.RunLemmas.{at_set, beside_set, same_some, zero_phase}
+use Rattle.help_queue_laws.proofs.Runs.EveryRunHolds.{at_set, beside_set, same_some, zero_phase}
 use Rattle.fast_slow_engine.specs.declared.setup.Setup.{Setup}
 use Rattle.fast_slow_engine.specs.declared.phases.Phase.{Phase}
 use Rattle.fast_slow_engine.specs.declared.phases.Phase.TheVariants as phase
@@ -36,7 +36,7 @@ use Rattle.run_overtaking.specs.Counts.{Counts, no_counts, allowance, counts_mov
 use Rattle.run_overtaking.specs.Waiting.{looks, number_at, enters, position, held_back}
 use Rattle.run_overtaking.proofs.Accounts.Places.{position_below, few_seats}
 use Rattle.run_overtaking.proofs.Accounts.Allowances.{allowed_few}
-use Rattle.run_overtaking.proofs.Accounts.Pairs.{account_goes, ahead_in, place_of}
+use Rattle.run_overtaking.proofs.Accounts.Pairs.{account_goes, ahead_in, queue_place}
 use Rattle.run_overtaking.proofs.Accounts.Scenes.{Dropped, opened_before, beyond_later}
 use Rattle.run_overtaking.proofs.Accounts.Heads.{LookFacts, look_later}
 use Rattle.run_overtaking.proofs.Accounts.Steps.{step_facts, step_held, other_held}
@@ -95,7 +95,7 @@ module _ {S W : Type 0} where
     pub looked : (u : ℕ) (mech : Mech S W) → slice_get state.mechs u ≡ Some mech → LookFacts a (counts.looked u) (phase_view mech.phase)
     pub beyond : (t : ℕ) → seats ≤ t → IsClosed a t × IsOut a t
     pub accounts : (x u : ℕ) (mech : Mech S W) → slice_get state.mechs u ≡ Some mech → IsIn a x → IsOpen a x
-        → KeepsAccount (counts.allowed x u) (counts.returned x u) (place_of a x) (place_of a u) (ahead_in a u x) (held_back a.queue a.records (counts.looked u) mech.phase)
+        → KeepsAccount (counts.allowed x u) (counts.returned x u) (queue_place a x) (queue_place a u) (ahead_in a u x) (held_back a.queue a.records (counts.looked u) mech.phase)
     pub allowances : (x : ℕ) → IsIn a x → IsOpen a x → 2 * overtakers seats x (counts.allowed x) ≤ (seats - 1) * (seats + 2)
 
   module _ (form : NormalForm S W) where
@@ -133,7 +133,7 @@ module _ {S W : Type 0} where
       counts' = counts_stepped form i (begun begins old) state.words counts
 
       abbrev Keeps : Scene → Counts → ℕ → ℕ → Mech S W → Type 0
-      Keeps s k x u mate = KeepsAccount (k.allowed x u) (k.returned x u) (place_of s x) (place_of s u) (ahead_in s u x) (held_back s.queue s.records (k.looked u) mate.phase)
+      Keeps s k x u mate = KeepsAccount (k.allowed x u) (k.returned x u) (queue_place s x) (queue_place s u) (ahead_in s u x) (held_back s.queue s.records (k.looked u) mate.phase)
 
       later : Later setup.seats i a b
       later = (mover_goes form setup i state ghosts q old mech found m rounds client).later
@@ -182,7 +182,7 @@ module _ {S W : Type 0} where
       own_account : (x : ℕ) → IsIn b x → IsOpen b x → Keeps b counts' x i new
       own_account x in' opened =
           account_goes setup.seats i a b later now_sound x i in' opened (counts.allowed x i) (counts.returned x i) (held_back a.queue a.records (counts.looked i) mech.phase) (held_back b.queue b.records (counts'.looked i) new.phase) (ends mech.phase && (i == i))
-          (λ was opens. began_account a (counts.looked i) (counts.allowed x i) (counts.returned x i) (place_of a x) (place_of a i) (ahead_in a i x) begins old (c.accounts x i old found was opens)) (λ was held. new_held x was held)
+          (λ was opens. began_account a (counts.looked i) (counts.allowed x i) (counts.returned x i) (queue_place a x) (queue_place a i) (ahead_in a i x) begins old (c.accounts x i old found was opens)) (λ was held. new_held x was held)
           (λ ret.
           let is = (and_parts (ends mech.phase) (i == i) ret).0 in
           let held = end_held form a.queue (counts.looked i) b.queue (counts'.looked i) a.records b.records seen mech mech.phase is in
@@ -190,7 +190,7 @@ module _ {S W : Type 0} where
 
       other_account : (x u : ℕ) (mate : Mech S W) → u ≢ i → slice_get state.mechs u ≡ Some mate → IsIn b x → IsOpen b x → Keeps b counts' x u mate
       other_account x u mate other at in' opened =
-          subst (λ n. KeepsAccount (counts'.allowed x u) (counts'.returned x u) (place_of b x) (place_of b u) (ahead_in b u x) (held_back b.queue b.records n mate.phase)) (sym (others u other))
+          subst (λ n. KeepsAccount (counts'.allowed x u) (counts'.returned x u) (queue_place b x) (queue_place b u) (ahead_in b u x) (held_back b.queue b.records n mate.phase)) (sym (others u other))
           (account_goes setup.seats i a b later now_sound x u in' opened (counts.allowed x u) (counts.returned x u) (held_back a.queue a.records (counts.looked u) mate.phase) (held_back b.queue b.records (counts.looked u) mate.phase) (ends mech.phase && (u == i))
           (λ was opens. c.accounts x u mate at was opens) (λ _ held. other_held setup.seats i a b later (counts.looked u) mate.phase held)
           (λ ret. absurd (other (eqb-true u i (and_parts (ends mech.phase) (u == i) ret).1))))

@@ -6,7 +6,7 @@ use Rattle.word_fields.specs.Seats.{queue_seats}
 use Rattle.help_queue.specs.Gathers.{leads, is_first, is_open}
 use Rattle.help_queue_laws.proofs.Known.Scenes.{Scene, IsOpen, IsClosed, IsDone, IsIn, IsOut, IsHead, Later}
 use Rattle.help_queue_laws.proofs.Known.QueueWords.{not_both, head_holds}
-use Rattle.help_queue_laws.proofs.Acts.LaterLemmas.{done_closed, closed_later, out_later}
+use Rattle.help_queue_laws.proofs.Acts.LearntStays.{done_closed, closed_later, out_later}
 use Rattle.run_overtaking.specs.Waiting.{position}
 use Rattle.run_overtaking.proofs.Accounts.Places.{entered_behind, head_leaves, first_stays}
 

@@ -16,8 +16,8 @@ use Rattle.help_queue.specs.declared.enter.Entering.{Entering}
 use Rattle.help_queue.specs.declared.enter.Entering.TheVariants as entering_to
 use Rattle.help_queue.specs.Enters.{Owner}
 use Rattle.help_queue.specs.Gathers.{among_seats, holds, is_first, leads}
-use Rattle.help_queue_laws.specs.declared.phases.Phase as queue
-use Rattle.help_queue_laws.specs.declared.phases.Phase.TheVariants as in_queue
+use Rattle.help_queue_laws.specs.declared.phases.QueuePhase as queue
+use Rattle.help_queue_laws.specs.declared.phases.QueuePhase.TheVariants as in_queue
 use Rattle.help_queue_laws.specs.Ghosts.{Ghosts}
 use Rattle.help_queue_laws.specs.Runs.{queue_in, record_in}
 use Rattle.help_queue_laws.proofs.Known.Scenes.{Scene, scene_of, IsIn, IsOut, IsSound, Later}
@@ -43,7 +43,7 @@ use Rattle.run_overtaking.proofs.Accounts.Heads.{HeadFacts, LookFacts, help_on, 
 
 module _ {S W : Type 0} where
   -- a phase that the queue sees as no help from a look
-  quiet_at : (b : Scene) (n : ℕ) (p : Phase S W) (at : queue.Phase) → phase_view p ≡ at → LookFacts b n at → LookFacts b n (phase_view p)
+  quiet_at : (b : Scene) (n : ℕ) (p : Phase S W) (at : queue.QueuePhase) → phase_view p ≡ at → LookFacts b n at → LookFacts b n (phase_view p)
   quiet_at b n p at same h = subst (LookFacts b n) (sym same) h
 
   fast_quiet : (form : NormalForm S W) (b : Scene) (n seats m : ℕ) (new : Mech S W) → FastNext form seats m new → LookFacts b n (phase_view new.phase)

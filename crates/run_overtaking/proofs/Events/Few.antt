@@ -8,7 +8,7 @@ use Rattle.std.proofs.lemmas.List.Elements.{Contains-append_cases, Contains-appe
 use Rattle.lin_report.specs.declared.events.Event.{Event}
 use Rattle.lin_report.specs.declared.events.EventKind.{EventKind}
 use Rattle.lin_report.specs.declared.events.EventKind.TheVariants as kind
-use Rattle.help_queue_laws.proofs.Runs.RunLemmas.{same_some}
+use Rattle.help_queue_laws.proofs.Runs.EveryRunHolds.{same_some}
 use Rattle.overtaking_law.specs.Order.{AreOrdered}
 use Rattle.run_overtaking.proofs.Events.Members.{in_none, in_cons, in_here}
 

@@ -8,7 +8,7 @@ use Rattle.word_fields.specs.Records.{record_phase, record_number}
 use Rattle.help_queue.specs.Gathers.{among_seats, holds, is_open}
 use Rattle.help_queue_laws.proofs.Known.QueueWords.{not_both}
 use Rattle.overtaking_law.specs.Order.{publication, completion, IsOpen, MayFollow, AreOrdered}
-use Rattle.overtaking_law.proofs.Ordered.{are_ordered-push}
+use Rattle.overtaking_law.proofs.EventsOrdered.{are_ordered-push}
 use Rattle.fast_slow_engine.specs.Events.{published, completed}
 use Rattle.run_overtaking.proofs.Accounts.Places.{in_rest}
 use Rattle.run_overtaking.proofs.Accounts.Allowances.{tail_differ, head_differs}
@@ -35,15 +35,15 @@ in_parts before first own last e c =
 
 -- ---- events that may come one after another
 
-abbrev pub Follows : List Event → List Event → Type 0
-Follows before [] = Unit {0}
-Follows before (e ∷ es) = MayFollow before e × Follows (before ++ e ∷ []) es
+abbrev pub MayComeAfter : List Event → List Event → Type 0
+MayComeAfter before [] = Unit {0}
+MayComeAfter before (e ∷ es) = MayFollow before e × MayComeAfter (before ++ e ∷ []) es
 
-pub follows_append : (before es fs : List Event) → Follows before es → Follows (before ++ es) fs → Follows before (es ++ fs)
-follows_append before [] fs h k = subst (λ b. Follows b fs) (append-nil before) k
-follows_append before (e ∷ es) fs h k = (h.0, follows_append (before ++ e ∷ []) es fs h.1 (subst (λ b. Follows b fs) (sym (append_assoc before (e ∷ []) es)) k))
+pub follows_append : (before es fs : List Event) → MayComeAfter before es → MayComeAfter (before ++ es) fs → MayComeAfter before (es ++ fs)
+follows_append before [] fs h k = subst (λ b. MayComeAfter b fs) (append-nil before) k
+follows_append before (e ∷ es) fs h k = (h.0, follows_append (before ++ e ∷ []) es fs h.1 (subst (λ b. MayComeAfter b fs) (sym (append_assoc before (e ∷ []) es)) k))
 
-pub ordered_more : (before es : List Event) → AreOrdered before → Follows before es → AreOrdered (before ++ es)
+pub ordered_more : (before es : List Event) → AreOrdered before → MayComeAfter before es → AreOrdered (before ++ es)
 ordered_more before [] ordered h = subst AreOrdered (sym (append-nil before)) ordered
 ordered_more before (e ∷ es) ordered h = subst AreOrdered (append_assoc before (e ∷ []) es) (ordered_more (before ++ e ∷ []) es (are_ordered-push before e ordered h.0) h.1)
 
@@ -134,15 +134,15 @@ module _ (r r' : ℕ → ℕ) where
         published' = Contains-append_left before (e ∷ []) (publication t (record_number (r t))) m.published';
       }
 
-  pub completed_follow : (before : List Event) (seats : List ℕ) → Apart seats → ((t : ℕ) → among_seats t seats ≡ true → is_open (record_phase (r t)) ≡ true → is_open (record_phase (r' t)) ≡ false → MayComplete before t) → Follows before (completed r r' seats)
+  pub completed_follow : (before : List Event) (seats : List ℕ) → Apart seats → ((t : ℕ) → among_seats t seats ≡ true → is_open (record_phase (r t)) ≡ true → is_open (record_phase (r' t)) ≡ false → MayComplete before t) → MayComeAfter before (completed r r' seats)
   completed_follow before [] apart may = tt
   completed_follow before (s ∷ seats) apart may =
       elim (cases_Bool (closes s)) [
-        | inr none ↦ subst (λ b. Follows before (after s seats b)) (sym none) (completed_follow before seats apart.1 (λ t in'. may t (or_right (s == t) (among_seats t seats) in')))
+        | inr none ↦ subst (λ b. MayComeAfter before (after s seats b)) (sym none) (completed_follow before seats apart.1 (λ t in'. may t (or_right (s == t) (among_seats t seats) in')))
         | inl does ↦ (
             let parts = and_parts (is_open (record_phase (r s))) (not (is_open (record_phase (r' s)))) does in
             let first = may s (or_left (s == s) (among_seats s seats) (eq-eqb s s refl)) parts.0 (closed_before (is_open (record_phase (r' s))) parts.1) in
-            subst (λ b. Follows before (after s seats b)) (sym does) (
+            subst (λ b. MayComeAfter before (after s seats b)) (sym does) (
               completes_next before s first,
               completed_follow (before ++ completion s (record_number (r s)) ∷ []) seats apart.1 (λ t in' opened closed. completes_later before s t (apart_from s t seats apart.0 in') (may t (or_right (s == t) (among_seats t seats) in') opened closed)),
             ))
@@ -211,14 +211,14 @@ module _ (q : ℕ) (r : ℕ → ℕ) where
         alone = λ other differs open'. m.alone other differs (record { published = old other open'.published; incomplete = λ c. open'.incomplete (Contains-append_left before (e ∷ []) (completion t other) c) });
       }
 
-  pub published_follow : (before : List Event) (seats : List ℕ) → Apart seats → ((t : ℕ) → among_seats t seats ≡ true → holds q t ≡ false → MayPublish before t) → Follows before (published q r seats)
+  pub published_follow : (before : List Event) (seats : List ℕ) → Apart seats → ((t : ℕ) → among_seats t seats ≡ true → holds q t ≡ false → MayPublish before t) → MayComeAfter before (published q r seats)
   published_follow before [] apart may = tt
   published_follow before (s ∷ seats) apart may =
       elim (cases_Bool (holds q s)) [
-        | inl was ↦ subst (λ b. Follows before (enters_after s seats b)) (sym was) (published_follow before seats apart.1 (λ t in'. may t (or_right (s == t) (among_seats t seats) in')))
+        | inl was ↦ subst (λ b. MayComeAfter before (enters_after s seats b)) (sym was) (published_follow before seats apart.1 (λ t in'. may t (or_right (s == t) (among_seats t seats) in')))
         | inr out ↦ (
             let first = may s (or_left (s == s) (among_seats s seats) (eq-eqb s s refl)) out in
-            subst (λ b. Follows before (enters_after s seats b)) (sym out) (
+            subst (λ b. MayComeAfter before (enters_after s seats b)) (sym out) (
               publishes_next before s first,
               published_follow (before ++ publication s (record_number (r s)) ∷ []) seats apart.1 (λ t in' out'. publishes_later before s t (apart_from s t seats apart.0 in') (may t (or_right (s == t) (among_seats t seats) in') out')),
             ))

@@ -16,7 +16,7 @@ use Rattle.run_overtaking.specs.Accounts.{overtakers, most_overtaken}
 use Rattle.run_overtaking.specs.Counts.{Counts, counts_after}
 use Rattle.run_overtaking.specs.Waiting.{Waits, enters}
 use Rattle.fast_slow_engine.specs.Events.{published, completed, eight_seats, step_events}
-use Rattle.run_overtaking.proofs.Accounts.Sums.{fold_append, sum_grows, sum_zero}
+use Rattle.run_overtaking.proofs.Accounts.SeatSums.{fold_append, sum_grows, sum_zero}
 use Rattle.run_overtaking.proofs.Events.CallStates.{published_waits, published_none, completed_none, completed_waits, own_waits, own_none}
 
 -- what the state of call k of x says: while it waits its count is the sum of the other seats' returns, and once it is

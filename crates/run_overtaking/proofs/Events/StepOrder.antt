@@ -14,7 +14,7 @@ use Rattle.normal_traits.specs.NormalForm.{NormalForm}
 use Rattle.help_queue.specs.Gathers.{among_seats, holds, is_open}
 use Rattle.help_queue_laws.proofs.Known.Scenes.{Scene, IsOpen, IsClosed, IsDone, IsIn, IsOut, Later}
 use Rattle.help_queue_laws.proofs.Known.QueueWords.{not_both, head_holds}
-use Rattle.help_queue_laws.proofs.Acts.LaterLemmas.{done_closed}
+use Rattle.help_queue_laws.proofs.Acts.LearntStays.{done_closed}
 use Rattle.fast_slow_engine.specs.declared.phases.Phase.{Phase}
 use Rattle.fast_slow_engine.specs.declared.phases.Phase.TheVariants as phase
 use Rattle.fast_slow_engine.specs.Mechs.{Mech}
@@ -25,7 +25,7 @@ use Rattle.overtaking_law.specs.Order.{publication, completion, AreOrdered}
 use Rattle.run_queue.proofs.EventLaws.{HasCompleted, completed_later}
 use Rattle.fast_slow_engine.specs.Events.{published, completed, eight_seats}
 use Rattle.run_overtaking.proofs.Accounts.Scenes.{opened_before}
-use Rattle.run_overtaking.proofs.Events.Members.{Apart, Follows, in_none, in_cons, in_parts, follows_append, ordered_more, completed_has, completed_all, completed_follow, published_has, published_all, published_follow}
+use Rattle.run_overtaking.proofs.Events.Members.{Apart, MayComeAfter, in_none, in_cons, in_parts, follows_append, ordered_more, completed_has, completed_all, completed_follow, published_has, published_all, published_follow}
 
 -- ---- what the events tell
 
@@ -175,7 +175,7 @@ module _ {S W : Type 0} (form : NormalForm S W) (seats : ℕ) (few : seats ≤ 8
 
   -- ---- the events may come
 
-  first_follow : Follows before (completed a.records b.records eight_seats)
+  first_follow : MayComeAfter before (completed a.records b.records eight_seats)
   first_follow =
       completed_follow a.records b.records before eight_seats (refl, (refl, (refl, (refl, (refl, (refl, (refl, (refl, tt)))))))) (λ t in' opened closed. record {
         seat = below t in';
@@ -183,11 +183,11 @@ module _ {S W : Type 0} (form : NormalForm S W) (seats : ℕ) (few : seats ≤ 8
         published' = tells.waits t (closes t opened closed).0 opened;
       })
 
-  own_follow : Follows (before ++ completed a.records b.records eight_seats) (option_to_list (mech_event mech))
+  own_follow : MayComeAfter (before ++ completed a.records b.records eight_seats) (option_to_list (mech_event mech))
   own_follow =
       elim (own_is form mech.phase mech) [
-        | inl none ↦ subst (λ (o : Option Event). Follows (before ++ completed a.records b.records eight_seats) (option_to_list o)) (sym none) tt
-        | inr (inl begins) ↦ subst (λ (o : Option Event). Follows (before ++ completed a.records b.records eight_seats) (option_to_list o)) (sym begins.0) (
+        | inl none ↦ subst (λ (o : Option Event). MayComeAfter (before ++ completed a.records b.records eight_seats) (option_to_list o)) (sym none) tt
+        | inr (inl begins) ↦ subst (λ (o : Option Event). MayComeAfter (before ++ completed a.records b.records eight_seats) (option_to_list o)) (sym begins.0) (
           record {
             seat = omega (arith, inside, few);
             once = λ c. elim (Contains-append_cases before (completed a.records b.records eight_seats) (event_of kind.Begin mech) c) [
@@ -199,7 +199,7 @@ module _ {S W : Type 0} (form : NormalForm S W) (seats : ℕ) (few : seats ≤ 8
           },
           tt,
         )
-        | inr (inr returns) ↦ subst (λ (o : Option Event). Follows (before ++ completed a.records b.records eight_seats) (option_to_list o)) (sym returns.0) (
+        | inr (inr returns) ↦ subst (λ (o : Option Event). MayComeAfter (before ++ completed a.records b.records eight_seats) (option_to_list o)) (sym returns.0) (
           record {
             seat = omega (arith, inside, few);
             once = λ c. elim (Contains-append_cases before (completed a.records b.records eight_seats) (event_of kind.Return mech) c) [
@@ -221,7 +221,7 @@ module _ {S W : Type 0} (form : NormalForm S W) (seats : ℕ) (few : seats ≤ 8
         | inl rest ↦ elim (Contains-append_cases before (completed a.records b.records eight_seats) (publication t n) rest) [ inl old ↦ old | inr done ↦ (let is = in_first (publication t n) done in absurd cc) ]
       ]
 
-  last_follow : Follows ((before ++ completed a.records b.records eight_seats) ++ option_to_list (mech_event mech)) (published a.queue b.records (queue_seats b.queue))
+  last_follow : MayComeAfter ((before ++ completed a.records b.records eight_seats) ++ option_to_list (mech_event mech)) (published a.queue b.records (queue_seats b.queue))
   last_follow =
       published_follow a.queue b.records ((before ++ completed a.records b.records eight_seats) ++ option_to_list (mech_event mech)) (queue_seats b.queue) apart (λ t in' out.
       let new = entered t out in' in

@@ -5,7 +5,7 @@ use Rattle.std.proofs.lemmas.Option.{slice_get_within}
 use Rattle.lin_report.specs.declared.calls.Op.{Op}
 use Rattle.step_memory.specs.Step.{seen_of}
 use Rattle.normal_traits.specs.NormalForm.{NormalForm}
-use Rattle.help_queue_laws.proofs.Runs.RunLemmas.{at_set, beside_set, same_some}
+use Rattle.help_queue_laws.proofs.Runs.EveryRunHolds.{at_set, beside_set, same_some}
 use Rattle.fast_slow_engine.specs.declared.setup.Setup.{Setup}
 use Rattle.fast_slow_engine.specs.Mechs.{Mech}
 use Rattle.fast_slow_engine.specs.PhaseTable.{mech_fed, mech_request}

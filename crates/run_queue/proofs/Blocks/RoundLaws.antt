@@ -7,7 +7,7 @@ use Rattle.word_fields.specs.Records.{record_phase, record_round}
 use Rattle.node_arena.specs.MemoryMap.{record_place}
 use Rattle.normal_traits.specs.NormalForm.{NormalForm}
 use Rattle.help_queue_laws.proofs.Known.Scenes.{scene_of}
-use Rattle.help_queue_laws.proofs.Runs.RunLemmas.{same_some}
+use Rattle.help_queue_laws.proofs.Runs.EveryRunHolds.{same_some}
 use Rattle.fast_slow_engine.specs.declared.setup.Setup.{Setup}
 use Rattle.fast_slow_engine.specs.Mechs.{Mech}
 use Rattle.fast_slow_engine.specs.Runs.{Move, IsMove, AreMoves, CanMove, begun, moved_by, run_of}

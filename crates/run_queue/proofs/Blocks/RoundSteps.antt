@@ -5,13 +5,13 @@ use Rattle.std.proofs.lemmas.Bool.{cases_eq, cond-true, cond-false, cond_both, e
 use Rattle.step_memory.specs.declared.steps.Request.{Request}
 use Rattle.step_memory.specs.declared.steps.Request.TheVariants.{Load, Store, Exchange}
 use Rattle.step_memory.specs.declared.steps.Seen.{Seen}
-use Rattle.step_memory.specs.Step.{place_of, seen_of, words_after}
+use Rattle.step_memory.specs.Step.{requested_place, seen_of, words_after}
 use Rattle.step_memory.proofs.Words.{exchange_changes, load_keeps, word_at_place, word_elsewhere}
-use Rattle.word_fields.specs.declared.records.Phase.{Phase as RecordPhase}
-use Rattle.word_fields.specs.declared.records.Phase.TheVariants.{Idle, Generate, Executing, Wrapping, Completed}
+use Rattle.word_fields.specs.declared.records.RecordPhase.{RecordPhase}
+use Rattle.word_fields.specs.declared.records.RecordPhase.TheVariants.{Idle, Generate, Executing, Wrapping, Completed}
 use Rattle.word_fields.specs.declared.records.RecordWord.{RecordWord}
 use Rattle.word_fields.specs.Records.{record_phase, record_round, record_word, record_of, packed_record, number_below, round_below}
-use Rattle.word_fields.proofs.RecordLemmas.{phase-word, round-word, record_of-packed}
+use Rattle.word_fields.proofs.RecordWords.{phase-word, round-word, record_of-packed}
 use Rattle.node_arena.specs.declared.places.TheConstants.{QUEUE}
 use Rattle.node_arena.specs.MemoryMap.{record_place}
 use Rattle.help_queue.specs.declared.enter.EnterStage.{EnterStage}
@@ -77,7 +77,7 @@ module _ (words : List ℕ) (t : ℕ) (few : t < 8) where
   pub leaves_rounds : (request : Request) (more : ℕ) → LeavesQueue request words → RaisesBy words request more t
   leaves_rounds request more leaves = same_rounds request more (leaves (record_place t) (inr (inl (omega arith, omega (arith, few)))))
 
-  pub elsewhere_rounds : (request : Request) (more : ℕ) → record_place t ≢ place_of request → RaisesBy words request more t
+  pub elsewhere_rounds : (request : Request) (more : ℕ) → record_place t ≢ requested_place request → RaisesBy words request more t
   elsewhere_rounds request more apart = same_rounds request more (word_elsewhere request words (record_place t) apart)
 
   pub load_rounds : (at more : ℕ) → RaisesBy words (Load at) more t

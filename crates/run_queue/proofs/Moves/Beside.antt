@@ -5,13 +5,13 @@ use Rattle.std.specs.Prelude.{slice_index}
 use Rattle.step_memory.specs.declared.steps.Request.{Request}
 use Rattle.step_memory.specs.declared.steps.Request.TheVariants.{Load}
 use Rattle.step_memory.specs.declared.steps.Seen.{Seen}
-use Rattle.step_memory.specs.Step.{place_of, words_after, seen_of}
+use Rattle.step_memory.specs.Step.{requested_place, words_after, seen_of}
 use Rattle.step_memory.proofs.Words.{load_keeps, word_elsewhere}
 use Rattle.word_fields.specs.Records.{record_phase, record_number, record_of}
 use Rattle.node_arena.specs.MemoryMap.{op_place, record_place, value_place}
 use Rattle.op_record.specs.Progress.{IsEarlier}
 use Rattle.help_queue.specs.Gathers.{holds, leads, is_open}
-use Rattle.help_queue_laws.specs.declared.phases.Phase as queue
+use Rattle.help_queue_laws.specs.declared.phases.QueuePhase as queue
 use Rattle.help_queue_laws.specs.Ghosts.{Ghosts, announces}
 use Rattle.help_queue_laws.proofs.Known.Scenes.{Scene, scene_of, IsOut, IsInOrDone, IsSound, Later}
 use Rattle.help_queue_laws.proofs.Known.Knowledge.{IsMine, IsFree, IsHelped}
@@ -25,7 +25,7 @@ use Rattle.run_queue.proofs.Views.CallViews.{KnowsQueue}
 
 -- what is to be shown of a step of a machine: the scene stays sound, others keep what they know, and the machine
 -- knows its part and fits its record
-pub record Goes {S W : Type 0} (seats i : ℕ) (words : List ℕ) (ghosts : Ghosts) (at : queue.Phase) (request : Request) (new : Seen → Mech S W) : Type 0 where
+pub record Goes {S W : Type 0} (seats i : ℕ) (words : List ℕ) (ghosts : Ghosts) (at : queue.QueuePhase) (request : Request) (new : Seen → Mech S W) : Type 0 where
   pub sound : IsSound (scene_after i words ghosts at request)
   pub later : Later seats i (scene_of words ghosts) (scene_after i words ghosts at request)
   pub knows : KnowsQueue (scene_after i words ghosts at request) seats i (new (seen_of request words))
@@ -33,7 +33,7 @@ pub record Goes {S W : Type 0} (seats i : ℕ) (words : List ℕ) (ghosts : Ghos
 
 -- ---- requests that leave the queue's words
 
-pub leaves_elsewhere : (request : Request) (words : List ℕ) → ((place : ℕ) → IsQueuePlace place → place ≢ place_of request) → LeavesQueue request words
+pub leaves_elsewhere : (request : Request) (words : List ℕ) → ((place : ℕ) → IsQueuePlace place → place ≢ requested_place request) → LeavesQueue request words
 leaves_elsewhere request words apart place is = word_elsewhere request words place (apart place is)
 
 pub leaves_same : (request : Request) (words : List ℕ) → words_after request words ≡ words → LeavesQueue request words
@@ -43,7 +43,7 @@ pub leaves_load : (at : ℕ) (words : List ℕ) → LeavesQueue (Load at) words
 leaves_load at words = leaves_same (Load at) words (load_keeps at words)
 
 -- requests at a place behind the first words, and at the two counters
-pub leaves_behind : (request : Request) (words : List ℕ) → 32 ≤ place_of request → LeavesQueue request words
+pub leaves_behind : (request : Request) (words : List ℕ) → 32 ≤ requested_place request → LeavesQueue request words
 leaves_behind request words behind =
     leaves_elsewhere request words (λ place is same. elim is [
       | inl queue ↦ absurd (omega (arith, queue, same, behind))
@@ -51,10 +51,10 @@ leaves_behind request words behind =
       | inr (inr high) ↦ (let below = high.1 in absurd (omega (arith, below, same, behind)))
     ])
 
-pub leaves_counter : (request : Request) (words : List ℕ) → (place_of request ≡ 0) ⊎ (place_of request ≡ 2) → LeavesQueue request words
+pub leaves_counter : (request : Request) (words : List ℕ) → (requested_place request ≡ 0) ⊎ (requested_place request ≡ 2) → LeavesQueue request words
 leaves_counter request words counter =
-    let small : place_of request ≢ 1 = elim counter [ inl zero' ↦ (λ e. omega (arith, zero', e)) | inr two ↦ (λ e. omega (arith, two, e)) ] in
-    let below : place_of request < 4 = elim counter [ inl zero' ↦ omega (arith, zero') | inr two ↦ omega (arith, two) ] in
+    let small : requested_place request ≢ 1 = elim counter [ inl zero' ↦ (λ e. omega (arith, zero', e)) | inr two ↦ (λ e. omega (arith, two, e)) ] in
+    let below : requested_place request < 4 = elim counter [ inl zero' ↦ omega (arith, zero') | inr two ↦ omega (arith, two) ] in
     leaves_elsewhere request words (λ place is same. elim is [
       | inl queue ↦ small (omega (arith, queue, same))
       | inr (inl low) ↦ (let above = low.0 in absurd (omega (arith, above, same, below)))
@@ -71,7 +71,7 @@ agrees_of request words leaves = record {
 
 -- ---- what such a step leaves
 
-module _ (seats i : ℕ) (words : List ℕ) (ghosts : Ghosts) (at : queue.Phase) (long : 32 ≤ length words) (request : Request) where
+module _ (seats i : ℕ) (words : List ℕ) (ghosts : Ghosts) (at : queue.QueuePhase) (long : 32 ≤ length words) (request : Request) where
   abbrev was : Scene
   was = scene_of words ghosts
 

@@ -6,7 +6,7 @@ use Rattle.step_memory.specs.declared.steps.Request.{Request}
 use Rattle.step_memory.specs.declared.steps.Request.TheVariants.{Load, Store}
 use Rattle.step_memory.specs.declared.steps.Seen.{Seen}
 use Rattle.step_memory.specs.Step.{seen_of}
-use Rattle.word_fields.specs.declared.records.Phase.TheVariants.{Generate as GENERATE}
+use Rattle.word_fields.specs.declared.records.RecordPhase.TheVariants.{Generate as GENERATE}
 use Rattle.word_fields.specs.Announced.{op_word, value_word}
 use Rattle.word_fields.specs.Records.{record_word}
 use Rattle.node_arena.specs.MemoryMap.{op_place, record_place, value_place}
@@ -18,8 +18,8 @@ use Rattle.help_queue.specs.Gathers.{holds}
 use Rattle.help_queue.specs.Heads.{head_of}
 use Rattle.node_arena.specs.declared.places.TheConstants.{QUEUE}
 use Rattle.help_queue.specs.Removes.{Removal}
-use Rattle.help_queue_laws.specs.declared.phases.Phase as queue
-use Rattle.help_queue_laws.specs.declared.phases.Phase.TheVariants as in_queue
+use Rattle.help_queue_laws.specs.declared.phases.QueuePhase as queue
+use Rattle.help_queue_laws.specs.declared.phases.QueuePhase.TheVariants as in_queue
 use Rattle.help_queue_laws.specs.declared.phases.Helping as seen_at
 use Rattle.help_queue_laws.specs.declared.phases.Helping.TheVariants as at
 use Rattle.help_queue_laws.specs.Callers as callers
@@ -28,8 +28,8 @@ use Rattle.help_queue_laws.specs.Ghosts.{Ghosts}
 use Rattle.help_queue_laws.proofs.Known.Scenes.{Scene, scene_of, IsSound, IsOut}
 use Rattle.help_queue_laws.proofs.Known.Knowledge.{PhaseFacts}
 use Rattle.help_queue_laws.proofs.Steps.Results.{Moved}
-use Rattle.help_queue_laws.proofs.Steps.CallSteps.{value_moves, op_moves}
-use Rattle.help_queue_laws.proofs.Steps.CallerSteps.{caller_moves}
+use Rattle.help_queue_laws.proofs.Steps.AnnounceAndCollect.{value_moves, op_moves}
+use Rattle.help_queue_laws.proofs.Steps.EveryStep.{caller_moves}
 use Rattle.fast_slow_engine.specs.declared.phases.Phase.{Phase}
 use Rattle.fast_slow_engine.specs.declared.phases.Phase.TheVariants as phase
 use Rattle.fast_slow_engine.specs.declared.phases.Announcing.TheVariants as announcing
@@ -59,20 +59,20 @@ module _ {S W : Type 0} (form : NormalForm S W) (mech : Mech S W) (words : List 
   number : mech.number ≡ made + 1
   number = omega (arith, some)
 
-  abbrev caller_at : queue.Phase → Caller
+  abbrev caller_at : queue.QueuePhase → Caller
   caller_at at = record { seat = mech.seat; seats = mech.setup.seats; made = mech.number - 1; phase = at }
 
-  abbrev Facts : queue.Phase → Type 0
+  abbrev Facts : queue.QueuePhase → Type 0
   Facts at = PhaseFacts (scene_of words ghosts) mech.setup.seats mech.seat mech.number at
 
-  facts_made : (at : queue.Phase) → Facts at → PhaseFacts was seats i (made + 1) at
+  facts_made : (at : queue.QueuePhase) → Facts at → PhaseFacts was seats i (made + 1) at
   facts_made at h = subst (λ n. PhaseFacts was seats i n at) number h
 
   -- the step of its seat in the world of the queue
-  by_caller : (at : queue.Phase) → Facts at → Moved seats i words ghosts at (caller_request (caller_at at)) (caller_fed (caller_at at))
+  by_caller : (at : queue.QueuePhase) → Facts at → Moved seats i words ghosts at (caller_request (caller_at at)) (caller_fed (caller_at at))
   by_caller at h = caller_moves seats i inside few words ghosts long sound (caller_at at) (omega (arith, some, most)) (record { seat = refl; seats' = refl; knows = facts_made at h })
 
-  goes_by : (at : queue.Phase) (request : Request) (next : Seen → Caller) (new : Seen → Mech S W) → Moved seats i words ghosts at request next → ((seen : Seen) → Views seats (new seen) (number_of (next seen)) (next seen).phase) → Goes seats i words ghosts at request new
+  goes_by : (at : queue.QueuePhase) (request : Request) (next : Seen → Caller) (new : Seen → Mech S W) → Moved seats i words ghosts at request next → ((seen : Seen) → Views seats (new seen) (number_of (next seen)) (next seen).phase) → Goes seats i words ghosts at request new
   goes_by at request next new moved views =
       let seen = seen_of request words in
       record { sound = moved.sound; later = moved.later; knows = knows_by _ seats i (number_of (next seen)) (new seen) (next seen).phase (views seen) moved.knows.knows; fits = (views seen).fits }
@@ -124,7 +124,7 @@ module _ {S W : Type 0} (form : NormalForm S W) (mech : Mech S W) (words : List 
   told_views : (outcome : Outcome) → Views seats (told outcome mech) (made + 1 + 1) in_queue.Look
   told_views outcome = views_number seats (made + 1 + 1) (mech.number + 1) _ in_queue.Look (ap (λ n. n + 1) number) (views_told seats outcome mech)
 
-  entered_views : (what : Entering) (owner : Owner) (at : queue.Phase) → Views seats (entered what owner mech) (number_of (callers.entered what owner (caller_at at))) (callers.entered what owner (caller_at at)).phase
+  entered_views : (what : Entering) (owner : Owner) (at : queue.QueuePhase) → Views seats (entered what owner mech) (number_of (callers.entered what owner (caller_at at))) (callers.entered what owner (caller_at at)).phase
   entered_views entering_to.Running owner at = record { phase' = refl; number = number; fits = tt }
   entered_views entering_to.Entered owner at = record { phase' = refl; number = number; fits = tt }
   entered_views (entering_to.Finished outcome) owner at = told_views outcome
@@ -142,10 +142,10 @@ module _ {S W : Type 0} (form : NormalForm S W) (mech : Mech S W) (words : List 
   -- ---- helping
 
   module _ (drives : Bool) (head : ℕ) where
-    abbrev view : seen_at.Helping → queue.Phase
+    abbrev view : seen_at.Helping → queue.QueuePhase
     view at' = in_queue.Helps head drives at'
 
-    abbrev seen_phase : seen_at.Helping → Seen → queue.Phase
+    abbrev seen_phase : seen_at.Helping → Seen → queue.QueuePhase
     seen_phase at' seen = (caller_fed (caller_at (in_queue.Helps head drives at')) seen).phase
 
     at_made : (at' : seen_at.Helping) (seen : Seen) (new : Mech S W) → Views seats new mech.number (seen_phase at' seen) → Views seats new (made + 1) (seen_phase at' seen)

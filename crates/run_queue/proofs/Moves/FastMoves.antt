@@ -5,11 +5,11 @@ use Rattle.std.proofs.lemmas.Bool.{cases_Bool, cases_eq, lt-ltb}
 use Rattle.step_memory.specs.declared.steps.Request.TheVariants.{Add}
 use Rattle.step_memory.specs.Step.{seen_of}
 use Rattle.node_arena.specs.declared.places.TheConstants.{OWNER_FIELD, OP_FIELD, VALUE_FIELD}
-use Rattle.node_arena.proofs.PlaceLemmas.{block_place_behind}
+use Rattle.node_arena.proofs.PlacesApart.{block_place_behind}
 use Rattle.normal_traits.specs.NormalForm.{NormalForm}
 use Rattle.cas_executor.specs.FastRuns.{FastWalk}
 use Rattle.arrayvec.specs.ArrayVec.{ArrayVec}
-use Rattle.help_queue_laws.specs.declared.phases.Phase.TheVariants as in_queue
+use Rattle.help_queue_laws.specs.declared.phases.QueuePhase.TheVariants as in_queue
 use Rattle.help_queue_laws.specs.Ghosts.{Ghosts}
 use Rattle.help_queue_laws.proofs.Known.Scenes.{scene_of, IsOut, IsSound}
 use Rattle.help_queue_laws.proofs.Known.Knowledge.{IsFree}

@@ -1,7 +1,7 @@
 -- Every step of every phase keeps the scene sound and what each seat knows: the phases and works, each by its own lemma.
 use Rattle.std.proofs.Common.{◌≡◌, refl, sym, subst, ℕ, ◌<◌, ◌≤◌, ◌^◌, Bool, true, false, List, length}
 use Rattle.normal_traits.specs.NormalForm.{NormalForm}
-use Rattle.help_queue_laws.specs.declared.phases.Phase.TheVariants as in_queue
+use Rattle.help_queue_laws.specs.declared.phases.QueuePhase.TheVariants as in_queue
 use Rattle.help_queue_laws.specs.declared.phases.Helping.TheVariants.{Complete}
 use Rattle.help_queue_laws.specs.Ghosts.{Ghosts}
 use Rattle.help_queue_laws.proofs.Known.Scenes.{scene_of, IsSound, IsOut}

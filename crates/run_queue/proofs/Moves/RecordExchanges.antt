@@ -4,15 +4,15 @@ use Rattle.std.proofs.Common.{◌≡◌, ℕ, ◌+◌, ◌%◌, ◌<◌, ◌≤�
 use Rattle.std.specs.Prelude.{slice_index}
 use Rattle.step_memory.specs.declared.steps.Request.{Request}
 use Rattle.step_memory.specs.declared.steps.Request.TheVariants.{Exchange}
-use Rattle.word_fields.specs.declared.records.Phase.{Phase as RecordPhase}
-use Rattle.word_fields.specs.declared.records.Phase.TheVariants.{Idle, Generate, Executing, Wrapping, Completed}
+use Rattle.word_fields.specs.declared.records.RecordPhase.{RecordPhase}
+use Rattle.word_fields.specs.declared.records.RecordPhase.TheVariants.{Idle, Generate, Executing, Wrapping, Completed}
 use Rattle.word_fields.specs.declared.records.RecordWord.{RecordWord}
 use Rattle.word_fields.specs.Records.{phase_number, record_phase, record_number, record_round, record_of, packed_record, number_below, round_below}
-use Rattle.word_fields.proofs.RecordLemmas.{phase-word, number-word, round-word}
+use Rattle.word_fields.proofs.RecordWords.{phase-word, number-word, round-word}
 use Rattle.node_arena.specs.MemoryMap.{record_place}
 use Rattle.op_record.specs.Progress.{IsEarlier}
 use Rattle.help_queue.specs.Gathers.{is_open}
-use Rattle.help_queue_laws.specs.declared.phases.Phase as queue
+use Rattle.help_queue_laws.specs.declared.phases.QueuePhase as queue
 use Rattle.help_queue_laws.specs.Ghosts.{Ghosts, announces}
 use Rattle.help_queue_laws.proofs.Known.Scenes.{Scene, scene_of, IsSound}
 use Rattle.help_queue_laws.proofs.Known.Knowledge.{IsHelped}
@@ -75,7 +75,7 @@ goes_later word to (restarts is same) fits =
 
 -- ---- the exchange
 
-module _ (seats i : ℕ) (words : List ℕ) (ghosts : Ghosts) (at : queue.Phase) (long : 32 ≤ length words) (s word to : ℕ) (few : s < 8) where
+module _ (seats i : ℕ) (words : List ℕ) (ghosts : Ghosts) (at : queue.QueuePhase) (long : 32 ≤ length words) (s word to : ℕ) (few : s < 8) where
   abbrev request : Request
   request = Exchange (record_place s) (packed_record (record_of word)) to
 

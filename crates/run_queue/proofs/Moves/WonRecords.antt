@@ -2,15 +2,15 @@
 -- call, and where a list is yet to be made none is executed.
 use Rattle.std.proofs.Common.{◌≡◌, ◌∙◌, sym, subst, ap, ℕ, true, List, [], ◌∷◌, inl, inr}
 use Rattle.std.proofs.lemmas.Bool.{eqb-true}
-use Rattle.word_fields.specs.declared.records.Phase.TheVariants.{Generate, Executing}
+use Rattle.word_fields.specs.declared.records.RecordPhase.TheVariants.{Generate, Executing}
 use Rattle.word_fields.specs.declared.records.RecordWord.{RecordWord}
 use Rattle.word_fields.specs.Records.{record_phase, record_number, record_of, packed_record}
 use Rattle.word_fields.specs.Seats.{queue_seats}
-use Rattle.word_fields.proofs.RecordLemmas.{record_of-packed}
+use Rattle.word_fields.proofs.RecordWords.{record_of-packed}
 use Rattle.op_record.specs.Progress.{IsEarlier}
-use Rattle.op_record.proofs.ProgressLemmas.{earlier_irreflexive}
+use Rattle.op_record.proofs.RecordOrder.{earlier_irreflexive}
 use Rattle.help_queue.specs.Gathers.{is_first, is_open}
-use Rattle.help_queue_laws.specs.declared.phases.Phase.{Phase}
+use Rattle.help_queue_laws.specs.declared.phases.QueuePhase.{QueuePhase}
 use Rattle.help_queue_laws.proofs.Known.Scenes.{Scene, IsHead, IsSound}
 use Rattle.help_queue_laws.proofs.Known.Knowledge.{IsHelped, PhaseFacts}
 use Rattle.run_queue.proofs.Moves.Owners.{Publishes, open_owner}
@@ -37,7 +37,7 @@ module _ (a : Scene) (sound : IsSound a) (s word : ℕ) (helped : IsHelped a s w
   same_number = ap (λ (r : RecordWord). r.number) same_fields
 
   -- its seat makes that call, and publishes it
-  pub is_made : (seats n : ℕ) (phase : Phase) → is_open (record_phase word) ≡ true → PhaseFacts a seats s n phase → (record_number word ≡ n) × Publishes phase
+  pub is_made : (seats n : ℕ) (phase : QueuePhase) → is_open (record_phase word) ≡ true → PhaseFacts a seats s n phase → (record_number word ≡ n) × Publishes phase
   is_made seats n phase opened facts =
       let owner = open_owner a seats s n phase facts (ap is_open same_phase ∙ opened) in
       (sym same_number ∙ owner.0, owner.1)

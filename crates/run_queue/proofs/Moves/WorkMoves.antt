@@ -10,7 +10,7 @@ use Rattle.step_memory.proofs.Words.{exchange_changes}
 use Rattle.word_fields.specs.Records.{record_phase, record_number, record_of, packed_record}
 use Rattle.node_arena.specs.declared.places.TheConstants.{STATE_FIELD}
 use Rattle.node_arena.specs.MemoryMap.{record_place}
-use Rattle.node_arena.proofs.PlaceLemmas.{block_place_behind}
+use Rattle.node_arena.proofs.PlacesApart.{block_place_behind}
 use Rattle.normal_traits.specs.declared.lists.Entry.{Entry}
 use Rattle.normal_traits.specs.NormalForm.{NormalForm}
 use Rattle.cas_executor.specs.declared.slow_run.SlowStep.{SlowStep}
@@ -18,8 +18,8 @@ use Rattle.cas_executor.specs.declared.slow_run.SlowStep.TheVariants.{LoadState,
 use Rattle.cas_executor.specs.SlowRuns.{SlowWalk, step_request, request_at}
 use Rattle.help_queue.specs.Gathers.{is_open}
 use Rattle.help_queue_laws.specs.declared.phases.Helping.TheVariants as at
-use Rattle.help_queue_laws.specs.declared.phases.Phase as queue
-use Rattle.help_queue_laws.specs.declared.phases.Phase.TheVariants as in_queue
+use Rattle.help_queue_laws.specs.declared.phases.QueuePhase as queue
+use Rattle.help_queue_laws.specs.declared.phases.QueuePhase.TheVariants as in_queue
 use Rattle.help_queue_laws.specs.Ghosts.{Ghosts}
 use Rattle.help_queue_laws.proofs.Known.Scenes.{Scene, scene_of, IsSound}
 use Rattle.help_queue_laws.proofs.Known.Knowledge.{IsHelped, BackFacts}
@@ -131,7 +131,7 @@ module _ {S W : Type 0} (form : NormalForm S W) where
     abbrev was : Scene
     was = scene_of words ghosts
 
-    abbrev view : queue.Phase
+    abbrev view : queue.QueuePhase
     view = in_queue.Helps head drives (at.Complete word)
 
     abbrev next : Work S W → Seen → Mech S W

@@ -4,7 +4,7 @@ use Rattle.std.specs.Prelude.{replicate, slice_index}
 use Rattle.word_fields.specs.Records.{record_phase, record_number}
 use Rattle.node_arena.specs.MemoryMap.{op_place, record_place, value_place}
 use Rattle.node_arena.specs.Opening.{IsOpening, opening_words}
-use Rattle.node_arena.proofs.OpeningLemmas.{opening_each, length-opening_words}
+use Rattle.node_arena.proofs.ZerosOpen.{opening_each, length-opening_words}
 use Rattle.node_arena.proofs.Openings.{opens_zero_at}
 use Rattle.help_queue.specs.Gathers.{among_seats, holds, is_open}
 use Rattle.help_queue_laws.specs.Ghosts.{no_ghosts}
@@ -12,7 +12,7 @@ use Rattle.help_queue_laws.proofs.Known.Scenes.{scene_of, IsOut, IsSound}
 use Rattle.help_queue_laws.proofs.Known.Knowledge.{IsFree}
 use Rattle.help_queue_laws.proofs.Known.Frames.{Agrees, frames_sound}
 use Rattle.help_queue_laws.proofs.Steps.Results.{seat_word}
-use Rattle.help_queue_laws.proofs.Runs.RunLemmas.{zeros, zero_phase, zero_number, zero_seats, opening_sound}
+use Rattle.help_queue_laws.proofs.Runs.EveryRunHolds.{zeros, zero_phase, zero_number, zero_seats, opening_sound}
 use Rattle.run_queue.specs.Premises.{IsQueuePlace}
 
 -- the words of the queue are among the first

@@ -10,9 +10,9 @@ use Rattle.step_memory.proofs.Words.{length-words_after}
 use Rattle.normal_traits.specs.NormalForm.{NormalForm}
 use Rattle.help_queue_laws.specs.Ghosts.{Ghosts, no_ghosts}
 use Rattle.help_queue_laws.proofs.Known.Scenes.{Scene, scene_of, IsSound, Later}
-use Rattle.help_queue_laws.proofs.Acts.OtherLemmas.{phase_later}
+use Rattle.help_queue_laws.proofs.Acts.SeatKnowledgeStays.{phase_later}
 use Rattle.help_queue_laws.proofs.Steps.Results.{scene_after}
-use Rattle.help_queue_laws.proofs.Runs.RunLemmas.{at_set, beside_set, same_some}
+use Rattle.help_queue_laws.proofs.Runs.EveryRunHolds.{at_set, beside_set, same_some}
 use Rattle.fast_slow_engine.specs.declared.setup.Setup.{Setup}
 use Rattle.fast_slow_engine.specs.declared.phases.Phase.{Phase}
 use Rattle.fast_slow_engine.specs.declared.phases.Phase.TheVariants.{Idle, Begin, Look, Generate, Apply, Wrap, Announce, Enter, Drive, Help, Collect, Value, End}

@@ -15,8 +15,8 @@ use Rattle.cas_executor.specs.declared.fast_run.Execution.{Execution}
 use Rattle.cas_executor.specs.declared.fast_run.Execution.TheVariants.{Running, Stopped}
 use Rattle.cas_executor.specs.FastRuns.{FastWalk}
 use Rattle.help_queue.specs.Gathers.{holds}
-use Rattle.help_queue_laws.specs.declared.phases.Phase as queue
-use Rattle.help_queue_laws.specs.declared.phases.Phase.TheVariants as in_queue
+use Rattle.help_queue_laws.specs.declared.phases.QueuePhase as queue
+use Rattle.help_queue_laws.specs.declared.phases.QueuePhase.TheVariants as in_queue
 use Rattle.help_queue_laws.specs.declared.phases.Helping.TheVariants as at
 use Rattle.help_queue_laws.specs.Callers as callers
 use Rattle.help_queue_laws.proofs.Known.Scenes.{Scene, IsOut}
@@ -37,7 +37,7 @@ use Rattle.run_queue.specs.Fits.{PhaseFits, TellsCall}
 
 module _ {S W : Type 0} where
   -- the machine is a seat of the queue in this phase, with this number for its next announcement
-  pub record Views (seats : ℕ) (mech : Mech S W) (n : ℕ) (at : queue.Phase) : Type 0 where
+  pub record Views (seats : ℕ) (mech : Mech S W) (n : ℕ) (at : queue.QueuePhase) : Type 0 where
     pub phase' : phase_view mech.phase ≡ at
     pub number : next_number mech.phase mech.number ≡ n
     pub fits : PhaseFits seats mech.phase
@@ -46,17 +46,17 @@ module _ {S W : Type 0} where
   abbrev pub KnowsQueue : Scene → ℕ → ℕ → Mech S W → Type 0
   KnowsQueue a seats i mech = PhaseFacts a seats i (next_number mech.phase mech.number) (phase_view mech.phase)
 
-  pub knows_by : (a : Scene) (seats i n : ℕ) (mech : Mech S W) (at : queue.Phase) → Views seats mech n at → PhaseFacts a seats i n at → KnowsQueue a seats i mech
+  pub knows_by : (a : Scene) (seats i n : ℕ) (mech : Mech S W) (at : queue.QueuePhase) → Views seats mech n at → PhaseFacts a seats i n at → KnowsQueue a seats i mech
   knows_by a seats i n mech at v h = subst (λ p. PhaseFacts a seats i (next_number mech.phase mech.number) p) (sym v.phase') (subst (λ k. PhaseFacts a seats i k at) (sym v.number) h)
 
-  pub views_number : (seats m n : ℕ) (mech : Mech S W) (at : queue.Phase) → n ≡ m → Views seats mech n at → Views seats mech m at
+  pub views_number : (seats m n : ℕ) (mech : Mech S W) (at : queue.QueuePhase) → n ≡ m → Views seats mech n at → Views seats mech m at
   views_number seats m n mech at same v = subst (λ k. Views seats mech k at) same v
 
-  pub views_if : (seats n : ℕ) (b : Bool) (x y : Mech S W) (v w : queue.Phase) → Views seats x n v → Views seats y n w → Views seats (if b then x else y) n (if b then v else w)
+  pub views_if : (seats n : ℕ) (b : Bool) (x y : Mech S W) (v w : queue.QueuePhase) → Views seats x n v → Views seats y n w → Views seats (if b then x else y) n (if b then v else w)
   views_if seats n true x y v w h k = h
   views_if seats n false x y v w h k = k
 
-  both : (seats n : ℕ) (b : Bool) (x y : Mech S W) (v : queue.Phase) → Views seats x n v → Views seats y n v → Views seats (if b then x else y) n v
+  both : (seats n : ℕ) (b : Bool) (x y : Mech S W) (v : queue.QueuePhase) → Views seats x n v → Views seats y n v → Views seats (if b then x else y) n v
   both seats n true x y v h k = h
   both seats n false x y v h k = k
 

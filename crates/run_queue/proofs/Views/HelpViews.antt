@@ -9,7 +9,7 @@ use Rattle.help_queue.specs.declared.remove.Removing.TheVariants as removing_to
 use Rattle.help_queue.specs.Gathers.{is_open, leads}
 use Rattle.help_queue.specs.Removes.{Removal, remove_fed, remove_new, removing}
 use Rattle.help_queue_laws.specs.declared.phases.Helping.TheVariants as at
-use Rattle.help_queue_laws.specs.declared.phases.Phase.TheVariants as in_queue
+use Rattle.help_queue_laws.specs.declared.phases.QueuePhase.TheVariants as in_queue
 use Rattle.help_queue_laws.specs.Callers as callers
 use Rattle.fast_slow_engine.specs.declared.phases.Phase.TheVariants as phase
 use Rattle.fast_slow_engine.specs.declared.help.Help.{Help}

@@ -7,8 +7,8 @@ use Rattle.lin_report.specs.declared.calls.Op.{Op}
 use Rattle.lin_report.specs.declared.calls.Reply.TheVariants.{Exhausted}
 use Rattle.lin_report.specs.declared.calls.Outcome.TheVariants.{Plain}
 use Rattle.step_memory.specs.declared.steps.Seen.{Seen}
-use Rattle.word_fields.specs.declared.records.Phase.{Phase as RecordPhase}
-use Rattle.word_fields.specs.declared.records.Phase.TheVariants.{Idle, Generate, Executing, Wrapping, Completed}
+use Rattle.word_fields.specs.declared.records.RecordPhase.{RecordPhase}
+use Rattle.word_fields.specs.declared.records.RecordPhase.TheVariants.{Idle, Generate, Executing, Wrapping, Completed}
 use Rattle.word_fields.specs.Records.{record_phase}
 use Rattle.normal_traits.specs.declared.lists.Entry.{Entry}
 use Rattle.normal_traits.specs.declared.form.Found.{Found}

@@ -49,7 +49,7 @@ use Rattle.run_invariant.specs.Known.{KnowsIn, KnowsRun, KnowsWrap, MakesCommand
 use Rattle.run_invariant.specs.Moves.{Enters, StepsIn}
 use Rattle.run_invariant.specs.Kept.{callers_in}
 use Rattle.run_invariant.proofs.InRuns.Leaves.{leaves}
-use Rattle.run_invariant.proofs.InRuns.Moved.{Moved, after, does, known, mech, mover, of_seat, offers, own, queued, seated, seen, world}
+use Rattle.run_invariant.proofs.InRuns.MovesInRuns.{Moved, after, does, known, mech, mover, of_seat, offers, own, queued, seated, seen, world}
 use Rattle.run_invariant.proofs.Tells.OwnLists.{run_ends, wrap_goes}
 use Rattle.run_invariant.proofs.Tells.Values.{AreReplied}
 use Rattle.run_invariant.proofs.Tells.Replies.{changed_not, right_not}
@@ -152,7 +152,7 @@ module _ {S W : Type 0} (form : NormalForm S W) {setup : Setup} {older : List Mo
   full_end s since command ready knows off saw =
       let past = no_less (seen form m).before (mover form m).setup.cap off in
       let cap = ap (λ (s : Setup). s.cap) (of_seat form m).setup in
-      record { may = (m.laws.lists (world form m) s (mover form m).op since command knows ready).1; none_left = omega (arith, past, saw, cap) }
+      record { may = (m.laws.of_world.lists (world form m) s (mover form m).op since command knows ready).1; none_left = omega (arith, past, saw, cap) }
 
   -- a call that is told by its record
   told_left : (outcome : Outcome) → mover form m ≡ mech form m → EndsCompleted (run_of form setup older).words move.seat (mech form m) outcome → outcome ≡ Plain Exhausted → Left

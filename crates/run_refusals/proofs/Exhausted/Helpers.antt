@@ -7,8 +7,8 @@ use Rattle.lin_report.specs.declared.calls.Reply.TheVariants.{Exhausted}
 use Rattle.lin_report.specs.Commands.{may_exhaust}
 use Rattle.step_memory.specs.Step.{seen_of}
 use Rattle.step_memory.proofs.Words.{add_tells, load_tells}
-use Rattle.word_fields.specs.declared.records.Phase as marks
-use Rattle.word_fields.specs.declared.records.Phase.TheVariants as record_phases
+use Rattle.word_fields.specs.declared.records.RecordPhase as marks
+use Rattle.word_fields.specs.declared.records.RecordPhase.TheVariants as record_phases
 use Rattle.word_fields.specs.Records.{record_number, record_phase}
 use Rattle.node_arena.specs.declared.places.TheConstants.{CLAIMS}
 use Rattle.help_queue_laws.specs.Runs.{record_in}
@@ -40,14 +40,14 @@ use Rattle.helper_knowledge.specs.Carried.{Carried}
 use Rattle.helper_knowledge.specs.HelperStep.{HandIsSpare, RestsOn, Steps}
 use Rattle.helper_knowledge.specs.Knowing.{KnowsSearch}
 use Rattle.helper_knowledge.specs.WorkKnown.{KnowsWork}
-use Rattle.helper_knowledge.proofs.LawLemmas.{numbers_below, work_goes_on}
-use Rattle.run_laws.proofs.ClaimLemmas.{claims_rise}
+use Rattle.helper_knowledge.proofs.LawsOfHelpers.{numbers_below, work_goes_on}
+use Rattle.run_laws.proofs.BlocksClaimed.{claims_rise}
 use Rattle.run_laws.proofs.Steps.{beside_set, move_steps, some_same}
 use Rattle.run_invariant.specs.RunGhosts.{ghost_of}
 use Rattle.run_invariant.specs.Moves.{WorkSteps}
 use Rattle.run_invariant.specs.Kept.{caller_at, callers_in}
 use Rattle.run_invariant.proofs.Bounds.InKept.{used_small}
-use Rattle.run_invariant.proofs.InRuns.Moved.{Moved, after, claims, mech, mover, new, new_seated, of_seat, offers, own, queued, seated, seen, world}
+use Rattle.run_invariant.proofs.InRuns.MovesInRuns.{Moved, after, claims, mech, mover, new, new_seated, of_seat, offers, own, queued, seated, seen, world}
 use Rattle.run_invariant.proofs.Tells.Values.{AreReplied}
 use Rattle.run_invariant.proofs.Tells.Replies.{right_not}
 use Rattle.run_refusals.specs.NoneLeft.{LeftFor, LeftHelp, LeftWork, NoneLeft}
@@ -108,7 +108,7 @@ module _ {S W : Type 0} (form : NormalForm S W) {setup : Setup} {older : List Mo
     either_left true x y h k = h
     either_left false x y h k = k refl
 
-    first_left : (p : marks.Phase) → Left (first_work form p word)
+    first_left : (p : marks.RecordPhase) → Left (first_work form p word)
     first_left record_phases.Idle = tt
     first_left record_phases.Generate = tt
     first_left record_phases.Executing = tt
@@ -129,7 +129,7 @@ module _ {S W : Type 0} (form : NormalForm S W) {setup : Setup} {older : List Mo
         let same : caller ≡ caller_of (called owner) ((ghost_of form setup older).seats head).begun = ap (λ (o : Option (Mech S W)). caller_at o ((ghost_of form setup older).seats head).begun) at in
         let operates : op ≡ owner.op = knows.op_is (ap (λ (c : Caller). c.number) same ∙ is) ∙ ap (λ (c : Caller). c.op) same in
         record {
-          may = subst (λ (o : Op). IsTrue (may_exhaust o)) operates (m.laws.lists (world form m) s op since knows.command knows.knows ready).1;
+          may = subst (λ (o : Op). IsTrue (may_exhaust o)) operates (m.laws.of_world.lists (world form m) s op since knows.command knows.knows ready).1;
           none_left = full;
         }
 
@@ -165,7 +165,7 @@ module _ {S W : Type 0} (form : NormalForm S W) {setup : Setup} {older : List Mo
         by_turn Over going on' = absurd cc
 
     -- the phase in which the record was loaded that a list is read, executed or wrapped up for
-    engaged_not : (p : marks.Phase) → (p ≡ record_phases.Executing) ⊎ (p ≡ record_phases.Wrapping) → p ≢ record_phases.Generate
+    engaged_not : (p : marks.RecordPhase) → (p ≡ record_phases.Executing) ⊎ (p ≡ record_phases.Wrapping) → p ≢ record_phases.Generate
     engaged_not p (inl e) other = (let both = sym e ∙ other in absurd cc)
     engaged_not p (inr e) other = (let both = sym e ∙ other in absurd cc)
 
@@ -220,7 +220,7 @@ module _ {S W : Type 0} (form : NormalForm S W) {setup : Setup} {older : List Mo
     turn_later Again next below left = tt
     turn_later Over next below left = next_later next below left
 
-    first_later : (turn : WorkTurn) (p : marks.Phase) → LeftHelp setup (run_of form setup (move ∷ older)) (worked form turn word (first_work form p word)) head
+    first_later : (turn : WorkTurn) (p : marks.RecordPhase) → LeftHelp setup (run_of form setup (move ∷ older)) (worked form turn word (first_work form p word)) head
     first_later Again p = tt
     first_later Going record_phases.Idle = tt
     first_later Going record_phases.Generate = tt

@@ -8,7 +8,7 @@ use Rattle.word_fields.specs.Records.{record_number, record_phase}
 use Rattle.op_record.specs.Outcomes.{is_completed}
 use Rattle.help_queue.specs.Gathers.{is_open}
 use Rattle.help_queue_laws.specs.Runs.{record_in}
-use Rattle.help_queue_laws.proofs.Runs.RunLemmas.{zero_phase}
+use Rattle.help_queue_laws.proofs.Runs.EveryRunHolds.{zero_phase}
 use Rattle.normal_traits.specs.declared.form.Found.{Found}
 use Rattle.normal_traits.specs.declared.form.Found.TheVariants as found
 use Rattle.normal_traits.specs.declared.form.Wrapped.{Wrapped}
@@ -34,8 +34,8 @@ use Rattle.fast_slow_engine.specs.Runs.{Move, RunState, begun, run_of}
 use Rattle.fast_slow_engine.proofs.SameCalls.{same_fed}
 use Rattle.helper_knowledge.specs.CallLaws.{LoadedBelow}
 use Rattle.helper_knowledge.specs.HelperStep.{HandIsSpare}
-use Rattle.helper_knowledge.proofs.LawLemmas.{numbers_below}
-use Rattle.run_laws.proofs.SeatLemmas.{new_mech, seats_stay}
+use Rattle.helper_knowledge.proofs.LawsOfHelpers.{numbers_below}
+use Rattle.run_laws.proofs.MachinesKept.{new_mech, seats_stay}
 use Rattle.run_laws.proofs.Steps.{move_steps}
 use Rattle.run_laws.proofs.Summaries.{each_moved}
 use Rattle.run_queue.specs.Fits.{PhaseFits}
@@ -50,7 +50,7 @@ use Rattle.run_invariant.specs.Moves.{HelpSteps, RestsHelp, RestsIn, StepsIn}
 use Rattle.run_invariant.specs.Kept.{RunsAreKept, callers_in}
 use Rattle.run_invariant.proofs.Holding.PlainSteps.{HoldsPlain, either_plain, failed_plain, help_plain, leads_plain, told_plain}
 use Rattle.run_invariant.proofs.InRuns.Rests.{rests_move}
-use Rattle.run_invariant.proofs.InRuns.Moved.{Moved, after, does, known, mech, mover, new, offers, own, queued, seated, seen, world, moved}
+use Rattle.run_invariant.proofs.InRuns.MovesInRuns.{Moved, after, does, known, mech, mover, new, offers, own, queued, seated, seen, world, moved}
 use Rattle.run_invariant.proofs.Tells.Values.{AreReplied}
 use Rattle.run_invariant.proofs.Tells.Replies.{replies_right}
 use Rattle.run_refusals.specs.NoneLeft.{EachLeft, LeftFor, LeftHelp, LeftHelping, LeftWell, NoneLeft, NoneLeftHolds, TellsNone}

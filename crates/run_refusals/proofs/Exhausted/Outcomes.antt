@@ -5,13 +5,13 @@ use Rattle.lin_report.specs.declared.calls.Outcome.{Outcome}
 use Rattle.lin_report.specs.declared.calls.Outcome.TheVariants.{Plain, ValueOf}
 use Rattle.lin_report.specs.declared.calls.Reply.{Reply}
 use Rattle.lin_report.specs.declared.calls.Reply.TheVariants.{Yes, No, Done, Value, Empty, Absent, Exhausted}
-use Rattle.word_fields.specs.declared.records.Phase as marks
-use Rattle.word_fields.specs.declared.records.Phase.TheVariants as record_phases
+use Rattle.word_fields.specs.declared.records.RecordPhase as marks
+use Rattle.word_fields.specs.declared.records.RecordPhase.TheVariants as record_phases
 use Rattle.word_fields.specs.declared.records.RecordWord.{RecordWord}
 use Rattle.word_fields.specs.Records.{record_of, record_phase, record_word}
-use Rattle.word_fields.proofs.RecordLemmas.{phase-word}
+use Rattle.word_fields.proofs.RecordWords.{phase-word}
 use Rattle.op_record.specs.Outcomes.{FitsPayload, completed_word, is_completed, outcome_of}
-use Rattle.op_record.proofs.OutcomeLemmas.{outcome_of-completed}
+use Rattle.op_record.proofs.OutcomesReadBack.{outcome_of-completed}
 use Rattle.help_queue.specs.Enters.{outcome_or_done}
 use Rattle.normal_traits.specs.World.{ChangedBy, World}
 use Rattle.normal_traits.specs.NormalForm.{NormalForm}
@@ -73,7 +73,7 @@ unfolding outcome_of
 untold word other tells = absurd (cond_none (is_completed (record_phase word)) _ (Plain Exhausted) other tells)
 
 -- so a word made for another phase tells nothing
-pub untold_word : {A : Type 0} (p : marks.Phase) (number round payload : ℕ) → is_completed p ≡ false → TellsNone (record_word p number round payload) → A
+pub untold_word : {A : Type 0} (p : marks.RecordPhase) (number round payload : ℕ) → is_completed p ≡ false → TellsNone (record_word p number round payload) → A
 untold_word p number round payload other tells = untold (record_word p number round payload) (ap is_completed (phase-word p number round payload) ∙ other) tells
 
 -- the outcome that is read of a word, where it is this one

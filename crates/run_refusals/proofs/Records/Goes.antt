@@ -2,9 +2,9 @@
 use Rattle.std.proofs.Common.{◌≡◌, ◌≢◌, ◌∙◌, refl, sym, subst, ap, ℕ, ◌<◌, ◌⊎◌, inl, inr, Bool, true, List, ◌∷◌, length, slice_index, Option, Some, None, arith}
 use Rattle.std.proofs.lemmas.Bool.{cases_eq}
 use Rattle.lin_report.specs.declared.calls.Op.{Op}
-use Rattle.word_fields.specs.declared.records.Phase.TheVariants as marks
+use Rattle.word_fields.specs.declared.records.RecordPhase.TheVariants as marks
 use Rattle.word_fields.specs.Records.{packed_record, record_of, record_phase}
-use Rattle.word_fields.proofs.RecordLemmas.{phase-word}
+use Rattle.word_fields.proofs.RecordWords.{phase-word}
 use Rattle.node_arena.specs.MemoryMap.{record_place}
 use Rattle.help_queue_laws.specs.Runs.{record_in}
 use Rattle.normal_traits.specs.World.{World}
@@ -35,7 +35,7 @@ use Rattle.run_invariant.specs.Ghosts.{SeatGhost}
 use Rattle.run_invariant.specs.RunGhosts.{ghost_of}
 use Rattle.run_invariant.specs.Moves.{Advances, Announces, HelpSteps, Puts, StepsIn, WorkSteps}
 use Rattle.run_invariant.specs.Moves.Advances.{lost, won}
-use Rattle.run_invariant.proofs.InRuns.Moved.{Moved, after, does, known, mech, mover, offers, own, queued, seated, seen, world}
+use Rattle.run_invariant.proofs.InRuns.MovesInRuns.{Moved, after, does, known, mech, mover, offers, own, queued, seated, seen, world}
 
 -- a record goes on to this word where a helper in this phase has won its exchange
 pub record IsAdvanced {S W : Type 0} (at : Phase S W) (seat before now : ℕ) : Type 0 where

@@ -16,12 +16,12 @@ use Rattle.fast_slow_engine.specs.Mechs.{Mech}
 use Rattle.fast_slow_engine.specs.PhaseTable.{request_in, stepped, ticks_left}
 use Rattle.fast_slow_engine.specs.Runs.{AreMoves, Move, begun, run_of}
 use Rattle.fast_slow_engine.proofs.SameCalls.{same_fed}
-use Rattle.offered_blocks.specs.Records.{IsOf, MadeNone}
+use Rattle.offered_blocks.specs.Records.{IsCallsChange, MadeNone}
 use Rattle.helper_knowledge.specs.Callers.{called}
 use Rattle.run_laws.specs.Ticks.{draws_tick}
 use Rattle.run_laws.proofs.Begins.{begin_stays}
-use Rattle.run_laws.proofs.CallLemmas.{ticks_go_on}
-use Rattle.run_laws.proofs.SeatLemmas.{new_mech}
+use Rattle.run_laws.proofs.CallsFollow.{ticks_go_on}
+use Rattle.run_laws.proofs.MachinesKept.{new_mech}
 use Rattle.run_laws.proofs.Summaries.{tick_of}
 use Rattle.run_exchanges.specs.Ghosts.{SeatGhost}
 use Rattle.run_exchanges.specs.RunGhosts.{ghost_of, world_of}
@@ -30,7 +30,7 @@ use Rattle.run_exchanges.specs.Kept.{RunsAreKept}
 use Rattle.run_exchanges.specs.Tells.{ChangesBelow, TellsIn}
 use Rattle.run_exchanges.proofs.Words.Moved.{made_seat, made_moved}
 use Rattle.run_exchanges.proofs.Words.Seats.{EachSeat, seats_moved}
-use Rattle.run_exchanges.proofs.InRuns.Moved.{Moved, after, mech, mover, new, own, seated, seen, ticks, world, moved}
+use Rattle.run_exchanges.proofs.InRuns.MovesInRuns.{Moved, after, mech, mover, new, own, seated, seen, ticks, world, moved}
 use Rattle.run_exchanges.proofs.Changes.Adds.{Adds, none, aside, serves, adds}
 use Rattle.run_reports.specs.Changes.{changes_at}
 use Rattle.run_reports.specs.Endings.{StandsOver}
@@ -41,7 +41,7 @@ module _ {S W : Type 0} (form : NormalForm S W) where
   -- of a seat whose call runs
   pub record BegunWell (setup : Setup) (moves : List Move) (mech : Mech S W) (own : SeatGhost S) : Type 0 where
     pub count : ticks_left mech.phase ≡ 1 → own.begun ≡ changes_at form setup moves mech.begin
-    pub after' : ticks_left mech.phase ≡ 1 → (change : Change) (older : List Change) → StandsOver (world_of form setup moves).changes change older → IsOf (called mech) change → own.begun ≤ length older
+    pub after' : ticks_left mech.phase ≡ 1 → (change : Change) (older : List Change) → StandsOver (world_of form setup moves).changes change older → IsCallsChange (called mech) change → own.begun ≤ length older
 
   abbrev pub EachBegun : Setup → List Move → Type 0
   EachBegun setup moves = EachSeat form (λ seat mech own. BegunWell setup moves mech own) setup moves
@@ -61,8 +61,8 @@ module _ {S W : Type 0} (form : NormalForm S W) where
     new_stands (serves list j entry cause keeper at behind journal changes has served) change past stands =
         with_stands form.object (listed_if (form.adds list j) list) (world form m).changes change past (subst (λ l. StandsOver l change past) changes stands)
 
-    after_more : (call : Called) (begun : ℕ) → begun ≤ length (world form m).changes → ((change : Change) (past : List Change) → StandsOver (world form m).changes change past → IsOf call change → begun ≤ length past)
-        → (change : Change) (past : List Change) → StandsOver (after form m).changes change past → IsOf call change → begun ≤ length past
+    after_more : (call : Called) (begun : ℕ) → begun ≤ length (world form m).changes → ((change : Change) (past : List Change) → StandsOver (world form m).changes change past → IsCallsChange call change → begun ≤ length past)
+        → (change : Change) (past : List Change) → StandsOver (after form m).changes change past → IsCallsChange call change → begun ≤ length past
     after_more call begun early old change past stands of =
         elim (new_stands (adds form m) change past stands) [
           | inl new ↦ subst (λ (l : List Change). begun ≤ length l) (sym new) early
@@ -109,7 +109,7 @@ module _ {S W : Type 0} (form : NormalForm S W) where
     begin_none None one known' tells below is = subst (λ (p : Phase S W). TellsIn form p one known' (world form m)) is tells
     begin_none (Some op) one known' tells below is = λ change among of. (let less = below change among of.seat in let number = of.number in omega (arith, less, number))
 
-    of_new : (change : Change) → IsOf (called (new form m)) change → IsOf (called (mover form m)) change
+    of_new : (change : Change) → IsCallsChange (called (new form m)) change → IsCallsChange (called (mover form m)) change
     of_new change of = (let same = same_fed form (mover form m) (seen form m) in record { seat = of.seat ∙ same.seat; number = of.number ∙ same.number })
 
     begun_is : (begun' : ℕ) → (mover form m).phase ≡ Begin → begun' ≡ length (after form m).changes → begun' ≡ changes_at form setup (move ∷ older) (new form m).begin
@@ -142,7 +142,7 @@ module _ {S W : Type 0} (form : NormalForm S W) where
           count = λ running. same ∙ well.count left' ∙ sym (at_stays form setup older move (mech form m).begin m.are (ticks form m) below) ∙ ap (changes_at form setup (move ∷ older)) (sym begin);
           after' = λ running change past stands of.
               (let early = (m.kept.seats move.seat (mech form m) (seated form m)).early in
-              let of' : IsOf (called (mech form m)) change = subst (λ (x : Mech S W). IsOf (called x) change) one (of_new change of) in
+              let of' : IsCallsChange (called (mech form m)) change = subst (λ (x : Mech S W). IsCallsChange (called x) change) one (of_new change of) in
               let far = after_more (called (mech form m)) (own form m).begun early (well.after' left') change past stands of' in
               omega (arith, far, same));
         }

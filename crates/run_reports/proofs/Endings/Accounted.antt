@@ -19,16 +19,16 @@ use Rattle.fast_slow_engine.specs.PhaseTable.{mech_turn, stepped, ticks_left, tu
 use Rattle.fast_slow_engine.specs.Runs.{Move, RunState, AreMoves, CanMove, begun, returned, run_of}
 use Rattle.fast_slow_engine.proofs.SameCalls.{same_fed}
 use Rattle.fast_slow_engine.proofs.Ticks.{draws}
-use Rattle.offered_blocks.specs.Records.{IsOf, TellsRight}
+use Rattle.offered_blocks.specs.Records.{IsCallsChange, TellsRight}
 use Rattle.offered_blocks.specs.Records.TellsRight.{observed, changed, refused as was_refused}
 use Rattle.helper_knowledge.specs.Callers.{called}
-use Rattle.run_laws.proofs.CallLemmas as calls
+use Rattle.run_laws.proofs.CallsFollow as calls
 use Rattle.run_laws.proofs.StepKinds.{rests_none}
 use Rattle.run_laws.proofs.Steps.{beside_set, move_steps, some_same}
 use Rattle.run_laws.proofs.Summaries.{tick_of}
 use Rattle.run_exchanges.specs.RunGhosts.{world_of}
 use Rattle.run_exchanges.specs.Kept.{RunsAreKept}
-use Rattle.run_exchanges.proofs.InRuns.Moved.{Moved, can, mech, mover, new, new_seated, own, seated, seen, ticks, moved}
+use Rattle.run_exchanges.proofs.InRuns.MovesInRuns.{Moved, can, mech, mover, new, new_seated, own, seated, seen, ticks, moved}
 use Rattle.run_exchanges.proofs.Changes.Adds.{Adds, none, aside, serves, adds, DifferentLists, first_differs}
 use Rattle.run_exchanges.proofs.Moves.Served.{IsServed}
 use Rattle.run_refusals.specs.NoneLeft.{EachLeft}
@@ -152,7 +152,7 @@ module _ {S W : Type 0} (form : NormalForm S W) where
     -- ---- who made the changes
 
     pairs : AllPairs DifferentLists (world_of form setup older).changes
-    pairs = m.laws.one_change_a_list (world_of form setup older) m.kept.holds.shape
+    pairs = m.laws.of_world.one_change_a_list (world_of form setup older) m.kept.holds.shape
 
     -- where the mover returns, a change of its call has the reply that it tells
     told_reply : (reply : Reply) (begun' : ℕ) (change : Change) → Among change (world_of form setup older).changes → change.list.call ≡ called (mover form m)
@@ -205,8 +205,8 @@ module _ {S W : Type 0} (form : NormalForm S W) where
         → (mate : Change) → Among mate (world_of form setup older).changes → list.call.seat ≡ mate.list.call.seat → ¬ (list.call.number ≡ mate.list.call.number)
     not_twice list served comes mate among same number =
         let new' = change_of form.object list (world_of form setup older).changes in
-        let apart = first_differs new' (world_of form setup older).changes mate (subst (AllPairs DifferentLists) comes (m.laws.one_change_a_list (world_of form setup (move ∷ older)) m.later.holds.shape)) among in
-        let own' : IsOf (called served.mech) mate = record { seat = sym same ∙ ap (λ (c : Called). c.seat) served.call; number = sym number ∙ ap (λ (c : Called). c.number) served.call } in
+        let apart = first_differs new' (world_of form setup older).changes mate (subst (AllPairs DifferentLists) comes (m.laws.of_world.one_change_a_list (world_of form setup (move ∷ older)) m.later.holds.shape)) among in
+        let own' : IsCallsChange (called served.mech) mate = record { seat = sym same ∙ ap (λ (c : Called). c.seat) served.call; number = sym number ∙ ap (λ (c : Called). c.number) served.call } in
         let one_list : mate.list ≡ list = served.only mate among own' in
         apart (ap (λ (l : Listed). l.identity) (sym one_list))
 

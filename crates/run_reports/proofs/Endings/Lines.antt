@@ -18,20 +18,20 @@ use Rattle.fast_slow_engine.specs.declared.setup.Setup.{Setup}
 use Rattle.fast_slow_engine.specs.Mechs.{Mech}
 use Rattle.fast_slow_engine.specs.PhaseTable.{receipt_of, request_in, stepped, ticks_left, turn_in}
 use Rattle.fast_slow_engine.specs.Runs.{Move, RunState, begun, returned, run_of}
-use Rattle.offered_blocks.specs.Records.{IsOf, MadeNone, TellsRight}
+use Rattle.offered_blocks.specs.Records.{IsCallsChange, MadeNone, TellsRight}
 use Rattle.offered_blocks.specs.Records.TellsRight.{observed, changed, refused as was_refused}
 use Rattle.helper_knowledge.specs.Callers.{called}
 use Rattle.run_laws.specs.Drawn.{IsDrawnAt}
 use Rattle.run_laws.specs.Ticks.{draws_tick}
-use Rattle.run_laws.proofs.CallLemmas.{ticks_go_on}
-use Rattle.run_laws.proofs.SeatLemmas.{seats_stay}
+use Rattle.run_laws.proofs.CallsFollow.{ticks_go_on}
+use Rattle.run_laws.proofs.MachinesKept.{seats_stay}
 use Rattle.run_laws.proofs.Steps.{move_steps}
 use Rattle.run_laws.proofs.StepKinds.{begins, returns, goes}
-use Rattle.run_laws.proofs.TickLemmas.{counts_ticks, move_kind}
+use Rattle.run_laws.proofs.TicksCounted.{counts_ticks, move_kind}
 use Rattle.run_laws.proofs.Summaries.{tick_of}
 use Rattle.run_exchanges.specs.RunGhosts.{ghost_of, world_of}
 use Rattle.run_exchanges.specs.Tells.{TellsIn}
-use Rattle.run_exchanges.proofs.InRuns.Moved.{Moved, mech, mover, own, seated, seen, ticks, world}
+use Rattle.run_exchanges.proofs.InRuns.MovesInRuns.{Moved, mech, mover, own, seated, seen, ticks, world}
 use Rattle.run_refusals.specs.NoneLeft.{EachLeft, NoneLeft}
 use Rattle.run_reports.specs.Changes.{changes_at}
 use Rattle.run_reports.specs.Endings.{ChangedNone, HasEnded, HasSeen, MadeChange, StandsOver, WasRefused}
@@ -64,7 +64,7 @@ module _ {S W : Type 0} where
   all_lines P Collect one saw' ends = All-nil P
   all_lines P (Value reference) one saw' ends = All-nil P
 
-  pub of_call : (one : Mech S W) (change : Change) → change.list.call ≡ called one → IsOf (called one) change
+  pub of_call : (one : Mech S W) (change : Change) → change.list.call ≡ called one → IsCallsChange (called one) change
   of_call one change call = record { seat = ap (λ (c : Called). c.seat) call; number = ap (λ (c : Called). c.number) call }
 
 module _ {S W : Type 0} (form : NormalForm S W) {setup : Setup} {older : List Move} {move : Move} (m : Moved form setup older move) (each : EachBegun form setup older) where
@@ -116,7 +116,7 @@ module _ {S W : Type 0} (form : NormalForm S W) {setup : Setup} {older : List Mo
         → MadeChange form setup (move ∷ older) (line_of reply) change past
     made_by_line change past stands call told =
         let left : ticks_left (mech form m).phase ≡ 1 = ap ticks_left ends_is in
-        let early = (each move.seat (mech form m) (seated form m)).after' left change past stands (subst (λ (x : Mech S W). IsOf (called x) change) as_before (of_call (mover form m) change call)) in
+        let early = (each move.seat (mech form m) (seated form m)).after' left change past stands (subst (λ (x : Mech S W). IsCallsChange (called x) change) as_before (of_call (mover form m) change call)) in
         record {
           stands = stands_still form setup older move change past stands;
           call = call;

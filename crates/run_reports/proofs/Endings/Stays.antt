@@ -7,7 +7,7 @@ use Rattle.fast_slow_engine.specs.declared.setup.Setup.{Setup}
 use Rattle.fast_slow_engine.specs.Runs.{Move, AreMoves, run_of}
 use Rattle.run_laws.specs.Drawn.{IsDrawnAt}
 use Rattle.run_laws.specs.Ticks.{KeepsTicks}
-use Rattle.run_laws.proofs.CallLemmas.{HasEnded}
+use Rattle.run_laws.proofs.CallsFollow.{HasEnded}
 use Rattle.run_laws.proofs.Summaries.{tick_of}
 use Rattle.run_exchanges.specs.RunGhosts.{ghost_of}
 use Rattle.run_exchanges.proofs.Words.Grow.{world_grows}

@@ -19,8 +19,8 @@ use Rattle.move_kinds.specs.Owned.{IsOwned}
 use Rattle.move_kinds.specs.Owned.IsOwned.{unannounced as is_unannounced, named as is_named, dead as is_dead, changed as has_changed}
 use Rattle.helper_knowledge.specs.Callers.{called}
 use Rattle.run_laws.specs.Ticks.{draws_tick}
-use Rattle.run_laws.proofs.CallLemmas.{numbers_go_on}
-use Rattle.run_laws.proofs.SeatLemmas.{seats_stay}
+use Rattle.run_laws.proofs.CallsFollow.{numbers_go_on}
+use Rattle.run_laws.proofs.MachinesKept.{seats_stay}
 use Rattle.run_laws.proofs.Steps.{some_same}
 use Rattle.run_exchanges.specs.Ghosts.{Held}
 use Rattle.run_exchanges.specs.Lists.{HoldsIn}
@@ -31,7 +31,7 @@ use Rattle.run_exchanges.specs.Tells.IsFollowed.{with_seat, dead, changed}
 use Rattle.run_exchanges.proofs.Holding.HeldLists.{lists_held}
 use Rattle.run_exchanges.proofs.Words.Grow.{world_grows}
 use Rattle.run_exchanges.proofs.Goes.Runs.{took_grows}
-use Rattle.run_exchanges.proofs.InRuns.Moved.{Moved, after, mech, mover, offers, own, seated, step, ticks, world, moved}
+use Rattle.run_exchanges.proofs.InRuns.MovesInRuns.{Moved, after, mech, mover, offers, own, seated, step, ticks, world, moved}
 use Rattle.run_exchanges.proofs.Changes.Adds.{Adds, none, aside, serves, adds}
 use Rattle.run_exchanges.proofs.Changes.Items.{item_of}
 use Rattle.run_exchanges.proofs.Journals.Once.{no_maker, same_maker}

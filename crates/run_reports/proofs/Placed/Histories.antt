@@ -7,7 +7,7 @@ use Rattle.lin_report.specs.declared.calls.Op.{Op}
 use Rattle.lin_report.specs.Object.{Object, held_after}
 use Rattle.normal_traits.specs.World.{Change, first_changes}
 use Rattle.normal_traits.specs.World as world
-use Rattle.placing_law.specs.Placing.{IsOf, held_at}
+use Rattle.placing_law.specs.Placing.{IsChangeOf, held_at}
 use Rattle.placing_law.specs.Placing as placing
 use Rattle.run_laws.proofs.Pairs.{pairs_nil, pairs_one, pairs_append}
 use Rattle.run_reports.specs.Endings.{StandsOver}
@@ -90,16 +90,16 @@ module _ (object : Object) where
   held_more held [] op = refl
   held_more held (first ∷ ops) op = held_more (object.apply first held).0 ops op
 
-  pub held_history : (changes : List Change) → held_after object object.empty (map (λ (c : placing.Change). c.op) (history_of changes)) ≡ world.held_after object changes
+  pub held_history : (changes : List Change) → held_after object object.empty (map (λ (c : placing.ObjectChange). c.op) (history_of changes)) ≡ world.held_after object changes
   held_history [] = refl
   held_history (change ∷ older) =
-      ap (held_after object object.empty) (map-append (λ (c : placing.Change). c.op) (history_of older) (placed change ∷ []))
-      ∙ held_more object.empty (map (λ (c : placing.Change). c.op) (history_of older)) change.list.call.op
+      ap (held_after object object.empty) (map-append (λ (c : placing.ObjectChange). c.op) (history_of older) (placed change ∷ []))
+      ∙ held_more object.empty (map (λ (c : placing.ObjectChange). c.op) (history_of older)) change.list.call.op
       ∙ ap (λ held. (object.apply change.list.call.op held).0) (held_history older)
 
   pub held_first : (count : ℕ) (changes : List Change) → count ≤ length changes → held_at object (history_of changes) count ≡ world.held_after object (first_changes count changes)
   held_first count changes within =
-      ap (λ history. held_after object object.empty (map (λ (c : placing.Change). c.op) history)) (take_history count changes within)
+      ap (λ history. held_after object object.empty (map (λ (c : placing.ObjectChange). c.op) history)) (take_history count changes within)
       ∙ held_history (first_changes count changes)
 
   pub held_before : (newer : List Change) (change : Change) (older : List Change) → held_at object (history_of (newer ++ change ∷ older)) (length older) ≡ world.held_after object older
@@ -109,7 +109,7 @@ module _ (object : Object) where
 
 -- ---- what holds of each change, and of each two
 
-pub each_placed : (P : placing.Change → Type 0) (changes : List Change) → ((change : Change) (older : List Change) → StandsOver changes change older → P (placed change)) → All P (history_of changes)
+pub each_placed : (P : placing.ObjectChange → Type 0) (changes : List Change) → ((change : Change) (older : List Change) → StandsOver changes change older → P (placed change)) → All P (history_of changes)
 each_placed P [] each = All-nil P
 each_placed P (change ∷ older) each =
     All-append P (history_of older) (placed change ∷ [])
@@ -119,10 +119,10 @@ each_placed P (change ∷ older) each =
 -- no change is of a call whose change came before it
 pub placed_once : (changes : List Change)
     → ((change mate : Change) (older rest : List Change) → StandsOver changes change older → StandsOver older mate rest → change.list.call.seat ≡ mate.list.call.seat → ¬ (change.list.call.number ≡ mate.list.call.number))
-    → AllPairs (λ (earlier later : placing.Change). ¬ IsOf earlier later.seat later.number) (history_of changes)
-placed_once [] once = pairs_nil (λ (earlier later : placing.Change). ¬ IsOf earlier later.seat later.number)
+    → AllPairs (λ (earlier later : placing.ObjectChange). ¬ IsChangeOf earlier later.seat later.number) (history_of changes)
+placed_once [] once = pairs_nil (λ (earlier later : placing.ObjectChange). ¬ IsChangeOf earlier later.seat later.number)
 placed_once (change ∷ older) once =
-    let R : placing.Change → placing.Change → Type 0 = λ earlier later. ¬ IsOf earlier later.seat later.number in
+    let R : placing.ObjectChange → placing.ObjectChange → Type 0 = λ earlier later. ¬ IsChangeOf earlier later.seat later.number in
     pairs_append R (history_of older) (placed change ∷ [])
     (placed_once older (λ one mate rest last stands over. once one mate rest last (change ∷ stands.0, ap (λ cs. change ∷ cs) stands.1) over))
     (pairs_one R (placed change))

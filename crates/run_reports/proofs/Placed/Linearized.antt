@@ -17,7 +17,7 @@ use Rattle.fast_slow_engine.specs.declared.setup.Setup.{Setup}
 use Rattle.fast_slow_engine.specs.Runs.{Move, AreMoves, run_of, moves_over}
 use Rattle.fast_slow_engine.specs.Reports.{report_of_run}
 use Rattle.run_laws.specs.Files.{FilesFit}
-use Rattle.run_laws.proofs.FileLemmas.{files_run}
+use Rattle.run_laws.proofs.CommandsMade.{files_run}
 use Rattle.run_exchanges.specs.Kept.{RunsAreKept}
 use Rattle.run_reports.specs.Linearized.{FilesLinearizable, RepliesFit, ExhaustedOnlyWhere, ExhaustedWonNone}
 use Rattle.run_reports.proofs.Placed.Reports.{Placeable, linearizable, replies_fit, exhausted_only}

@@ -13,8 +13,8 @@ use Rattle.run_laws.specs.Ticks.{KeepsTicks}
 use Rattle.run_laws.proofs.Pairs.{pairs_cons, pairs_nil}
 use Rattle.run_laws.proofs.StepKinds.{begins, returns, goes}
 use Rattle.run_laws.proofs.Summaries.{summary, tick_of}
-use Rattle.run_laws.proofs.TickLemmas.{opening_word_at}
-use Rattle.run_laws.proofs.PremiseLemmas.{client_keeps_ticks}
+use Rattle.run_laws.proofs.TicksCounted.{opening_word_at}
+use Rattle.run_laws.proofs.CountersLeft.{client_keeps_ticks}
 use Rattle.run_exchanges.specs.RunGhosts.{ghost_of, world_of}
 use Rattle.run_exchanges.specs.Kept.{RunsAreKept}
 use Rattle.run_exchanges.proofs.Words.Grow.{same_grows, world_grows}

@@ -5,9 +5,9 @@ use Rattle.normal_traits.specs.NormalForm.{NormalForm}
 use Rattle.normal_traits.specs.Laws.{Laws}
 use Rattle.fast_slow_engine.specs.declared.setup.Setup.{Setup}
 use Rattle.fast_slow_engine.specs.Runs.{Move, AreMoves, moves_over}
-use Rattle.run_laws.proofs.FileLemmas.{files_run}
-use Rattle.run_laws.proofs.PremiseLemmas.{client_keeps_ticks}
-use Rattle.run_laws.proofs.ReportLemmas.{runs_report}
+use Rattle.run_laws.proofs.CommandsMade.{files_run}
+use Rattle.run_laws.proofs.CountersLeft.{client_keeps_ticks}
+use Rattle.run_laws.proofs.ReceiptsAreReports.{runs_report}
 use Rattle.run_exchanges.specs.Kept.{RunsAreKept}
 use Rattle.run_exchanges.proofs.Tells.Replies.{changes_commands, replies_right}
 use Rattle.run_exchanges.proofs.Tells.Values.{commands_reach}

@@ -23,7 +23,7 @@ use Rattle.fast_slow_engine.specs.PhaseTable.{mech_pending, pending_call, ticks_
 use Rattle.fast_slow_engine.specs.Runs.{Move, run_of, pending_of}
 use Rattle.fast_slow_engine.specs.Reports.{report_of_run}
 use Rattle.helper_knowledge.specs.Callers.{called}
-use Rattle.placing_law.specs.Placing.{IsMade, HasObserved, IsAccounted, IsPlaced, change_of, held_at}
+use Rattle.placing_law.specs.Placing.{MadeByCall, HasObserved, IsAccounted, IsPlaced, change_of, held_at}
 use Rattle.placing_law.specs.Placing as placing
 use Rattle.placing_law.proofs.Placed.CallOrder.{placed_is_linearizable}
 use Rattle.run_laws.proofs.StepKinds.{pending_open}
@@ -68,7 +68,7 @@ pending_known report p known =
 -- ---- a run
 
 -- the change of a call
-abbrev of_call : Called → placing.Change
+abbrev of_call : Called → placing.ObjectChange
 of_call call = record { seat = call.seat; number = call.number; op = call.op }
 
 module _ {S W : Type 0} (form : NormalForm S W) where
@@ -90,7 +90,7 @@ module _ {S W : Type 0} (form : NormalForm S W) where
     abbrev changes : List Change
     changes = (ghost_of form setup moves).changes
 
-    abbrev history : List placing.Change
+    abbrev history : List placing.ObjectChange
     history = history_of changes
 
     abbrev object : Object
@@ -112,7 +112,7 @@ module _ {S W : Type 0} (form : NormalForm S W) where
         can.replied stands.0 older change stands.1 ∙ ap (λ o. (object.apply o (held_after object older)).1) is
 
     abbrev Made : ℕ → Type 0
-    Made place = IsMade object history (changes_at form setup moves) report place
+    Made place = MadeByCall object history (changes_at form setup moves) report place
 
     made_by : (change : Change) (older : List Change) → StandsOver changes change older → IsMadeBy form setup moves change older → Made (length older)
     made_by change older stands (runs seat mech seated one call) = record {

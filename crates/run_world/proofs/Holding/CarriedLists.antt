@@ -30,7 +30,7 @@ use Rattle.fast_slow_engine.specs.PhaseTable.{executed, helped, in_phase, offere
 use Rattle.fast_slow_engine.specs.Runs.{CanMove, begun}
 use Rattle.offered_blocks.specs.Blocks.{Offer}
 use Rattle.helper_knowledge.specs.Carried.{Carried}
-use Rattle.run_laws.proofs.SeatLemmas.{new_mech}
+use Rattle.run_laws.proofs.MachinesKept.{new_mech}
 use Rattle.run_world.specs.SeatSteps.{filled_after, filled_helped}
 use Rattle.run_world.specs.Lists.{CarriedHeld, CarriesHelp, CarriesIn}
 use Rattle.run_world.specs.RunGhosts.{ghost_of}

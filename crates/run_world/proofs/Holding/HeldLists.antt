@@ -24,7 +24,7 @@ use Rattle.fast_slow_engine.specs.Hands.{holds_none}
 use Rattle.fast_slow_engine.specs.PhaseTable.{executed, failed, in_phase, offered, rests, searched, spent, stepped, told, with_hand, wrapped_up}
 use Rattle.fast_slow_engine.specs.Runs.{CanMove, begun}
 use Rattle.helper_knowledge.specs.Carried.{OfSome}
-use Rattle.run_laws.proofs.SeatLemmas.{new_mech}
+use Rattle.run_laws.proofs.MachinesKept.{new_mech}
 use Rattle.run_world.specs.Ghosts.{Held, SeatGhost, stopped_in}
 use Rattle.run_world.specs.SeatSteps.{held_in, list_after, newly_held}
 use Rattle.run_world.specs.Lists.{IsHeld, IsOffering, HoldsIn, ListsHeld}

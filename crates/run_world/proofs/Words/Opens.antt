@@ -4,13 +4,13 @@ use Rattle.std.proofs.lemmas.Bool.{cases_lt}
 use Rattle.std.proofs.lemmas.List.{get_or_past}
 use Rattle.node_arena.specs.MemoryMap.{words_of}
 use Rattle.node_arena.specs.Opening.{IsOpening, opening_words}
-use Rattle.node_arena.proofs.OpeningLemmas.{opening_each, length-opening_words}
+use Rattle.node_arena.proofs.ZerosOpen.{opening_each, length-opening_words}
 use Rattle.node_arena.proofs.Openings.{opens_zero_behind}
 use Rattle.normal_traits.specs.NormalForm.{NormalForm}
 use Rattle.normal_traits.specs.Laws.{opening_world}
 use Rattle.offered_blocks.specs.RunWorlds.{with_words}
 use Rattle.run_world.specs.Moves.{WorldOpens}
-use Rattle.run_world.proofs.Words.WordLemmas.{word_in, same_words}
+use Rattle.run_world.proofs.Words.WordsAfterMoves.{word_in, same_words}
 
 opens_at : (opening : ℕ → ℕ) → IsOpening opening → (cap place : ℕ) → word_in (opening_words opening cap) place ≡ opening place
 opens_at opening opens cap place =

@@ -125,7 +125,7 @@ module _ {S W : Type 0} (form : NormalForm S W) (laws : Laws form) (world after 
   wrap_own w None old command knows is = absurd knows
   wrap_own w (Some held) old command knows is =
       let list = held.list in
-      let none = none_beside form (form.wrap_request_of w) world after seen list.identity held.stop (laws.wrap_asks_well world w list held.stop old knows.wraps knows.follows) is knows.none in
+      let none = none_beside form (form.wrap_request_of w) world after seen list.identity held.stop (laws.of_world.wrap_asks_well world w list held.stop old knows.wraps knows.follows) is knows.none in
       let halts : Stopped after list held.stop = record {
         within = knows.stopped.within;
         took = λ j less. took_grows world after list j leaves.leaves.grows (knows.stopped.took j less);

@@ -29,7 +29,7 @@ use Rattle.helper_knowledge.specs.Callers.{Caller}
 use Rattle.helper_knowledge.specs.Carried.{Carried}
 use Rattle.helper_knowledge.specs.HelperStep.{HandIsSpare, RestsOn, Steps, UsedSmall}
 use Rattle.helper_knowledge.specs.WorkKnown.{KnowsWork, NamedBy}
-use Rattle.helper_knowledge.proofs.LawLemmas.{work_goes_on}
+use Rattle.helper_knowledge.proofs.LawsOfHelpers.{work_goes_on}
 use Rattle.run_world.specs.Ghosts.{Held}
 use Rattle.run_world.specs.SeatSteps.{held_in, helps_on}
 use Rattle.step_knowledge.specs.Known.{KnowsHelp, KnowsIn}

@@ -8,7 +8,7 @@ use Rattle.word_fields.specs.Announced.{op_word, value_word}
 use Rattle.word_fields.specs.Owners.{owner_word}
 use Rattle.node_arena.specs.declared.places.TheConstants.{OWNER_FIELD, OP_FIELD, VALUE_FIELD}
 use Rattle.node_arena.specs.MemoryMap.{block_place}
-use Rattle.node_arena.proofs.PlaceLemmas.{same_field}
+use Rattle.node_arena.proofs.PlacesApart.{same_field}
 use Rattle.normal_traits.specs.NormalForm.{NormalForm}
 use Rattle.normal_traits.specs.Laws.{IsGoodStore}
 use Rattle.normal_traits.proofs.Stays.{all_at}

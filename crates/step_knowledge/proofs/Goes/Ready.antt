@@ -6,8 +6,8 @@ use Rattle.std.proofs.lemmas.Bool.Decides.{nat_tests}
 use Rattle.arrayvec.specs.ArrayVec.{ArrayVec}
 use Rattle.lin_report.specs.declared.calls.Op.{Op}
 use Rattle.step_memory.specs.declared.steps.Seen.{Seen}
-use Rattle.word_fields.specs.declared.records.Phase as marks
-use Rattle.word_fields.specs.declared.records.Phase.TheVariants as record_phases
+use Rattle.word_fields.specs.declared.records.RecordPhase as marks
+use Rattle.word_fields.specs.declared.records.RecordPhase.TheVariants as record_phases
 use Rattle.word_fields.specs.Announced.{value_number}
 use Rattle.word_fields.specs.Records.{record_number, record_phase}
 use Rattle.normal_traits.specs.declared.form.Found.{Found}
@@ -102,7 +102,7 @@ module _ {S W : Type 0} (form : NormalForm S W) where
     named_small offer stands =
         (let mine = holds.blocks.offered (named_block word) offer stands in subst (λ b. b < 2 ^ 17) mine.block_is mine.offered.small)
 
-    first_still : (at : marks.Phase) → NamedBy form world offers at head word → CanStill (first_work form at word)
+    first_still : (at : marks.RecordPhase) → NamedBy form world offers at head word → CanStill (first_work form at word)
     first_still record_phases.Executing named = read_new_on (named_small named.0 named.1.stands)
     first_still record_phases.Wrapping named = read_new_on (named_small named.0 named.1.stands)
     first_still record_phases.Idle named = tt

@@ -61,7 +61,7 @@ module _ {S W : Type 0} (form : NormalForm S W) (world : World) (offers : ℕ �
   module _ (laws : Laws form) (shape : form.shape world) where
     tries_knows : (b : Bool) (list : Option (Held S)) (mech : Mech S W) → IsCommandOf form.object mech.op
         → (let new = if b then in_phase (Generate (form.begin_of mech.op) Search) mech else in_phase (Announce announcing.Value) mech in Knows (length world.changes) list new)
-    tries_knows true list mech command = (laws.begins_asking mech.op command, laws.begins_knowing world mech.op command shape)
+    tries_knows true list mech command = (laws.of_world.begins_asking mech.op command, laws.of_world.begins_knowing world mech.op command shape)
     tries_knows false list mech command = tt
 
     -- a call that tries again begins a search, which knows what holds now, or is announced
@@ -77,7 +77,7 @@ module _ {S W : Type 0} (form : NormalForm S W) (world : World) (offers : ℕ �
         let held = newly_held form identity s since new in
         let block = offered_block form mech in
         let less : block < 2 ^ 17 = needed_small (form.needs_block mech.op) mech.hand small in
-        let offer = laws.offers world s mech.op since block command shape knows ready less in
+        let offer = laws.of_world.offers world s mech.op since block command shape knows ready less in
         let is : IsOffered form world held.list s since = record { command = command; knows = knows; ready = ready; small = less; entries = refl } in
         let run : FastWalk = record { entries = (form.offer_of s mech.op block).entries; next = 0 } in
         let items = (form.offer_of s mech.op block).stores in

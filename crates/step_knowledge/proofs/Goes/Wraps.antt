@@ -32,7 +32,7 @@ module _ {S W : Type 0} (form : NormalForm S W) (laws : Laws form) (world : Worl
   wrap_begins op entries held stop offered halts call same =
       subst (λ (l : List Entry). WrappedWell form world held.list stop (form.begin_wrap_of op l stop) (form.wrap_begun_of op l stop)) same
       (subst (λ (o : Op). WrappedWell form world held.list stop (form.begin_wrap_of o held.list.entries stop) (form.wrap_begun_of o held.list.entries stop)) call
-      (laws.wrap_begun world held.list held.offering held.since stop shape offered halts))
+      (laws.of_world.wrap_begun world held.list held.offering held.since stop shape offered halts))
 
   spent_op : (b : Bool) (mech : Mech S W) → (if b then with_hand None mech else mech).op ≡ mech.op
   spent_op true mech = refl

@@ -5,8 +5,8 @@ use Rattle.arrayvec.specs.ArrayVec.{ArrayVec}
 use Rattle.step_memory.specs.declared.steps.Seen.{Seen}
 use Rattle.word_fields.specs.Announced.{op_word, value_word}
 use Rattle.word_fields.specs.Records.{record_word}
-use Rattle.word_fields.specs.declared.records.Phase.TheVariants as marks
-use Rattle.word_fields.proofs.RecordLemmas.{phase-word}
+use Rattle.word_fields.specs.declared.records.RecordPhase.TheVariants as marks
+use Rattle.word_fields.proofs.RecordWords.{phase-word}
 use Rattle.node_arena.specs.declared.places.TheConstants.{TICKS, CLAIMS}
 use Rattle.node_arena.specs.MemoryMap.{op_place, value_place}
 use Rattle.normal_traits.specs.World.{World}

@@ -7,7 +7,7 @@ use Rattle.std.proofs.lemmas.Option.{slice_get_within}
 use Rattle.arrayvec.specs.ArrayVec.{ArrayVec}
 use Rattle.word_fields.specs.Records.{record_number}
 use Rattle.word_fields.specs.Versioned.{cleared_word, versioned_version}
-use Rattle.word_fields.proofs.VersionedLemmas.{cleared-changed, version-changed_below}
+use Rattle.word_fields.proofs.ChangedWords.{cleared-changed, version-changed_below}
 use Rattle.node_arena.specs.MemoryMap.{record_place}
 use Rattle.normal_traits.specs.declared.lists.Entry.{Entry}
 use Rattle.normal_traits.specs.World.{Called, Listed, World}
@@ -23,7 +23,7 @@ use Rattle.offered_blocks.specs.BesideLaws.{list_entered}
 use Rattle.offered_blocks.specs.Blocks.{Offer}
 use Rattle.offered_blocks.specs.Holds.{IsUnnamed}
 use Rattle.offered_blocks.specs.OtherSteps.{IsSpare}
-use Rattle.offered_blocks.proofs.LawLemmas.{entries_beside}
+use Rattle.offered_blocks.proofs.LawsOfBlocks.{entries_beside}
 use Rattle.move_kinds.specs.Kinds.{Kind}
 use Rattle.move_kinds.specs.Kinds.Kind.{enters}
 use Rattle.run_world.specs.Ghosts.{Held, uses_block}

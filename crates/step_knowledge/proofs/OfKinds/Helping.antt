@@ -20,7 +20,7 @@ use Rattle.helper_knowledge.specs.Carried.{Carried}
 use Rattle.helper_knowledge.specs.HelperStep.{HandIsSpare, RestsOn, Steps}
 use Rattle.helper_knowledge.specs.Meetings.{won_world}
 use Rattle.helper_knowledge.specs.WorkKnown.{KnowsWork}
-use Rattle.helper_knowledge.proofs.LawLemmas.{advances_are_right, work_is_kind}
+use Rattle.helper_knowledge.proofs.LawsOfHelpers.{advances_are_right, work_is_kind}
 use Rattle.step_knowledge.specs.Known.{KnowsHelp}
 use Rattle.step_knowledge.specs.Moves.{Advances, HelpSteps, MeetsHead, MeetsWork, Puts, RestsHelp, WorkSteps}
 use Rattle.step_knowledge.specs.Moves.Advances.{lost, won}

@@ -6,7 +6,7 @@ use Rattle.lin_report.specs.declared.calls.Op.{Op}
 use Rattle.word_fields.specs.Announced.{op_word, value_word}
 use Rattle.word_fields.specs.Owners.{owner_word}
 use Rattle.word_fields.specs.Versioned.{versioned_bit}
-use Rattle.word_fields.proofs.VersionedLemmas.{word-split}
+use Rattle.word_fields.proofs.ChangedWords.{word-split}
 use Rattle.node_arena.specs.declared.places.TheConstants.{OWNER_FIELD, OP_FIELD, VALUE_FIELD}
 use Rattle.node_arena.specs.MemoryMap.{block_place}
 use Rattle.normal_traits.specs.World.{World}
@@ -47,7 +47,7 @@ module _ {S W : Type 0} (form : NormalForm S W) (laws : Laws form) (block seat n
     within = omega (arith, small);
     stored = is;
     place = refl;
-    clear = λ versioned. (let plain : form.is_versioned (block_place block field) ≡ false = laws.notes_plain block field some small in absurd cc);
+    clear = λ versioned. (let plain : form.is_versioned (block_place block field) ≡ false = laws.of_world.notes_plain block field some small in absurd cc);
   }
 
   -- all stores of an own list
@@ -70,7 +70,7 @@ module _ {S W : Type 0} (form : NormalForm S W) (laws : Laws form) (block seat n
 module _ {S W : Type 0} (form : NormalForm S W) (laws : Laws form) (world : World) (shape : form.shape world) where
   -- the offer of a held list in the world of the client's shape
   pub held_offer : (held : Held S) → IsStillOffered form world held → IsGoodOffer form world held.list.block (form.offer_of held.offering held.list.call.op held.list.block)
-  held_offer held offered = laws.offers world held.offering held.list.call.op held.since held.list.block offered.command shape offered.knows offered.ready offered.small
+  held_offer held offered = laws.of_world.offers world held.offering held.list.call.op held.since held.list.block offered.command shape offered.knows offered.ready offered.small
 
   -- the stores that a machine makes into its list's block
   pub filling : (run : FastWalk) (stores : ArrayVec (ℕ × ℕ)) (mech : Mech S W) (held : Held S) → form.needs_block mech.op ≡ true → mech.hand ≡ Some held.list.block → IsOffering form run stores mech held

@@ -25,7 +25,7 @@ use Rattle.move_kinds.specs.Moves.{BlockStays, Leaves}
 use Rattle.move_kinds.proofs.KindsLeave.{kind_leaves}
 use Rattle.helper_knowledge.specs.Callers.{Caller}
 use Rattle.helper_knowledge.specs.Carried.{OfSome}
-use Rattle.helper_knowledge.proofs.LawLemmas.{knowledge_kept}
+use Rattle.helper_knowledge.proofs.LawsOfHelpers.{knowledge_kept}
 use Rattle.run_world.specs.Ghosts.{Held, SeatGhost}
 use Rattle.run_world.specs.InHand.{ExecutesWith}
 use Rattle.run_world.specs.Lists.{IsOffering}

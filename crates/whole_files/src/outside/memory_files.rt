@@ -80,7 +80,7 @@ impl FilesInMemory {
 }
 
 /// Where the first file with this name is.
-fn place_of(files: &[(String, Vec<u8>)], name: &str) -> Option<usize>
+fn file_place(files: &[(String, Vec<u8>)], name: &str) -> Option<usize>
     ensures { result ≡ position_from (λ file. bytes_eq (string_bytes file.0) name.now) 0 files.now }
 {
     files.iter().position(|file| file.0.as_str() == name)
@@ -113,7 +113,7 @@ impl FilesInMemory {
         ensures chosen { self.new ≡ record self.old { rest = unwrap_or (first_named name.now self.old.files) [] } }
     {
         self.at = 0;
-        match place_of(&self.files, name) {
+        match file_place(&self.files, name) {
             Some(place) => {
                 self.chosen = place;
                 true

@@ -1,4 +1,4 @@
-use Rattle.cas_executor_laws.proofs.LawLemmas.{behind_waits}
+use Rattle.cas_executor_laws.proofs.LawsOfWorlds.{behind_waits}
 use Rattle.cas_executor_laws.proofs.laws.behind_waits.Goals as goal
 
 pub returns : goal.returns

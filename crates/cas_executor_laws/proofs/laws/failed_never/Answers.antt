@@ -1,4 +1,4 @@
-use Rattle.cas_executor_laws.proofs.LawLemmas.{failed_never}
+use Rattle.cas_executor_laws.proofs.LawsOfWorlds.{failed_never}
 use Rattle.cas_executor_laws.proofs.laws.failed_never.Goals as goal
 
 pub returns : goal.returns

@@ -1,4 +1,4 @@
-use Rattle.cas_executor_laws.proofs.ReadLemmas.{reads_begin}
+use Rattle.cas_executor_laws.proofs.ReadsAreExact.{reads_begin}
 use Rattle.cas_executor_laws.proofs.reads.reads_begin.Goals as goal
 
 pub returns : goal.returns

@@ -2,7 +2,7 @@ use Rattle.std.proofs.Common.{◌≡◌, ◌∙◌, sym, ap, subst, ℕ, ◌-◌
 use Rattle.std.proofs.lemmas.Bool.{cases_eq, eq-eqb, lt-ltb, ltb-true}
 use Rattle.word_fields.specs.Versioned.{is_modified, versioned_bit, versioned_version}
 use Rattle.word_fields.specs.declared.versioned.VersionedWord.{VersionedWord}
-use Rattle.word_fields.proofs.VersionedLemmas.{bit_below}
+use Rattle.word_fields.proofs.ChangedWords.{bit_below}
 use Rattle.cas_executor_laws.proofs.worlds.is_open.Goals as goal
 
 -- a word that isn't modified has its bit clear

@@ -1,4 +1,4 @@
-use Rattle.fast_slow_engine.proofs.LineLemmas.{calls_end}
+use Rattle.fast_slow_engine.proofs.LineOwners.{calls_end}
 use Rattle.fast_slow_engine.proofs.lines.calls_end.Goals as goal
 
 pub returns : goal.returns

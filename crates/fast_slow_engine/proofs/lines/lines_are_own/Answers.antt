@@ -1,4 +1,4 @@
-use Rattle.fast_slow_engine.proofs.LineLemmas.{lines_are_own}
+use Rattle.fast_slow_engine.proofs.LineOwners.{lines_are_own}
 use Rattle.fast_slow_engine.proofs.lines.lines_are_own.Goals as goal
 
 pub returns : goal.returns

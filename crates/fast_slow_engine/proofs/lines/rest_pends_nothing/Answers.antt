@@ -1,4 +1,4 @@
-use Rattle.fast_slow_engine.proofs.LineLemmas.{rest_pends_nothing}
+use Rattle.fast_slow_engine.proofs.LineOwners.{rest_pends_nothing}
 use Rattle.fast_slow_engine.proofs.lines.rest_pends_nothing.Goals as goal
 
 pub returns : goal.returns

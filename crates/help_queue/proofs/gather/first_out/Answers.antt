@@ -1,5 +1,5 @@
 use Rattle.std.proofs.Common.{sym, ◌∙◌, arith}
-use Rattle.help_queue.proofs.GatherLemmas.{passed_more}
+use Rattle.help_queue.proofs.SeatsGathered.{passed_more}
 use Rattle.help_queue.proofs.gather.first_out.Goals as goal
 
 pub loop-seat-preserved : goal.loop-seat-preserved

@@ -1,4 +1,4 @@
-use Rattle.helper_knowledge.proofs.LawLemmas.{calls_follow}
+use Rattle.helper_knowledge.proofs.LawsOfHelpers.{calls_follow}
 use Rattle.helper_knowledge.proofs.call_laws.calls_follow.Goals as goal
 
 pub returns : goal.returns

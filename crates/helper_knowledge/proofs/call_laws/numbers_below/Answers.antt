@@ -1,4 +1,4 @@
-use Rattle.helper_knowledge.proofs.LawLemmas.{numbers_below}
+use Rattle.helper_knowledge.proofs.LawsOfHelpers.{numbers_below}
 use Rattle.helper_knowledge.proofs.call_laws.numbers_below.Goals as goal
 
 pub returns : goal.returns

@@ -1,4 +1,4 @@
-use Rattle.helper_knowledge.proofs.LawLemmas.{wins_meet}
+use Rattle.helper_knowledge.proofs.LawsOfHelpers.{wins_meet}
 use Rattle.helper_knowledge.proofs.call_laws.wins_meet.Goals as goal
 
 pub returns : goal.returns

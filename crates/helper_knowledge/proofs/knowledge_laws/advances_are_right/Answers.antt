@@ -1,4 +1,4 @@
-use Rattle.helper_knowledge.proofs.LawLemmas.{advances_are_right}
+use Rattle.helper_knowledge.proofs.LawsOfHelpers.{advances_are_right}
 use Rattle.helper_knowledge.proofs.knowledge_laws.advances_are_right.Goals as goal
 
 pub returns : goal.returns

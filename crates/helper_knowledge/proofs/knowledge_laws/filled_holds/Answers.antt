@@ -1,4 +1,4 @@
-use Rattle.helper_knowledge.proofs.LawLemmas.{filled_holds}
+use Rattle.helper_knowledge.proofs.LawsOfHelpers.{filled_holds}
 use Rattle.helper_knowledge.proofs.knowledge_laws.filled_holds.Goals as goal
 
 pub returns : goal.returns

@@ -1,4 +1,4 @@
-use Rattle.helper_knowledge.proofs.LawLemmas.{knowledge_kept}
+use Rattle.helper_knowledge.proofs.LawsOfHelpers.{knowledge_kept}
 use Rattle.helper_knowledge.proofs.knowledge_laws.knowledge_kept.Goals as goal
 
 pub returns : goal.returns

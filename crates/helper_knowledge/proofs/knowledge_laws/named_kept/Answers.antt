@@ -1,4 +1,4 @@
-use Rattle.helper_knowledge.proofs.LawLemmas.{named_kept}
+use Rattle.helper_knowledge.proofs.LawsOfHelpers.{named_kept}
 use Rattle.helper_knowledge.proofs.knowledge_laws.named_kept.Goals as goal
 
 pub returns : goal.returns

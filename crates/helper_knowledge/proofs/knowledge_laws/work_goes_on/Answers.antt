@@ -1,4 +1,4 @@
-use Rattle.helper_knowledge.proofs.LawLemmas.{work_goes_on}
+use Rattle.helper_knowledge.proofs.LawsOfHelpers.{work_goes_on}
 use Rattle.helper_knowledge.proofs.knowledge_laws.work_goes_on.Goals as goal
 
 pub returns : goal.returns

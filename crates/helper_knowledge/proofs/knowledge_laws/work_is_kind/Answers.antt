@@ -1,4 +1,4 @@
-use Rattle.helper_knowledge.proofs.LawLemmas.{work_is_kind}
+use Rattle.helper_knowledge.proofs.LawsOfHelpers.{work_is_kind}
 use Rattle.helper_knowledge.proofs.knowledge_laws.work_is_kind.Goals as goal
 
 pub returns : goal.returns

@@ -1,4 +1,4 @@
-use Rattle.lin_report.proofs.Fits.{report_text_fits}
+use Rattle.lin_report.proofs.TextsFit.{report_text_fits}
 use Rattle.lin_report.proofs.laws.report_text_fits.Goals as goal
 
 pub returns : goal.returns

@@ -1,4 +1,4 @@
-use Rattle.move_kinds.proofs.LawLemmas.{helpers_change_named}
+use Rattle.move_kinds.proofs.LawsOfKinds.{helpers_change_named}
 use Rattle.move_kinds.proofs.kind_laws.helpers_change_named.Goals as goal
 
 pub returns : goal.returns

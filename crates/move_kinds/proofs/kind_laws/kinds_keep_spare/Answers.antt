@@ -1,4 +1,4 @@
-use Rattle.move_kinds.proofs.LawLemmas.{kinds_keep_spare}
+use Rattle.move_kinds.proofs.LawsOfKinds.{kinds_keep_spare}
 use Rattle.move_kinds.proofs.kind_laws.kinds_keep_spare.Goals as goal
 
 pub returns : goal.returns

@@ -1,4 +1,4 @@
-use Rattle.move_kinds.proofs.LawLemmas.{kinds_leave}
+use Rattle.move_kinds.proofs.LawsOfKinds.{kinds_leave}
 use Rattle.move_kinds.proofs.kind_laws.kinds_leave.Goals as goal
 
 pub returns : goal.returns

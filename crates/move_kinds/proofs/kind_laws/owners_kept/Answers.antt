@@ -1,4 +1,4 @@
-use Rattle.move_kinds.proofs.LawLemmas.{owners_kept}
+use Rattle.move_kinds.proofs.LawsOfKinds.{owners_kept}
 use Rattle.move_kinds.proofs.kind_laws.owners_kept.Goals as goal
 
 pub returns : goal.returns

@@ -1,4 +1,4 @@
-use Rattle.move_kinds.proofs.LawLemmas.{records_kept}
+use Rattle.move_kinds.proofs.LawsOfKinds.{records_kept}
 use Rattle.move_kinds.proofs.kind_laws.records_kept.Goals as goal
 
 pub returns : goal.returns

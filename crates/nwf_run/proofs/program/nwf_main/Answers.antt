@@ -1,5 +1,5 @@
 use Rattle.std.proofs.Common.{rules, ◌≡◌, true, false, map, string_bytes}
-use Rattle.nwf_run.specs.Words.{starts_run}
+use Rattle.nwf_run.specs.CommandLine.{starts_run}
 use Rattle.nwf_run.proofs.program.nwf_main.Goals as goal
 
 pub returns-else-starts_run-clause-done : goal.returns-else-starts_run-clause-done

@@ -1,6 +1,6 @@
 use Rattle.std.proofs.Common.{map, string_bytes, sym}
 use Rattle.nwf_run.specs.Replaying.{Makes}
-use Rattle.nwf_run.specs.Words.{load_words, replay_words, sweep_words}
+use Rattle.nwf_run.specs.CommandLine.{load_words, replay_words, sweep_words}
 use Rattle.nwf_run.proofs.Replays.{load_made}
 use Rattle.nwf_run.proofs.Stopped.{load_asked}
 use Rattle.nwf_run.proofs.replay.answer.Goals as goal

@@ -1,5 +1,5 @@
 use Rattle.std.proofs.Common.{map, string_bytes, ℕ, Bool, true, List, Option, Result, IfOk, IfErr, IsSomeAnd, subst}
-use Rattle.nwf_run.specs.Words.{asked_words}
+use Rattle.nwf_run.specs.CommandLine.{asked_words}
 use Rattle.nwf_run.specs.Replaying.{Makes, StopsFor}
 use Rattle.nwf_run.proofs.AskedOfCore.{words_of_core}
 use Rattle.nwf_run.proofs.Due.{gives_due}

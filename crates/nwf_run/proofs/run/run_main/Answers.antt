@@ -1,5 +1,5 @@
 use Rattle.std.proofs.Common.{map, string_bytes}
-use Rattle.nwf_run.specs.Words.{run_asked}
+use Rattle.nwf_run.specs.CommandLine.{run_asked}
 use Rattle.nwf_run.proofs.Endings.{done, exhausted, cut, all_opened}
 use Rattle.nwf_run.proofs.Stopped.{none_opened, refused, some_opened, unread, usage}
 use Rattle.nwf_run.proofs.run.run_main.Goals as goal

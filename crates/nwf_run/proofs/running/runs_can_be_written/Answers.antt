@@ -1,7 +1,7 @@
 use Rattle.fast_slow_engine.specs.Runs.{moves_over}
-use Rattle.run_laws.proofs.FileLemmas.{files_run}
+use Rattle.run_laws.proofs.CommandsMade.{files_run}
 use Rattle.run_reports.proofs.Kept.Induction.{runs_are_kept}
-use Rattle.run_reports.proofs.Kept.Runs.{counters_kept}
+use Rattle.run_reports.proofs.Kept.EveryRun.{counters_kept}
 use Rattle.run_reports.proofs.Placed.Linearized.{replies_all_fit}
 use Rattle.nwf_run.proofs.Writable as writable
 use Rattle.nwf_run.proofs.running.runs_can_be_written.Goals as goal

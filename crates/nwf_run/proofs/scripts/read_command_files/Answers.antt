@@ -8,7 +8,7 @@ use Rattle.lin_report.specs.Object.{object_of}
 use Rattle.script_reader.specs.Scripts.{script_outcome}
 use Rattle.nwf_run.specs.Said.{said_run}
 use Rattle.nwf_run.specs.Judging.{SayFirst}
-use Rattle.nwf_run.specs.Reading.{FileReads, Opens, OpensUntil, StopsAt, files_by_name, name_of}
+use Rattle.nwf_run.specs.Reading.{FileReads, Opens, OpensUntil, StopsReading, files_by_name, name_of}
 use Rattle.nwf_run.proofs.JudgedFiles.{say_more, told_err}
 use Rattle.nwf_run.proofs.ReadFiles.{name_at, opens_more, opens_until, stops_next}
 use Rattle.nwf_run.proofs.scripts.read_command_files.Goals as goal
@@ -51,7 +51,7 @@ returns-in_err-ops-clause-stops g c =
     (subst (λ n. FileReads {X = Op} (g.F.Files.tells c.loop-name.files) outcome (n + 1) (g.F.Files.held c.loop-name.files c.as_str.result.now) (Err stop)) number c.in_err-ops.ensures.reads)) in
     let few : length commands < length (map string_bytes words.files.now) = omega (arith, place, within, length-map words.files.now string_bytes) in
     let here = stops_next tells held (said_run words) commands c.loop-name.invariant.say few stop told in
-    told_err (StopsAt tells held (said_run words)) c.from_residual.result stop (search rules) here
+    told_err (StopsReading tells held (said_run words)) c.from_residual.result stop (search rules) here
 
 pub returns-in_err-ops-clause-opened : goal.returns-in_err-ops-clause-opened
 returns-in_err-ops-clause-opened g c =

@@ -1,4 +1,4 @@
-use Rattle.offered_blocks.proofs.LawLemmas.{helpers_keep}
+use Rattle.offered_blocks.proofs.LawsOfBlocks.{helpers_keep}
 use Rattle.offered_blocks.proofs.helper_laws.helpers_keep.Goals as goal
 
 pub returns : goal.returns

@@ -1,4 +1,4 @@
-use Rattle.offered_blocks.proofs.LawLemmas.{late_wins_nothing}
+use Rattle.offered_blocks.proofs.LawsOfBlocks.{late_wins_nothing}
 use Rattle.offered_blocks.proofs.helper_laws.late_wins_nothing.Goals as goal
 
 pub returns : goal.returns

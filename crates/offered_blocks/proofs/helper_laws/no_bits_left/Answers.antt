@@ -1,4 +1,4 @@
-use Rattle.offered_blocks.proofs.LawLemmas.{no_bits_left}
+use Rattle.offered_blocks.proofs.LawsOfBlocks.{no_bits_left}
 use Rattle.offered_blocks.proofs.helper_laws.no_bits_left.Goals as goal
 
 pub returns : goal.returns

@@ -1,4 +1,4 @@
-use Rattle.offered_blocks.proofs.LawLemmas.{runs_help}
+use Rattle.offered_blocks.proofs.LawsOfBlocks.{runs_help}
 use Rattle.offered_blocks.proofs.helper_laws.runs_help.Goals as goal
 
 pub returns : goal.returns

@@ -1,4 +1,4 @@
-use Rattle.offered_blocks.proofs.LawLemmas.{shown_takes}
+use Rattle.offered_blocks.proofs.LawsOfBlocks.{shown_takes}
 use Rattle.offered_blocks.proofs.helper_laws.shown_took.Goals as goal
 
 pub returns : goal.returns

@@ -1,4 +1,4 @@
-use Rattle.offered_blocks.proofs.LawLemmas.{stops_agree}
+use Rattle.offered_blocks.proofs.LawsOfBlocks.{stops_agree}
 use Rattle.offered_blocks.proofs.helper_laws.stops_agree.Goals as goal
 
 pub returns : goal.returns

@@ -1,4 +1,4 @@
-use Rattle.offered_blocks.proofs.LawLemmas.{entries_beside}
+use Rattle.offered_blocks.proofs.LawsOfBlocks.{entries_beside}
 use Rattle.offered_blocks.proofs.other_laws.entries_beside.Goals as goal
 
 pub returns : goal.returns

@@ -1,4 +1,4 @@
-use Rattle.offered_blocks.proofs.LawLemmas.{exchanges_keep}
+use Rattle.offered_blocks.proofs.LawsOfBlocks.{exchanges_keep}
 use Rattle.offered_blocks.proofs.other_laws.exchanges_keep.Goals as goal
 
 pub returns : goal.returns

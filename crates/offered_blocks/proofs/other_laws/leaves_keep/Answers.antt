@@ -1,4 +1,4 @@
-use Rattle.offered_blocks.proofs.LawLemmas.{leaves_keep}
+use Rattle.offered_blocks.proofs.LawsOfBlocks.{leaves_keep}
 use Rattle.offered_blocks.proofs.other_laws.leaves_keep.Goals as goal
 
 pub returns : goal.returns

@@ -1,4 +1,4 @@
-use Rattle.offered_blocks.proofs.LawLemmas.{names_keep}
+use Rattle.offered_blocks.proofs.LawsOfBlocks.{names_keep}
 use Rattle.offered_blocks.proofs.other_laws.names_keep.Goals as goal
 
 pub returns : goal.returns

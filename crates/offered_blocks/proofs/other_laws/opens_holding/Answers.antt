@@ -1,4 +1,4 @@
-use Rattle.offered_blocks.proofs.LawLemmas.{opens_holding}
+use Rattle.offered_blocks.proofs.LawsOfBlocks.{opens_holding}
 use Rattle.offered_blocks.proofs.other_laws.opens_holding.Goals as goal
 
 pub returns : goal.returns

@@ -1,4 +1,4 @@
-use Rattle.offered_blocks.proofs.LawLemmas.{records_keep}
+use Rattle.offered_blocks.proofs.LawsOfBlocks.{records_keep}
 use Rattle.offered_blocks.proofs.other_laws.records_keep.Goals as goal
 
 pub returns : goal.returns

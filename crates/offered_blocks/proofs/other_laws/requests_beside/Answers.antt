@@ -1,4 +1,4 @@
-use Rattle.offered_blocks.proofs.LawLemmas.{requests_beside}
+use Rattle.offered_blocks.proofs.LawsOfBlocks.{requests_beside}
 use Rattle.offered_blocks.proofs.other_laws.requests_beside.Goals as goal
 
 pub returns : goal.returns

@@ -1,4 +1,4 @@
-use Rattle.offered_blocks.proofs.LawLemmas.{stores_keep}
+use Rattle.offered_blocks.proofs.LawsOfBlocks.{stores_keep}
 use Rattle.offered_blocks.proofs.other_laws.stores_keep.Goals as goal
 
 pub returns : goal.returns

@@ -1,4 +1,4 @@
-use Rattle.offered_blocks.proofs.LawLemmas.{answers_tell}
+use Rattle.offered_blocks.proofs.LawsOfBlocks.{answers_tell}
 use Rattle.offered_blocks.proofs.record_laws.answers_tell.Goals as goal
 
 pub returns : goal.returns

@@ -1,4 +1,4 @@
-use Rattle.offered_blocks.proofs.LawLemmas.{changes_tell}
+use Rattle.offered_blocks.proofs.LawsOfBlocks.{changes_tell}
 use Rattle.offered_blocks.proofs.record_laws.changes_tell.Goals as goal
 
 pub returns : goal.returns

@@ -1,4 +1,4 @@
-use Rattle.offered_blocks.proofs.LawLemmas.{offers_tell}
+use Rattle.offered_blocks.proofs.LawsOfBlocks.{offers_tell}
 use Rattle.offered_blocks.proofs.record_laws.offers_tell.Goals as goal
 
 pub returns : goal.returns

@@ -1,4 +1,4 @@
-use Rattle.offered_blocks.proofs.LawLemmas.{restarts_tell}
+use Rattle.offered_blocks.proofs.LawsOfBlocks.{restarts_tell}
 use Rattle.offered_blocks.proofs.record_laws.restarts_tell.Goals as goal
 
 pub returns : goal.returns

@@ -1,4 +1,4 @@
-use Rattle.op_record.proofs.OutcomeLemmas.{outcome_of-completed}
+use Rattle.op_record.proofs.OutcomesReadBack.{outcome_of-completed}
 use Rattle.op_record.proofs.requests.complete.Goals as goal
 
 pub returns-clause-tells : goal.returns-clause-tells

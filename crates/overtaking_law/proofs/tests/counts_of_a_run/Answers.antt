@@ -1,5 +1,5 @@
 use Rattle.std.proofs.Common.{refl}
-use Rattle.overtaking_law.proofs.Ordered.{ordered_by_test}
+use Rattle.overtaking_law.proofs.EventsOrdered.{ordered_by_test}
 use Rattle.overtaking_law.proofs.tests.counts_of_a_run.Goals as goal
 
 pub greatest_overtaken-requires : goal.greatest_overtaken-requires

@@ -1,4 +1,4 @@
-use Rattle.report_check.proofs.Kept.{kept}
+use Rattle.report_check.proofs.CallsRead.OneCallMore.{kept}
 use Rattle.report_check.proofs.beginnings.keep.Goals as goal
 
 pub returns : goal.returns

@@ -1,6 +1,6 @@
 use Rattle.std.proofs.Common.{sym, ◌∙◌}
 use Rattle.report_check.specs.CallLines.{call_of}
-use Rattle.report_check.proofs.NextCalls.{no_line, no_call, no_follower, is_next, tells_none}
+use Rattle.report_check.proofs.CallsRead.NextCalls.{no_line, no_call, no_follower, is_next, tells_none}
 use Rattle.report_check.proofs.beginnings.next_call.Goals as goal
 
 pub returns-in_err-first : goal.returns-in_err-first

@@ -1,7 +1,7 @@
 use Rattle.std.proofs.Common.{None, Some, List, map, length, sym, ap, subst, ◌∙◌}
 use Rattle.report_check.specs.declared.call_lines.CallLine.{CallLine}
 use Rattle.report_check.specs.CallLines.{call_of}
-use Rattle.report_check.proofs.Beginning.{Stands, nothing_known, stands_first, stands_more, begins_with, shorter, known_seen}
+use Rattle.report_check.proofs.CallsRead.Beginning.{Stands, nothing_known, stands_first, stands_more, begins_with, shorter, known_seen}
 use Rattle.report_check.proofs.beginnings.read_calls.Goals as goal
 
 pub loop-call-init : goal.loop-call-init

@@ -1,5 +1,5 @@
 use Rattle.std.proofs.Common.{length}
-use Rattle.report_check.proofs.Beginning.{Stands}
+use Rattle.report_check.proofs.CallsRead.Beginning.{Stands}
 use Rattle.report_check.proofs.beginnings.read_calls.Given as goal
 
 -- the calls so far are those with which the bytes begin, and what is kept is theirs

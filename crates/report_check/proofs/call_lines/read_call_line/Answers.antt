@@ -1,4 +1,4 @@
-use Rattle.report_check.proofs.CallsOnLines.{tells}
+use Rattle.report_check.proofs.LineTexts.CallsOnLines.{tells}
 use Rattle.report_check.proofs.call_lines.read_call_line.Goals as goal
 
 pub returns : goal.returns

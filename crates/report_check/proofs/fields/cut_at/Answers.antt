@@ -1,6 +1,6 @@
 use Rattle.std.proofs.Common.{eqb, arith}
 use Rattle.std.proofs.lemmas.List.{take_rest}
-use Rattle.report_check.proofs.LineFields.{cut_is}
+use Rattle.report_check.proofs.LineTexts.LineFields.{cut_is}
 use Rattle.report_check.proofs.fields.cut_at.Goals as goal
 
 pub returns-in-len1-up : goal.returns-in-len1-up

@@ -4,8 +4,8 @@ use Rattle.lin_report.specs.declared.calls.Client.TheVariants as client
 use Rattle.lin_report.specs.Object.{object_of}
 use Rattle.lin_report.specs.Calls.{report_of}
 use Rattle.report_check.specs.Judging.{CanJudge}
-use Rattle.report_check.proofs.LawBack.{answers_fairly}
-use Rattle.report_check.proofs.SetsOfBuckets.{can_as_list, judged_as_set}
+use Rattle.report_check.proofs.JudgedOrders.RightIsLegal.{answers_fairly}
+use Rattle.report_check.proofs.JudgedOrders.SetsOfBuckets.{can_as_list, judged_as_set}
 use Rattle.report_check.proofs.judges.judge.Goals as goal
 
 pub returns-in-Queue-clause-fair : goal.returns-in-Queue-clause-fair

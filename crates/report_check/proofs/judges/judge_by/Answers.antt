@@ -7,8 +7,8 @@ use Rattle.report_check.specs.Orders.{IsName}
 use Rattle.report_check.specs.Verdicts.{name_of}
 use Rattle.report_check.specs.Tables.{Marks}
 use Rattle.report_check.proofs.Pairs.{all_front, all_mapped}
-use Rattle.report_check.proofs.Tables.{none_marked}
-use Rattle.report_check.proofs.Steps.{Reads, entry_served, entry_reason, at_fault, rest_next, kept_next, at_end}
+use Rattle.report_check.proofs.CallsRead.Tables.{none_marked}
+use Rattle.report_check.proofs.JudgedOrders.Steps.{Reads, entry_served, entry_reason, at_fault, rest_next, kept_next, at_end}
 use Rattle.report_check.proofs.judges.judge_by.Goals as goal
 
 abbrev no_name : Named
@@ -28,21 +28,21 @@ loop-name-init g c = record {
 pub reason_for-requires : goal.reason_for-requires
 reason_for-requires g c = record {
   served =
-      entry_served g.S.Sequential.object (report_of c.args.receipts.now c.args.pending.now) c.in_ok-table.table.items c.index-told.result.now c.place_of-at.result _
-      c.in_ok-table.ensures c.requires.report.served (c.requires.names c.loop-name.name-index _ (omega arith)) c.place_of-at.ensures.place
-      (get_or_read c.in_ok-table.table.items c.place_of-at.result c.index-told.result.now (omega (arith, c.in_ok-table.ensures.long, c.place_of-at.ensures.within)) c.index-told.ensures None);
+      entry_served g.S.Sequential.object (report_of c.args.receipts.now c.args.pending.now) c.in_ok-table.table.items c.index-told.result.now c.table_place-at.result _
+      c.in_ok-table.ensures c.requires.report.served (c.requires.names c.loop-name.name-index _ (omega arith)) c.table_place-at.ensures.place
+      (get_or_read c.in_ok-table.table.items c.table_place-at.result c.index-told.result.now (omega (arith, c.in_ok-table.ensures.long, c.table_place-at.ensures.within)) c.index-told.ensures None);
 }
 
 pub returns-in-Some : goal.returns-in-Some
 returns-in-Some g c =
     let report = report_of c.args.receipts.now c.args.pending.now in
-    let reads : Reads g.S.Sequential.object report c.args.order.now c.loop-name.name-index (get_or c.args.order.now c.loop-name.name-index no_name) c.place_of-at.result c.in_ok-table.table.items c.loop-name.marks.items c.loop-name.latest (g.S.Sequential.held c.loop-name.object) c.index-told.result.now c.index.result.now = record {
+    let reads : Reads g.S.Sequential.object report c.args.order.now c.loop-name.name-index (get_or c.args.order.now c.loop-name.name-index no_name) c.table_place-at.result c.in_ok-table.table.items c.loop-name.marks.items c.loop-name.latest (g.S.Sequential.held c.loop-name.object) c.index-told.result.now c.index.result.now = record {
       is = c.requires.names c.loop-name.name-index _ (omega arith);
-      at = c.place_of-at.ensures.place;
+      at = c.table_place-at.ensures.place;
       stands = c.in_ok-table.ensures;
       kept = c.loop-name.invariant.kept;
-      entry_is = get_or_read c.in_ok-table.table.items c.place_of-at.result c.index-told.result.now (omega (arith, c.in_ok-table.ensures.long, c.place_of-at.ensures.within)) c.index-told.ensures None;
-      mark_is = get_or_read c.loop-name.marks.items c.place_of-at.result c.index.result.now (omega (arith, c.loop-name.invariant.kept.marked.long, c.place_of-at.ensures.within)) c.index.ensures false;
+      entry_is = get_or_read c.in_ok-table.table.items c.table_place-at.result c.index-told.result.now (omega (arith, c.in_ok-table.ensures.long, c.table_place-at.ensures.within)) c.index-told.ensures None;
+      mark_is = get_or_read c.loop-name.marks.items c.table_place-at.result c.index.result.now (omega (arith, c.loop-name.invariant.kept.marked.long, c.table_place-at.ensures.within)) c.index.ensures false;
     } in
     at_fault g.S.Sequential.object report c.args.order.now c.loop-name.name-index no_name (c.loop-name.place + 1) c.in-Some.reason (omega arith) (omega (arith, c.loop-name.invariant.counted))
     (sym (entry_reason g.S.Sequential.object report reads) ∙ sym c.in_ok-reason.ensures.reason ∙ c.in-Some.is) c.loop-name.invariant.rest
@@ -50,13 +50,13 @@ returns-in-Some g c =
 pub loop-name-preserved : goal.loop-name-preserved
 loop-name-preserved g c =
     let report = report_of c.args.receipts.now c.args.pending.now in
-    let reads : Reads g.S.Sequential.object report c.args.order.now c.loop-name.name-index (get_or c.args.order.now c.loop-name.name-index no_name) c.place_of-at.result c.in_ok-table.table.items c.loop-name.marks.items c.loop-name.latest (g.S.Sequential.held c.loop-name.object) c.index-told.result.now c.index.result.now = record {
+    let reads : Reads g.S.Sequential.object report c.args.order.now c.loop-name.name-index (get_or c.args.order.now c.loop-name.name-index no_name) c.table_place-at.result c.in_ok-table.table.items c.loop-name.marks.items c.loop-name.latest (g.S.Sequential.held c.loop-name.object) c.index-told.result.now c.index.result.now = record {
       is = c.requires.names c.loop-name.name-index _ (omega arith);
-      at = c.place_of-at.ensures.place;
+      at = c.table_place-at.ensures.place;
       stands = c.in_ok-table.ensures;
       kept = c.loop-name.invariant.kept;
-      entry_is = get_or_read c.in_ok-table.table.items c.place_of-at.result c.index-told.result.now (omega (arith, c.in_ok-table.ensures.long, c.place_of-at.ensures.within)) c.index-told.ensures None;
-      mark_is = get_or_read c.loop-name.marks.items c.place_of-at.result c.index.result.now (omega (arith, c.loop-name.invariant.kept.marked.long, c.place_of-at.ensures.within)) c.index.ensures false;
+      entry_is = get_or_read c.in_ok-table.table.items c.table_place-at.result c.index-told.result.now (omega (arith, c.in_ok-table.ensures.long, c.table_place-at.ensures.within)) c.index-told.ensures None;
+      mark_is = get_or_read c.loop-name.marks.items c.table_place-at.result c.index.result.now (omega (arith, c.loop-name.invariant.kept.marked.long, c.table_place-at.ensures.within)) c.index.ensures false;
     } in
     let none = sym (entry_reason g.S.Sequential.object report reads) ∙ sym c.in_ok-reason.ensures.reason ∙ c.in_default.is in
     record {

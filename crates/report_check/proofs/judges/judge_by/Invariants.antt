@@ -1,7 +1,7 @@
 use Rattle.std.proofs.Common.{◌≡◌, take, drop}
 use Rattle.lin_report.specs.Calls.{report_of}
 use Rattle.report_check.specs.Verdicts.{verdict_from, verdict}
-use Rattle.report_check.proofs.Judged.{Kept}
+use Rattle.report_check.proofs.JudgedOrders.Judged.{Kept}
 use Rattle.report_check.proofs.judges.judge_by.Given as goal
 
 -- what is kept is that of the entries so far, and the verdict behind them is that on all

@@ -1,7 +1,7 @@
 use Rattle.std.proofs.Common.{All}
 use Rattle.script_reader.proofs.Outcomes.{answered, counted}
 use Rattle.report_check.specs.Orders.{NAME_LIMIT, IsName, order_outcome}
-use Rattle.report_check.proofs.NamesRead.{order_lines, order_names}
+use Rattle.report_check.proofs.JudgedOrders.NamesRead.{order_lines, order_names}
 use Rattle.report_check.proofs.orders.read_order.Goals as goal
 
 pub returns-clause-outcome : goal.returns-clause-outcome

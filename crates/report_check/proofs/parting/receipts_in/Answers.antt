@@ -6,7 +6,7 @@ use Rattle.std.proofs.lemmas.List.Elements.{filter_map-append}
 use Rattle.report_check.specs.declared.call_lines.CallLine.{CallLine}
 use Rattle.report_check.specs.CallLines.{call_of}
 use Rattle.report_check.specs.Reports.{receipt_in}
-use Rattle.report_check.proofs.Apart.{kinds_mapped}
+use Rattle.report_check.proofs.CallsRead.Apart.{kinds_mapped}
 use Rattle.report_check.proofs.parting.receipts_in.Goals as goal
 
 pub loop-call-preserved : goal.loop-call-preserved

@@ -3,8 +3,8 @@ use Rattle.std.proofs.lemmas.List.{length-map}
 use Rattle.lin_report.specs.Calls.{Report, report_of}
 use Rattle.report_check.specs.CallLines.{call_of}
 use Rattle.report_check.specs.Reports.{HasSummary, IsTextOf}
-use Rattle.report_check.proofs.ReadBack.{knows_calls, report_can_be_written, none_told, some_told, nothing_left, nothing_behind, lines_of_text, text_of_lines, lines_fit}
-use Rattle.report_check.proofs.Judgeable.{read_can_be_judged}
+use Rattle.report_check.proofs.CallsRead.ReadBack.{knows_calls, report_can_be_written, none_told, some_told, nothing_left, nothing_behind, lines_of_text, text_of_lines, lines_fit}
+use Rattle.report_check.proofs.JudgedOrders.Judgeable.{read_can_be_judged}
 use Rattle.report_check.proofs.reports.read_report.Goals as goal
 
 pub read_summary-requires : goal.read_summary-requires

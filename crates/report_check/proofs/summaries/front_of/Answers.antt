@@ -3,7 +3,7 @@ use Rattle.lin_report.specs.declared.calls.Receipt.{Receipt}
 use Rattle.lin_report.specs.declared.calls.PendingCall.{PendingCall}
 use Rattle.lin_report.specs.Calls.{report_of}
 use Rattle.lin_report.specs.Text.{summary_text}
-use Rattle.report_check.proofs.ReadBack.{without_newline}
+use Rattle.report_check.proofs.CallsRead.ReadBack.{without_newline}
 use Rattle.report_check.proofs.summaries.front_of.Goals as goal
 
 pub returns : goal.returns

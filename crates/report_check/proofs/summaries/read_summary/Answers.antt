@@ -1,7 +1,7 @@
 use Rattle.std.proofs.Common.{◌++◌, ◌∷◌, [], refl, ap, ◌∙◌}
 use Rattle.lin_report.specs.Calls.{report_of}
 use Rattle.lin_report.specs.Text.{NEWLINE}
-use Rattle.report_check.proofs.ReadBack.{tells_summary}
+use Rattle.report_check.proofs.CallsRead.ReadBack.{tells_summary}
 use Rattle.report_check.proofs.summaries.read_summary.Goals as goal
 
 pub returns : goal.returns

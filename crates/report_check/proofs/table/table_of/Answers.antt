@@ -3,7 +3,7 @@ use Rattle.lin_report.specs.Calls.{Call, answered_call, pending_call, IsSameCall
 use Rattle.report_check.specs.Orders.{IsName}
 use Rattle.report_check.specs.Verdicts.{name_of}
 use Rattle.report_check.proofs.Pairs.{all_front, all_back, all_mapped, pairs_front}
-use Rattle.report_check.proofs.Tables.{none_stand}
+use Rattle.report_check.proofs.CallsRead.Tables.{none_stand}
 use Rattle.report_check.proofs.table.table_of.Goals as goal
 
 abbrev HasName : Call → Type 0

@@ -1,5 +1,5 @@
 use Rattle.run_invariant.proofs.Kept.Induction.{runs_are_kept}
-use Rattle.run_invariant.proofs.Kept.Runs.{counters_kept}
+use Rattle.run_invariant.proofs.Kept.EveryRun.{counters_kept}
 use Rattle.run_invariant.proofs.runs.counters_kept.Goals as goal
 
 pub returns : goal.returns

@@ -1,5 +1,5 @@
 use Rattle.run_invariant.proofs.Kept.Induction.{runs_are_kept}
-use Rattle.run_invariant.proofs.Kept.Runs.{moves_of_kinds}
+use Rattle.run_invariant.proofs.Kept.EveryRun.{moves_of_kinds}
 use Rattle.run_invariant.proofs.runs.moves_of_kinds.Goals as goal
 
 pub returns : goal.returns

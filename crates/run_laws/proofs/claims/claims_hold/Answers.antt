@@ -1,4 +1,4 @@
-use Rattle.run_laws.proofs.ClaimLemmas.{claims_hold}
+use Rattle.run_laws.proofs.BlocksClaimed.{claims_hold}
 use Rattle.run_laws.proofs.claims.claims_hold.Goals as goal
 
 pub returns : goal.returns

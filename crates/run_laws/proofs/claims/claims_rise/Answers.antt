@@ -1,4 +1,4 @@
-use Rattle.run_laws.proofs.ClaimLemmas.{claims_rise}
+use Rattle.run_laws.proofs.BlocksClaimed.{claims_rise}
 use Rattle.run_laws.proofs.claims.claims_rise.Goals as goal
 
 pub returns : goal.returns

@@ -1,4 +1,4 @@
-use Rattle.run_laws.proofs.ExhaustedLemmas.{exhausted_saw}
+use Rattle.run_laws.proofs.NoneLeftSeen.{exhausted_saw}
 use Rattle.run_laws.proofs.claims.exhausted_saw.Goals as goal
 
 pub returns : goal.returns

@@ -1,4 +1,4 @@
-use Rattle.run_laws.proofs.ExhaustedLemmas.{helper_saw}
+use Rattle.run_laws.proofs.NoneLeftSeen.{helper_saw}
 use Rattle.run_laws.proofs.claims.helper_saw.Goals as goal
 
 pub returns : goal.returns

@@ -1,4 +1,4 @@
-use Rattle.run_laws.proofs.FileLemmas.{files_run}
+use Rattle.run_laws.proofs.CommandsMade.{files_run}
 use Rattle.run_laws.proofs.files.files_run.Goals as goal
 
 pub returns : goal.returns

@@ -1,4 +1,4 @@
-use Rattle.run_laws.proofs.PremiseLemmas.{client_keeps_claims}
+use Rattle.run_laws.proofs.CountersLeft.{client_keeps_claims}
 use Rattle.run_laws.proofs.premises.client_keeps_claims.Goals as goal
 
 pub returns : goal.returns

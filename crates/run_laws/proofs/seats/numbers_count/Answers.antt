@@ -1,4 +1,4 @@
-use Rattle.run_laws.proofs.SeatLemmas.{numbers_count}
+use Rattle.run_laws.proofs.MachinesKept.{numbers_count}
 use Rattle.run_laws.proofs.seats.numbers_count.Goals as goal
 
 pub returns : goal.returns

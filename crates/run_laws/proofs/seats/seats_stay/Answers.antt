@@ -1,4 +1,4 @@
-use Rattle.run_laws.proofs.SeatLemmas.{seats_stay}
+use Rattle.run_laws.proofs.MachinesKept.{seats_stay}
 use Rattle.run_laws.proofs.seats.seats_stay.Goals as goal
 
 pub returns : goal.returns

@@ -1,4 +1,4 @@
-use Rattle.run_laws.proofs.ReportLemmas.{runs_report}
+use Rattle.run_laws.proofs.ReceiptsAreReports.{runs_report}
 use Rattle.run_laws.proofs.ticks.runs_report.Goals as goal
 
 pub returns : goal.returns

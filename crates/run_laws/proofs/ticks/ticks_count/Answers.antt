@@ -1,4 +1,4 @@
-use Rattle.run_laws.proofs.TickLemmas.{ticks_count}
+use Rattle.run_laws.proofs.TicksCounted.{ticks_count}
 use Rattle.run_laws.proofs.ticks.ticks_count.Goals as goal
 
 pub returns : goal.returns

@@ -1,4 +1,4 @@
-use Rattle.run_laws.proofs.ReportLemmas.{ticks_once}
+use Rattle.run_laws.proofs.ReceiptsAreReports.{ticks_once}
 use Rattle.run_laws.proofs.ticks.ticks_once.Goals as goal
 
 pub returns : goal.returns

@@ -1,5 +1,5 @@
 use Rattle.run_exchanges.proofs.Kept.Induction.{runs_are_kept}
-use Rattle.run_reports.proofs.Placed.Headline.{files_meet_headline}
+use Rattle.run_reports.proofs.Placed.HeadlineMet.{files_meet_headline}
 use Rattle.run_reports.proofs.headline.files_meet_headline.Goals as goal
 
 pub returns : goal.returns

@@ -1,4 +1,4 @@
-use Rattle.run_world.proofs.Words.WordLemmas.{world_words}
+use Rattle.run_world.proofs.Words.WordsAfterMoves.{world_words}
 use Rattle.run_world.proofs.moves.world_words.Goals as goal
 
 pub returns : goal.returns

@@ -1,5 +1,5 @@
 use Rattle.std.proofs.Common.{rules}
-use Rattle.schedule_runs.proofs.LoopLemmas.{follows_next}
+use Rattle.schedule_runs.proofs.DriveLoops.{follows_next}
 use Rattle.schedule_runs.proofs.driver.drive.Goals as goal
 
 pub loop-entry-preserved : goal.loop-entry-preserved

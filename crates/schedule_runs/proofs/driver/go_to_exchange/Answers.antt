@@ -1,6 +1,6 @@
 use Rattle.std.proofs.Common.{rules, ◌∙◌}
 use Rattle.schedule_runs.specs.Spans.{reaches_at}
-use Rattle.schedule_runs.proofs.LoopLemmas.{gone_on, gone_to, reaches_now}
+use Rattle.schedule_runs.proofs.DriveLoops.{gone_on, gone_to, reaches_now}
 use Rattle.schedule_runs.proofs.driver.go_to_exchange.Goals as goal
 
 pub returns-then-step_reaches-clause-steps : goal.returns-then-step_reaches-clause-steps

@@ -1,6 +1,6 @@
 use Rattle.std.proofs.Common.{◌≡◌}
 use Rattle.schedule_runs.specs.Spans.{reaches_at}
-use Rattle.schedule_runs.proofs.LoopLemmas.{HasGone}
+use Rattle.schedule_runs.proofs.DriveLoops.{HasGone}
 use Rattle.schedule_runs.proofs.driver.go_to_exchange.Given as goal
 
 -- so many steps were made, and none was the last

@@ -1,4 +1,4 @@
-use Rattle.schedule_runs.proofs.NameLemmas.{names_one_order}
+use Rattle.schedule_runs.proofs.OneOrderNamed.{names_one_order}
 use Rattle.schedule_runs.proofs.laws.names_one_order.Goals as goal
 
 pub returns : goal.returns

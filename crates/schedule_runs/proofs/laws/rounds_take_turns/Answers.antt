@@ -1,4 +1,4 @@
-use Rattle.schedule_runs.proofs.RoundLemmas.{rounds_take_turns}
+use Rattle.schedule_runs.proofs.RoundsTakeTurns.{rounds_take_turns}
 use Rattle.schedule_runs.proofs.laws.rounds_take_turns.Goals as goal
 
 pub returns : goal.returns

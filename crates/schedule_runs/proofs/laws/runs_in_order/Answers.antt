@@ -1,4 +1,4 @@
-use Rattle.schedule_runs.proofs.OrderLemmas.{runs_in_order}
+use Rattle.schedule_runs.proofs.RunsInOrder.{runs_in_order}
 use Rattle.schedule_runs.proofs.laws.runs_in_order.Goals as goal
 
 pub returns : goal.returns

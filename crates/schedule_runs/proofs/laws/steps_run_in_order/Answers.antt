@@ -1,4 +1,4 @@
-use Rattle.schedule_runs.proofs.RoundLemmas.{steps_run_in_order}
+use Rattle.schedule_runs.proofs.RoundsTakeTurns.{steps_run_in_order}
 use Rattle.schedule_runs.proofs.laws.steps_run_in_order.Goals as goal
 
 pub returns : goal.returns

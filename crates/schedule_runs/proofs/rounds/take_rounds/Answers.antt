@@ -1,6 +1,6 @@
 use Rattle.std.proofs.Common.{rules}
 use Rattle.schedule_runs.specs.Rounds.{round}
-use Rattle.schedule_runs.proofs.RoundLemmas.{none_repeated, repeated_more, repeated_over}
+use Rattle.schedule_runs.proofs.RoundsTakeTurns.{none_repeated, repeated_more, repeated_over}
 use Rattle.schedule_runs.proofs.rounds.take_rounds.Goals as goal
 
 pub loop-init : goal.loop-init

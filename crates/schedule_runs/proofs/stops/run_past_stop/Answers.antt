@@ -1,4 +1,4 @@
-use Rattle.schedule_runs.proofs.StopLemmas.{stop_made}
+use Rattle.schedule_runs.proofs.RoundsWithoutOne.{stop_made}
 use Rattle.schedule_runs.proofs.stops.run_past_stop.Goals as goal
 
 pub returns-clause-steps : goal.returns-clause-steps

@@ -1,7 +1,7 @@
 use Rattle.std.proofs.Common.{◌≡◌, ◌+◌, ◌≤◌, length}
 use Rattle.script_reader.specs.Words.{lines_of}
 use Rattle.script_reader.specs.Outcomes.{lines_outcome}
-use Rattle.script_reader.proofs.Lines.{with_front}
+use Rattle.script_reader.proofs.LineByLine.{with_front}
 use Rattle.script_reader.proofs.grammar.read_lines.Given as goal
 
 -- the entries so far and those of what is left are those of all lines

@@ -1,4 +1,4 @@
-use Rattle.thread_laws.proofs.Lemmas.{threads_meet_headline}
+use Rattle.thread_laws.proofs.ThreadsRunFiles.{threads_meet_headline}
 use Rattle.thread_laws.proofs.laws.threads_meet_headline.Goals as goal
 
 pub returns : goal.returns

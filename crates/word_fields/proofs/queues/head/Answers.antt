@@ -1,5 +1,5 @@
 use Rattle.std.proofs.Common.{◌∙◌, sym, []}
-use Rattle.word_fields.proofs.MemberLemmas.{another_is, head_missing, head_named, no_members, none_yet}
+use Rattle.word_fields.proofs.MembersOfWords.{another_is, head_missing, head_named, no_members, none_yet}
 use Rattle.word_fields.proofs.queues.head.Goals as goal
 
 pub returns-then-is_another : goal.returns-then-is_another

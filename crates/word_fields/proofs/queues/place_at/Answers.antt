@@ -1,5 +1,5 @@
 use Rattle.std.proofs.Common.{◌∙◌}
-use Rattle.word_fields.proofs.QueueLemmas.{place_read}
+use Rattle.word_fields.proofs.SeatsOfQueueWords.{place_read}
 use Rattle.word_fields.proofs.queues.place_at.Goals as goal
 
 pub returns : goal.returns

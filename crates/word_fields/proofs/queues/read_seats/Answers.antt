@@ -1,7 +1,7 @@
 use Rattle.std.proofs.Common.{◌≡◌, ◌∙◌, ◌+◌, ◌-◌, ◌++◌, ◌∷◌, [], true, false, refl, sym, ap, arith, subst, length, length-append, length-set, drop}
 use Rattle.word_fields.specs.Seats.{AreMembers, names_another, places_of, seats_named}
-use Rattle.word_fields.proofs.MemberLemmas.{another_is, no_members, none_yet, one_more, real}
-use Rattle.word_fields.proofs.QueueLemmas.{read_end, read_last, read_more, read_start, length-places_of}
+use Rattle.word_fields.proofs.MembersOfWords.{another_is, no_members, none_yet, one_more, real}
+use Rattle.word_fields.proofs.SeatsOfQueueWords.{read_end, read_last, read_more, read_start, length-places_of}
 use Rattle.word_fields.proofs.queues.read_seats.Goals as goal
 use Rattle.word_fields.proofs.queues.read_seats.Goals.{else-loop-place-test, then-loop-place-test+then-not-is_another}
 

@@ -2,7 +2,7 @@ use Rattle.std.proofs.Common.{◌∙◌, ◌≤◌, sym, subst, ap}
 use Rattle.overtaking_law.specs.Order.{AreOrdered}
 use Rattle.overtaking_law.specs.Overtaking.{greatest_overtaken}
 use Rattle.run_invariant.proofs.Kept.Induction.{runs_are_kept}
-use Rattle.run_invariant.proofs.Kept.Runs.{queues_kept}
+use Rattle.run_invariant.proofs.Kept.EveryRun.{queues_kept}
 use Rattle.run_overtaking.specs.Accounts.{most_overtaken}
 use Rattle.run_overtaking.proofs.EventLaws.{greatest_bounded}
 use Rattle.run_overtaking.proofs.OrderLaws.{events_ordered}

@@ -1,7 +1,7 @@
 use Rattle.std.proofs.Common.{rules}
 use Rattle.std.proofs.lemmas.List.Sorted.{IsNonDecreasingBy-from_sort_by_key}
 use Rattle.arrayvec.proofs.ArrayVecLemmas.{items-with_items}
-use Rattle.event_core.proofs.PendingLemmas.{all_gathered, gathered}
+use Rattle.event_core.proofs.PendingGathered.{all_gathered, gathered}
 use Rattle.event_core.proofs.cores.Core.pending.Goals as goal
 
 pub loop-seat-preserved : goal.loop-seat-preserved

@@ -4,9 +4,9 @@ use Rattle.fast_slow_engine.specs.declared.setup.Turn.TheVariants as turn
 use Rattle.fast_slow_engine.specs.PhaseTable.{mech_fed, mech_request, mech_turn}
 use Rattle.fast_slow_engine.proofs.SameCalls.{same_as_fed}
 use Rattle.run_invariant.proofs.Kept.Induction.{runs_are_kept}
-use Rattle.run_invariant.proofs.Kept.Runs.{queues_kept}
+use Rattle.run_invariant.proofs.Kept.EveryRun.{queues_kept}
 use Rattle.event_core.specs.Cores.{core_stepped, core_turn}
-use Rattle.event_core.proofs.CoreLemmas.{is_over_by, next_core, next_turn, not_over_by, over_core, over_turn, seated}
+use Rattle.event_core.proofs.StepsAreMoves.{is_over_by, next_core, next_turn, not_over_by, over_core, over_turn, seated}
 use Rattle.event_core.proofs.Rooms.{over_kept, room_for_lines, room_to_note, stepped_kept}
 use Rattle.event_core.specs.Noted.{marked}
 use Rattle.event_core.proofs.StepEvents.{goes_on_over, mark_told, none_is, tick_told, unmarked_told}

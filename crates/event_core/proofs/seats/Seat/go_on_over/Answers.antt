@@ -2,7 +2,7 @@ use Rattle.std.proofs.Common.{◌≡◌, ◌∙◌, length, sym, subst, false, a
 use Rattle.fast_slow_engine.specs.Runs.{returned}
 use Rattle.fast_slow_engine.specs.PhaseTable.{rests}
 use Rattle.event_core.specs.Seats.{lines_owed}
-use Rattle.event_core.proofs.SeatLemmas.{lines_fed, seat_fed}
+use Rattle.event_core.proofs.SeatsStay.{lines_fed, seat_fed}
 use Rattle.event_core.proofs.seats.Seat.go_on_over.Goals as goal
 
 pub invariant_of-self : goal.invariant_of-self

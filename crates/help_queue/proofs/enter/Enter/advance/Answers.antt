@@ -1,5 +1,5 @@
 use Rattle.std.proofs.Common.{sym, ◌∙◌}
-use Rattle.help_queue.proofs.AnswerLemmas.{owner_fed}
+use Rattle.help_queue.proofs.StepsThatEnd.{owner_fed}
 use Rattle.help_queue.proofs.enter.Enter.advance.Goals as goal
 
 pub invariant_of-self-then-is_completed : goal.invariant_of-self-then-is_completed

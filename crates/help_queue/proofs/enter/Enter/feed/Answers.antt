@@ -1,4 +1,4 @@
-use Rattle.help_queue.proofs.AnswerLemmas.{entered_exactly, finished_exactly}
+use Rattle.help_queue.proofs.StepsThatEnd.{entered_exactly, finished_exactly}
 use Rattle.help_queue.proofs.enter.Enter.feed.Goals as goal
 
 pub returns-clause-entered : goal.returns-clause-entered

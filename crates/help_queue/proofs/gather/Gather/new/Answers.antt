@@ -1,4 +1,4 @@
-use Rattle.help_queue.proofs.GatherLemmas.{gather_made}
+use Rattle.help_queue.proofs.SeatsGathered.{gather_made}
 use Rattle.help_queue.proofs.gather.Gather.new.Goals as goal
 
 pub invariant_of-result : goal.invariant_of-result

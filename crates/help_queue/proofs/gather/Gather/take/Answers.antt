@@ -1,7 +1,7 @@
 use Rattle.std.proofs.Common.{ap, ◌∙◌, ◌++◌, ◌∷◌, [], cond}
 use Rattle.help_queue.specs.Gathers.{is_open}
 use Rattle.word_fields.specs.declared.records.RecordWord.{RecordWord}
-use Rattle.help_queue.proofs.GatherLemmas.{found_fits, gather_goes_on, loads_more}
+use Rattle.help_queue.proofs.SeatsGathered.{found_fits, gather_goes_on, loads_more}
 use Rattle.help_queue.proofs.gather.Gather.take.Goals as goal
 
 pub note-requires-clause-room : goal.note-requires-clause-room

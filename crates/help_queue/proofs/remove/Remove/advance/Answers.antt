@@ -1,5 +1,5 @@
 use Rattle.std.proofs.Common.{sym, ◌∙◌}
-use Rattle.help_queue.proofs.AnswerLemmas.{removal_fed}
+use Rattle.help_queue.proofs.StepsThatEnd.{removal_fed}
 use Rattle.help_queue.proofs.remove.Remove.advance.Goals as goal
 
 pub invariant_of-self-else-is_over : goal.invariant_of-self-else-is_over

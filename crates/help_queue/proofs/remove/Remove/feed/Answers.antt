@@ -1,4 +1,4 @@
-use Rattle.help_queue.proofs.AnswerLemmas.{gone_exactly}
+use Rattle.help_queue.proofs.StepsThatEnd.{gone_exactly}
 use Rattle.help_queue.proofs.remove.Remove.feed.Goals as goal
 
 pub returns-clause-gone : goal.returns-clause-gone

@@ -1,4 +1,4 @@
-use Rattle.lin_report.proofs.Lines.{call_line-answered}
+use Rattle.lin_report.proofs.LinePieces.{call_line-answered}
 use Rattle.lin_report.proofs.Rooms.{Appends-trans}
 use Rattle.lin_report.proofs.report.lines.append_receipt.Goals as goal
 

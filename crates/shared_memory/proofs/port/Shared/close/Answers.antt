@@ -1,5 +1,5 @@
 use Rattle.std.proofs.Common.{arith, ◌∙◌, sym, ap, subst}
-use Rattle.node_arena.proofs.OpeningLemmas.{length-opening_words}
+use Rattle.node_arena.proofs.ZerosOpen.{length-opening_words}
 use Rattle.fast_slow_engine.specs.PhaseTable.{rests}
 use Rattle.shared_memory.specs.Views.{Face}
 use Rattle.shared_memory.specs.Closing.{Closes, IsWhole}

@@ -1,7 +1,7 @@
 use Rattle.std.proofs.Common.{rules, ◌<◌, ◌∙◌, sym, ap, arith}
 use Rattle.step_memory.specs.declared.steps.Request.TheVariants.{Load, Add, Exchange}
-use Rattle.step_memory.specs.Step.{place_of}
-use Rattle.shared_memory.proofs.KeptSteps.{allows, misses, stores}
+use Rattle.step_memory.specs.Step.{requested_place}
+use Rattle.shared_memory.proofs.RuleKept.{allows, misses, stores}
 use Rattle.shared_memory.proofs.port.Shared.step_as.Goals as goal
 
 pub load-requires : goal.load-requires
@@ -17,7 +17,7 @@ load-requires-in-Load g c =
     let inside : c.place-at.result < c.self.inside.table.shared.table_id.words = (let within = c.if-at-word_count.false in let n = c.word_count.ensures in omega (arith, within, n)) in (
       ap (λ m. m.table) c.port.view_is ∙ (c.requires.table ∙ sym (ap (λ m. m.table) c.self.view_is)),
       inside,
-      allows _ _ _ _ _ _ _ _ g.B.Begins.command (Load c.in-Load.at) _ (ap (λ m. m.view) c.port.view_is) (c.place-at.ensures ∙ ap place_of c.in-Load.is) c.port.invariant.0 c.requires.can (c.requires.request ∙ c.in-Load.is) c.self.invariant.0 inside,
+      allows _ _ _ _ _ _ _ _ g.B.Begins.command (Load c.in-Load.at) _ (ap (λ m. m.view) c.port.view_is) (c.place-at.ensures ∙ ap requested_place c.in-Load.is) c.port.invariant.0 c.requires.can (c.requires.request ∙ c.in-Load.is) c.self.invariant.0 inside,
     )
 
 pub fetch_add-requires : goal.fetch_add-requires
@@ -25,7 +25,7 @@ fetch_add-requires g c =
     let inside : c.place-at.result < c.self.inside.table.shared.table_id.words = (let within = c.if-at-word_count.false in let n = c.word_count.ensures in omega (arith, within, n)) in (
       ap (λ m. m.table) c.port.view_is ∙ (c.requires.table ∙ sym (ap (λ m. m.table) c.self.view_is)),
       inside,
-      allows _ _ _ _ _ _ _ _ g.B.Begins.command (Add c.in-Add.at c.in-Add.by) _ (ap (λ m. m.view) c.port.view_is) (c.place-at.ensures ∙ ap place_of c.in-Add.is) c.port.invariant.0 c.requires.can (c.requires.request ∙ c.in-Add.is) c.self.invariant.0 inside,
+      allows _ _ _ _ _ _ _ _ g.B.Begins.command (Add c.in-Add.at c.in-Add.by) _ (ap (λ m. m.view) c.port.view_is) (c.place-at.ensures ∙ ap requested_place c.in-Add.is) c.port.invariant.0 c.requires.can (c.requires.request ∙ c.in-Add.is) c.self.invariant.0 inside,
     )
 
 pub compare_exchange-before-requires : goal.compare_exchange-before-requires
@@ -33,7 +33,7 @@ compare_exchange-before-requires g c =
     let inside : c.place-at.result < c.self.inside.table.shared.table_id.words = (let within = c.if-at-word_count.false in let n = c.word_count.ensures in omega (arith, within, n)) in (
       ap (λ m. m.table) c.port.view_is ∙ (c.requires.table ∙ sym (ap (λ m. m.table) c.self.view_is)),
       inside,
-      allows _ _ _ _ _ _ _ _ g.B.Begins.command (Exchange c.in-Exchange.at c.in-Exchange.from c.in-Exchange.to) _ (ap (λ m. m.view) c.port.view_is) (c.place-at.ensures ∙ ap place_of c.in-Exchange.is) c.port.invariant.0 c.requires.can (c.requires.request ∙ c.in-Exchange.is) c.self.invariant.0 inside,
+      allows _ _ _ _ _ _ _ _ g.B.Begins.command (Exchange c.in-Exchange.at c.in-Exchange.from c.in-Exchange.to) _ (ap (λ m. m.view) c.port.view_is) (c.place-at.ensures ∙ ap requested_place c.in-Exchange.is) c.port.invariant.0 c.requires.can (c.requires.request ∙ c.in-Exchange.is) c.self.invariant.0 inside,
     )
 
 pub store-requires : goal.store-requires
@@ -41,5 +41,5 @@ store-requires g c =
     let inside : c.place-at.result < c.self.inside.table.shared.table_id.words = (let within = c.if-at-word_count.false in let n = c.word_count.ensures in omega (arith, within, n)) in (
       ap (λ m. m.table) c.port.view_is ∙ (c.requires.table ∙ sym (ap (λ m. m.table) c.self.view_is)),
       inside,
-      stores _ _ _ _ _ _ c.in-Store.at c.in-Store.value _ _ g.B.Begins.command _ (ap (λ m. m.view) c.port.view_is) (c.place-at.ensures ∙ ap place_of c.in-Store.is) c.port.invariant.0 c.requires.can (c.requires.request ∙ c.in-Store.is) c.self.invariant.0 inside,
+      stores _ _ _ _ _ _ c.in-Store.at c.in-Store.value _ _ g.B.Begins.command _ (ap (λ m. m.view) c.port.view_is) (c.place-at.ensures ∙ ap requested_place c.in-Store.is) c.port.invariant.0 c.requires.can (c.requires.request ∙ c.in-Store.is) c.self.invariant.0 inside,
     )

@@ -1,4 +1,4 @@
-use Rattle.word_fields.proofs.FieldLemmas.{and_mask_reads}
+use Rattle.word_fields.proofs.MasksAndShifts.{and_mask_reads}
 use Rattle.word_fields.proofs.field.Field.get.Goals as goal
 
 pub returns-clause-value : goal.returns-clause-value

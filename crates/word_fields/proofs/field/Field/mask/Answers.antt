@@ -1,4 +1,4 @@
-use Rattle.word_fields.proofs.FieldLemmas.{ones_of}
+use Rattle.word_fields.proofs.MasksAndShifts.{ones_of}
 use Rattle.std.proofs.Common.{arith}
 use Rattle.word_fields.proofs.field.Field.mask.Goals as goal
 

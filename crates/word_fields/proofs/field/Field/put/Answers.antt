@@ -1,4 +1,4 @@
-use Rattle.word_fields.proofs.FieldLemmas.{put_bits, read_back, other_field}
+use Rattle.word_fields.proofs.MasksAndShifts.{put_bits, read_back, other_field}
 use Rattle.std.proofs.Common.{◌∙◌, ap, arith}
 use Rattle.word_fields.specs.Fields.{field_of}
 use Rattle.word_fields.proofs.field.Field.put.Goals as goal

@@ -1,7 +1,7 @@
 use Rattle.std.proofs.Common.{◌∙◌, ap, arith}
 use Rattle.std.proofs.lemmas.Grind.{common_steps}
 use Rattle.word_fields.specs.Queues.{queue_of}
-use Rattle.word_fields.proofs.QueueLemmas.{queue_word_put, queue_of-packed, packed_queue_differ}
+use Rattle.word_fields.proofs.SeatsOfQueueWords.{queue_word_put, queue_of-packed, packed_queue_differ}
 use Rattle.word_fields.proofs.queues.QueueWord.pack.Goals as goal
 
 pub returns-clause-word : goal.returns-clause-word

@@ -1,4 +1,4 @@
-use Rattle.word_fields.proofs.QueueLemmas.{queue_seats_read}
+use Rattle.word_fields.proofs.SeatsOfQueueWords.{queue_seats_read}
 use Rattle.word_fields.proofs.queues.QueueWord.unpack.Goals as goal
 
 pub returns-clause-seats : goal.returns-clause-seats
