@@ -24,12 +24,12 @@ const SECOND_NODE: u64 = 9;
 
 /// A word of the list that was exchanged so often and leads to a node, 0 for none.
 fn leads(version: u64, node: u64) -> u64 {
-    version * (1 << 25) + node * 2
+    version << 25 | node << 1
 }
 
 /// Such a word that is marked: the node that it leads on from is deleted.
 fn marked(version: u64, node: u64) -> u64 {
-    leads(version, node) + 1
+    leads(version, node) | 1
 }
 
 /// A command with a key.
