@@ -1,5 +1,6 @@
 //! Runs command files, each in a thread of its own, and makes the text of the report.
-ghost use Rattle.std.specs.Prelude.{◌≤◌, All, IfOk, length, map};
+ghost use Rattle.std.specs.Prelude.{◌≤◌, All, IfOk, IsPermutation, length, map};
+ghost use Rattle.std.specs.List.Sorted.{IsNonDecreasingBy};
 ghost use Rattle.lin_report.specs.CommandFiles.{IsCommandFile};
 ghost use Rattle.lin_report.specs.Object.{object_of};
 ghost use Rattle.nwf_run.specs.Forms.{form_of};
@@ -8,7 +9,7 @@ ghost use Rattle.nwf_run.specs.Running.{IsThreaded};
 use crate::clients::at_client;
 use crate::running::{Replayed, any_exhausted, commands_of, runs_can_be_written};
 use fast_slow_engine::Setup;
-use lin_report::{Client, NoMemory, Op, report_room, write_report};
+use lin_report::{Client, NoMemory, Op, Receipt, report_room, write_report};
 use normal_traits::Normalized;
 use std::alloc::Global;
 use std::sync::Wait;
@@ -18,8 +19,20 @@ use thread_laws::laws::threads_meet_headline;
 use thread_runs::run::run_whole;
 use thread_runs::{Gate, Tries};
 
-/// The report of a structure's run with threads. All memory of the run and of the report is taken before the
-/// first thread starts.
+/// Puts lines in rising order of begin. They come seat by seat, those of each seat in order, and std's stable sort merges what
+/// is in order already. It takes memory; where there is none, the lines are sorted in place.
+fn sort_by_begin(lines: &mut Vec<Receipt>)
+    ensures same { IsPermutation lines.old.items lines.new.items }
+    ensures order { IsNonDecreasingBy (λ line. line.begin) lines.new.items }
+{
+    let Ok(()) = lines.sort_by_key(|line| line.begin) else {
+        lines.sort_unstable_by_key(|line| line.begin);
+        return;
+    };
+}
+
+/// The report of a structure's run with threads. All memory that the run and its report need is taken before the first
+/// thread starts.
 fn threaded<
     C: Normalized + Send + Sync,
     T: Tries<C> + Send + Sync,
@@ -47,7 +60,7 @@ fn threaded<
     };
     let mut text = report_room(alloc, commands_of(&commands))?;
     let (mut lines, _) = run_whole::<R, C, T, G>(rt, alloc, setup, commands, gate)?;
-    lines.sort_unstable_by_key(|line| line.begin);
+    sort_by_begin(&mut lines);
     threads_meet_headline::<C>();
     runs_can_be_written::<C>();
     write_report(&mut text, &lines, &[], None);

@@ -4,7 +4,6 @@ use Rattle.std.specs.List.{list_any}
 use Rattle.std.specs.Global.{Global}
 use Rattle.std.specs.List.Sorted.{IsNonDecreasingBy}
 use Rattle.std.proofs.lemmas.List.{length-map}
-use Rattle.std.proofs.lemmas.List.Sorted.{IsNonDecreasingBy-from_sort_by_key}
 use Rattle.lin_report.specs.declared.calls.Op.{Op}
 use Rattle.lin_report.specs.declared.calls.Receipt.{Receipt}
 use Rattle.lin_report.specs.Calls.{report_of}
@@ -23,8 +22,8 @@ write_report-requires-clause-room g c =
     let fit = files_fit form.object _ commands (search rules) c.requires.commands in
     let meets = c.threads_meet_headline.ensures _ files c.in_ok-lines.lines.items _ _ fit.count c.in_ok-lines.ensures.run in
     let can = c.runs_can_be_written.ensures _ files meets.order fit in
-    let moved = subst (IsPermutation c.in_ok-lines.lines.items) (sym c.deref-2.ensures.value) c.sort_unstable_by_key.ensures.permutation in
-    let order = subst (IsNonDecreasingBy (λ (r : Receipt). r.begin)) (sym c.deref-2.ensures.value) (IsNonDecreasingBy-from_sort_by_key (λ (r : Receipt). r.begin) _ c.sort_unstable_by_key.ensures.sorted (λ a r q k. search rules)) in
+    let moved = subst (IsPermutation c.in_ok-lines.lines.items) (sym c.deref-2.ensures.value) c.sort_by_begin.ensures.same in
+    let order = subst (IsNonDecreasingBy (λ (r : Receipt). r.begin)) (sym c.deref-2.ensures.value) c.sort_by_begin.ensures.order in
     let sorted = sorted_lines form _ files c.in_ok-lines.lines.items _ _ meets c.deref-2.result.now moved order in
     let state = ran form _ files c.in_ok-lines.lines.items _ _ meets in
     let count : c.commands_of.result ≡ sum_by length files = c.commands_of.ensures.count ∙ ap (λ (l : List (Vec Op Global)). sum_by length (files_of l)) c.deref.ensures.value in
@@ -38,8 +37,8 @@ write_report-requires-clause-report g c =
     let fit = files_fit form.object _ commands (search rules) c.requires.commands in
     let meets = c.threads_meet_headline.ensures _ files c.in_ok-lines.lines.items _ _ fit.count c.in_ok-lines.ensures.run in
     let can = c.runs_can_be_written.ensures _ files meets.order fit in
-    let moved = subst (IsPermutation c.in_ok-lines.lines.items) (sym c.deref-2.ensures.value) c.sort_unstable_by_key.ensures.permutation in
-    let order = subst (IsNonDecreasingBy (λ (r : Receipt). r.begin)) (sym c.deref-2.ensures.value) (IsNonDecreasingBy-from_sort_by_key (λ (r : Receipt). r.begin) _ c.sort_unstable_by_key.ensures.sorted (λ a r q k. search rules)) in
+    let moved = subst (IsPermutation c.in_ok-lines.lines.items) (sym c.deref-2.ensures.value) c.sort_by_begin.ensures.same in
+    let order = subst (IsNonDecreasingBy (λ (r : Receipt). r.begin)) (sym c.deref-2.ensures.value) c.sort_by_begin.ensures.order in
     let sorted = sorted_lines form _ files c.in_ok-lines.lines.items _ _ meets c.deref-2.result.now moved order in
     let state = ran form _ files c.in_ok-lines.lines.items _ _ meets in
     can_write state c.deref-2.result.now [] sorted.lines sorted.calls None tt _ sorted.order sorted.opened can
@@ -52,8 +51,8 @@ returns g c =
     let fit = files_fit form.object _ commands (search rules) c.requires.commands in
     let meets = c.threads_meet_headline.ensures _ files c.in_ok-lines.lines.items _ _ fit.count c.in_ok-lines.ensures.run in
     let can = c.runs_can_be_written.ensures _ files meets.order fit in
-    let moved = subst (IsPermutation c.in_ok-lines.lines.items) (sym c.deref-2.ensures.value) c.sort_unstable_by_key.ensures.permutation in
-    let order = subst (IsNonDecreasingBy (λ (r : Receipt). r.begin)) (sym c.deref-2.ensures.value) (IsNonDecreasingBy-from_sort_by_key (λ (r : Receipt). r.begin) _ c.sort_unstable_by_key.ensures.sorted (λ a r q k. search rules)) in
+    let moved = subst (IsPermutation c.in_ok-lines.lines.items) (sym c.deref-2.ensures.value) c.sort_by_begin.ensures.same in
+    let order = subst (IsNonDecreasingBy (λ (r : Receipt). r.begin)) (sym c.deref-2.ensures.value) c.sort_by_begin.ensures.order in
     let sorted = sorted_lines form _ files c.in_ok-lines.lines.items _ _ meets c.deref-2.result.now moved order in
     let state = ran form _ files c.in_ok-lines.lines.items _ _ meets in
     let mark = c.any_exhausted-exhausted.ensures ∙ ap (list_any (λ (r : Receipt). reply_is_exhausted r.reply)) (c.deref-3.ensures.value ∙ sym c.deref-2.ensures.value) in
