@@ -2,7 +2,7 @@
 use Rattle.std.proofs.Common.{◌≡◌, ◌≢◌, ℕ, ◌&&◌, nat_lt, nat_le, cond, Bool, true, false, List, [], ◌∷◌, length, Option, Some, None, codes, refl, sym, ap, subst}
 use Rattle.std.specs.Str.{bytes_eq}
 use Rattle.lin_report.specs.declared.calls.Client.{Client}
-use Rattle.nwf_run.specs.declared.load_words.LoadWords.{LoadWords}
+use Rattle.client_reports.specs.declared.loading.Load.{Load}
 use Rattle.nwf_run.specs.CommandLine.{Asked, Replay, Sweep, asked_of, asked_words, client_named, load_words, number_in, replay_of, replay_words, sweep_of, sweep_words}
 use Rattle.nwf_run.specs.CommandLine.Asked.{a_replay, a_sweep, a_load, a_run}
 
@@ -41,7 +41,7 @@ sweeps_have_none (command ∷ client ∷ cap ∷ limit ∷ most ∷ files) =
     if_served (bytes_eq command (codes "sweep") && nat_lt 0 (length files) && nat_le (length files) 8) _
     (no_schedule (client_named client) (number_in 1 65536 cap) (number_in 0 255 limit) (number_in 0 255 most) files)
 
-asked_is : (r : Option Replay) (s : Option Sweep) (l : Option LoadWords) → HasNoSchedule s → IsOfCore (asked_of r s l)
+asked_is : (r : Option Replay) (s : Option Sweep) (l : Option Load) → HasNoSchedule s → IsOfCore (asked_of r s l)
 asked_is (Some r) s l none = tt
 asked_is None (Some s) l none = none
 asked_is None None (Some l) none = tt

@@ -4,22 +4,22 @@ use Rattle.std.proofs.lemmas.Bool.{cases_lt}
 use Rattle.std.specs.Io.KnownBytes.{Appends}
 use Rattle.script_reader.specs.declared.causes.Refusal.{Refusal}
 use Rattle.whole_files.specs.Outside.{AppendsPrefix, Rose, WritesMessage}
-use Rattle.nwf_run.specs.declared.running.Replayed.{Replayed}
+use Rattle.client_reports.specs.declared.running.Replayed.{Replayed}
 use Rattle.nwf_run.specs.declared.stops.Stop.{Stop}
 use Rattle.nwf_run.specs.declared.stops.Stop.TheVariants.{Usage, Refused, ReadFault, NoMemory}
 use Rattle.lin_report.specs.declared.calls.Client.{Client}
 use Rattle.nwf_run.specs.Answers.{GivesDue, IsDue}
 use Rattle.nwf_run.specs.Answers.IsDue.{unserved, reports, exhausts, refuses}
-use Rattle.nwf_run.specs.Judging.{AcceptedBefore, IsFirstRefused, refusal_in}
+use Rattle.client_reports.specs.Judging.{AcceptedBefore, IsFirstRefused, refusal_in}
 use Rattle.nwf_run.specs.Reading.{Refuses, files_by_name, first_of}
 use Rattle.nwf_run.specs.Replaying.{AreRunsFor, Ends, IsReplayOf, Makes, Reports, StopsFor, text_for}
 use Rattle.nwf_run.specs.Replaying.Reports.{wrote, failed}
-use Rattle.nwf_run.specs.Runs.{FilesRun}
+use Rattle.client_reports.specs.Runs.{FilesRun}
 use Rattle.nwf_run.specs.Stops.{status_of, message_of, refused_message}
-use Rattle.nwf_run.specs.Sweeps.{AreSweepOf, SomeExhausts}
+use Rattle.client_reports.specs.Sweeps.{AreSweepOf, SomeExhausts}
 use Rattle.nwf_run.specs.CommandLine.{Asked, Replay, Sweep, files_asked}
 use Rattle.nwf_run.specs.CommandLine.Asked.{a_replay, a_sweep, a_load, a_run}
-use Rattle.nwf_run.proofs.JudgedFiles.{after_schedule, commands_accepted}
+use Rattle.client_reports.proofs.JudgedFiles.{after_schedule, commands_accepted}
 use Rattle.nwf_run.proofs.SameRuns.{replays_same, loads_same, sweeps_same}
 use Rattle.nwf_run.proofs.AskedOfCore.{IsOfCore}
 

@@ -1,18 +1,18 @@
 -- What a call has written and opened, by its status.
 use Rattle.std.proofs.Common.{◌≡◌, ℕ, ◌⊎◌, cond, Bool, true, false, List, Option, Some, None, Result, Ok, Err, IfOk, IsSomeAnd, inl, inr, refl, rules, subst, arith}
 use Rattle.std.specs.Io.KnownBytes.{Appends}
-use Rattle.nwf_run.specs.declared.running.Replayed.{Replayed}
+use Rattle.client_reports.specs.declared.running.Replayed.{Replayed}
 use Rattle.nwf_run.specs.declared.stops.Stop.{Stop}
 use Rattle.nwf_run.specs.declared.stops.Stop.TheVariants.{Usage, Refused, ReadFault, NoMemory}
 use Rattle.whole_files.specs.Outside.{Opening, AppendsPrefix}
 use Rattle.nwf_run.specs.Replaying.{AreRunsFor, Ends, Makes, OpensAll, OpensFor, RunsMeetHeadline, text_for}
 use Rattle.nwf_run.specs.Replaying.Reports.{wrote, failed}
-use Rattle.nwf_run.specs.Runs.{FilesRun}
+use Rattle.client_reports.specs.Runs.{FilesRun}
 use Rattle.nwf_run.specs.Stops.{status_of}
-use Rattle.nwf_run.specs.Sweeps.{SomeExhausts}
+use Rattle.client_reports.specs.Sweeps.{SomeExhausts}
 use Rattle.nwf_run.specs.CommandLine.{Asked, client_asked}
 use Rattle.nwf_run.specs.CommandLine.Asked.{a_replay, a_sweep, a_load, a_run}
-use Rattle.nwf_run.proofs.JudgedFiles.{there-weaker}
+use Rattle.client_reports.proofs.JudgedFiles.{there-weaker}
 
 -- a stop has none of the statuses of a report
 pub not_report : (stop : Stop) (status : ℕ) → status ≡ status_of stop → (status ≡ 0) ⊎ (status ≡ 5) ⊎ (status ≡ 7) → ⊥

@@ -2,7 +2,7 @@
 use Rattle.std.proofs.Common.{arith, ◌≡◌, ◌∙◌, ◌++◌, ◌∷◌, [], refl, sym, subst, ℕ, zero, suc, Bool, List, Option, All, append-nil}
 use Rattle.std.specs.List.{Any}
 use Rattle.nwf_run.specs.Replaying.{AreRunsFor, Makes, text_for}
-use Rattle.nwf_run.specs.Runs.{Exhausts, FilesRun, IsTextOf, RunMeetsHeadline}
+use Rattle.client_reports.specs.Runs.{Exhausts, FilesRun, IsTextOf, RunMeetsHeadline}
 use Rattle.nwf_run.specs.CommandLine.{Asked, client_asked}
 
 of_all : {X : Type 0} (P : X → Type 0) (x : X) → P x → All P (x ∷ [])

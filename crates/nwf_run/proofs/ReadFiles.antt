@@ -7,16 +7,16 @@ use Rattle.script_reader.specs.declared.causes.Refusal.{Refusal}
 use Rattle.script_reader.specs.declared.schedules.ScheduleEntry.{ScheduleEntry}
 use Rattle.script_reader.specs.Schedules.{schedule_outcome}
 use Rattle.script_reader.specs.Scripts.{script_outcome}
-use Rattle.nwf_run.specs.declared.stops.NoReport.{NoReport}
-use Rattle.nwf_run.specs.declared.stops.NoReport.TheVariants as no
+use Rattle.client_reports.specs.declared.no_report.NoReport.{NoReport}
+use Rattle.client_reports.specs.declared.no_report.NoReport.TheVariants as no
 use Rattle.nwf_run.specs.declared.stops.Stop.{Stop}
 use Rattle.nwf_run.specs.declared.stops.Stop.TheVariants.{Usage, Refused, ReadFault, NoMemory}
-use Rattle.nwf_run.specs.Judging.{AcceptedBefore, IsJudged, SayFirst, refusal_in}
+use Rattle.client_reports.specs.Judging.{AcceptedBefore, IsJudged, SayFirst, refusal_in}
 use Rattle.whole_files.specs.Outside.{Opening}
 use Rattle.nwf_run.specs.Reading.{FileReads, Opens, OpensUntil, StopsReading, files_by_name, first_of, name_of, openings}
 use Rattle.nwf_run.specs.Stops.{stop_for}
 use Rattle.nwf_run.specs.CommandLine.{Replay}
-use Rattle.nwf_run.proofs.JudgedFiles.{back, counted, commands_accepted, after_schedule, refused_after, refused_next, refused_schedule}
+use Rattle.client_reports.proofs.JudgedFiles.{back, counted, commands_accepted, after_schedule, refused_after, refused_next, refused_schedule}
 
 -- what was judged of the bytes that were read is judged of the file
 pub reads_as : {X : Type 0} (tells : Bool) (outcome : List ℕ → Result (List X) Refusal) (file : ℕ) (held : Option (List ℕ)) (bytes : List ℕ)

@@ -14,14 +14,14 @@ use Rattle.fast_slow_engine.specs.Reports.{report_of_run}
 use Rattle.overtaking_law.specs.Overtaking.{greatest_overtaken}
 use Rattle.schedule_runs.specs.Orders.{IsOrderOf}
 use Rattle.schedule_runs.proofs.OneOrderNamed.{names_one_order}
-use Rattle.nwf_run.specs.declared.load_words.LoadWords.{LoadWords}
-use Rattle.nwf_run.specs.Forms.{form_of}
-use Rattle.nwf_run.specs.Judging.{Accepts, SayFirst}
-use Rattle.nwf_run.specs.Loads.{IsLoadOf, ROUNDS_OF_A_CALL}
+use Rattle.client_reports.specs.declared.loading.Load.{Load}
+use Rattle.client_reports.specs.Forms.{form_of}
+use Rattle.client_reports.specs.Judging.{Accepts, SayFirst}
+use Rattle.client_reports.specs.Loads.{IsLoadOf, ROUNDS_OF_A_CALL}
 use Rattle.nwf_run.specs.Reading.{files_by_name}
 use Rattle.nwf_run.specs.Replaying.{IsReplayOf, OfOne}
-use Rattle.nwf_run.specs.Runs.{FilesRun, IsRun}
-use Rattle.nwf_run.specs.Sweeps.{AreSwept, AreSweepOf, longest, stop_runs}
+use Rattle.client_reports.specs.Runs.{FilesRun, IsRun}
+use Rattle.client_reports.specs.Sweeps.{AreSwept, AreSweepOf, longest, stop_runs}
 use Rattle.nwf_run.specs.CommandLine.{Replay, Sweep}
 
 -- ---- setups with the same numbers are the same
@@ -118,7 +118,7 @@ module _ (held : List ℕ → Option (List ℕ)) where
   pub replays_same : (r : Replay) (runs others : List FilesRun) → OfOne (IsReplayOf true held r) runs → OfOne (IsReplayOf true held r) others → runs ≡ others
   replays_same r runs others = of_one runs others (same_replay r)
 
-  pub loads_same : (l : LoadWords) (runs others : List FilesRun) → OfOne (IsLoadOf l) runs → OfOne (IsLoadOf l) others → runs ≡ others
+  pub loads_same : (l : Load) (runs others : List FilesRun) → OfOne (IsLoadOf l) runs → OfOne (IsLoadOf l) others → runs ≡ others
   loads_same l runs others = of_one runs others (λ run other is is'. same_run (form_of l.client) l.cap l.limit run other is.runs is'.runs (is.generated ∙ sym is'.generated) (λ setup. is.in_rounds ∙ sym is'.in_rounds))
 
   pub sweeps_same : (s : Sweep) (runs others : List FilesRun) → AreSweepOf true held s runs → AreSweepOf true held s others → runs ≡ others

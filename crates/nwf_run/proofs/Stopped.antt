@@ -1,8 +1,8 @@
 -- What a call comes to by its status, where it wrote no report.
 use Rattle.std.proofs.Common.{◌≡◌, ◌≢◌, ℕ, ◌+◌, ◌⊎◌, ◌↔◌, Bool, true, false, List, Option, Some, None, Result, Ok, Err, IfOk, IfErr, IsSomeAnd, inl, inr, refl, rules, sym, ap, ◌∙◌, subst, arith}
 use Rattle.script_reader.specs.declared.causes.Refusal.{Refusal}
-use Rattle.nwf_run.specs.declared.load_words.LoadWords.{LoadWords}
-use Rattle.nwf_run.specs.declared.running.Replayed.{Replayed}
+use Rattle.client_reports.specs.declared.loading.Load.{Load}
+use Rattle.client_reports.specs.declared.running.Replayed.{Replayed}
 use Rattle.nwf_run.specs.declared.stops.Stop.{Stop}
 use Rattle.nwf_run.specs.declared.stops.Stop.TheVariants.{Usage, Refused, ReadFault, NoMemory}
 use Rattle.whole_files.specs.Outside.{Opening, WritesMessage}
@@ -14,7 +14,7 @@ use Rattle.nwf_run.specs.CommandLine.{Asked, Replay, Sweep, asked_of, files_aske
 use Rattle.nwf_run.specs.CommandLine.Asked.{a_replay, a_sweep, a_load, a_run}
 
 -- where the words are those of a load, it is a load that is asked for
-pub load_asked : (P : Asked → Type 0) (r : Option Replay) (s : Option Sweep) (l : Option LoadWords) (load : LoadWords) → r ≡ None → s ≡ None → l ≡ Some load → P (a_load load) → IsSomeAnd (asked_of r s l) P
+pub load_asked : (P : Asked → Type 0) (r : Option Replay) (s : Option Sweep) (l : Option Load) (load : Load) → r ≡ None → s ≡ None → l ≡ Some load → P (a_load load) → IsSomeAnd (asked_of r s l) P
 load_asked P r s l load none without some made =
     subst (λ o. IsSomeAnd (asked_of o s l) P) (sym none) (subst (λ o. IsSomeAnd (asked_of None o l) P) (sym without) (subst (λ o. IsSomeAnd (asked_of None None o) P) (sym some) made))
 

@@ -2,15 +2,15 @@
 use Rattle.std.proofs.Common.{◌≡◌, ℕ, Bool, IsTrue, List, length, Option, None, refl, ap, ◌∙◌, subst, sym}
 use Rattle.lin_report.specs.declared.calls.Op.{Op}
 use Rattle.lin_report.specs.Text.{report_text}
-use Rattle.nwf_run.specs.Forms.{form_of}
-use Rattle.nwf_run.specs.Judging.{SayFirst}
+use Rattle.client_reports.specs.Forms.{form_of}
+use Rattle.client_reports.specs.Judging.{SayFirst}
 use Rattle.nwf_run.specs.Reading.{files_by_name}
 use Rattle.nwf_run.specs.Replaying.{Makes}
-use Rattle.nwf_run.specs.Running.{IsThreaded}
+use Rattle.client_reports.specs.Running.{IsThreaded}
 use Rattle.nwf_run.specs.CommandLine.{Replay}
 use Rattle.nwf_run.specs.CommandLine.Asked.{a_run}
 use Rattle.nwf_run.proofs.OneRun.{one_made}
-use Rattle.nwf_run.proofs.FormsOfClients.{at_once_but_the_tree}
+use Rattle.client_reports.proofs.FormsOfClients.{at_once_but_the_tree}
 
 pub run_made : (tells : Bool) (held : List ℕ → Option (List ℕ)) (words : Replay) (commands : List (List Op)) (text : List ℕ) (exhausted : Bool)
     → (IsTrue tells → SayFirst words.client (length words.files) (files_by_name held words) commands) → length commands ≡ length words.files

@@ -5,9 +5,9 @@ use Rattle.script_reader.specs.declared.causes.Refusal.{Refusal}
 use Rattle.whole_files.specs.Outside.{Rose, AppendsPrefix}
 use Rattle.nwf_run.specs.Reading.{Refuses}
 use Rattle.nwf_run.specs.Replaying.{AreRunsFor, text_for}
-use Rattle.nwf_run.specs.Runs.{FilesRun}
+use Rattle.client_reports.specs.Runs.{FilesRun}
 use Rattle.nwf_run.specs.Stops.{USAGE_MESSAGE, refused_message}
-use Rattle.nwf_run.specs.Sweeps.{SomeExhausts}
+use Rattle.client_reports.specs.Sweeps.{SomeExhausts}
 use Rattle.nwf_run.specs.CommandLine.{Asked, Replay, files_asked}
 
 -- a status and a text are due to what is asked, where these bytes are held under names: the text of its runs, or the

@@ -5,7 +5,7 @@ use Rattle.std.specs.Str.{bytes_eq}
 use Rattle.lin_report.specs.declared.calls.Client.{Client}
 use Rattle.lin_report.specs.declared.calls.Client.TheVariants as client
 use Rattle.script_reader.specs.Words.{number_up_to}
-use Rattle.nwf_run.specs.declared.load_words.LoadWords.{LoadWords}
+use Rattle.client_reports.specs.declared.loading.Load.{Load}
 
 -- what the words of a replay say, or of a run with threads, which has no schedule
 pub record Replay : Type 0 where
@@ -78,14 +78,14 @@ starts_run (command ∷ words) = bytes_eq command (codes "run")
 starts_run [] = false
 
 -- a load of a client, with each of its numbers in range
-abbrev pub load_of : Option Client → Option ℕ → Option ℕ → Option ℕ → Option ℕ → Option ℕ → Option LoadWords
+abbrev pub load_of : Option Client → Option ℕ → Option ℕ → Option ℕ → Option ℕ → Option ℕ → Option Load
 load_of (Some structure) (Some cap) (Some limit) (Some threads) (Some calls) (Some seed) =
     Some (record { client = structure; cap = cap; limit = limit; threads = threads; calls = calls; seed = seed })
 load_of _ _ _ _ _ _ = None
 
 -- `load CLIENT CAP LIMIT THREADS CALLS SEED`, with 1 to 65,536 blocks, a limit from 0 to 255, one to eight seats,
 -- 1 to 65,535 calls of each, and a seed of 32 bits; other words are no load
-abbrev pub load_words : List (List ℕ) → Option LoadWords
+abbrev pub load_words : List (List ℕ) → Option Load
 load_words (command ∷ client ∷ cap ∷ limit ∷ threads ∷ calls ∷ seed ∷ []) =
     if bytes_eq command (codes "load")
     then load_of (client_named client) (number_in 1 65536 cap) (number_in 0 255 limit) (number_in 1 8 threads) (number_in 1 65535 calls) (number_in 0 4294967295 seed)
@@ -97,7 +97,7 @@ load_words _ = None
 pub data Asked : Type 0 where
   a_replay : Replay → Asked
   a_sweep : Sweep → Asked
-  a_load : LoadWords → Asked
+  a_load : Load → Asked
   a_run : Replay → Asked
 
 -- the client that it is of
@@ -116,7 +116,7 @@ files_asked (Some (a_load l)) = None
 files_asked (Some (a_run r)) = Some r
 
 -- a replay is asked for, or a sweep, or a load, or nothing that is served
-abbrev pub asked_of : Option Replay → Option Sweep → Option LoadWords → Option Asked
+abbrev pub asked_of : Option Replay → Option Sweep → Option Load → Option Asked
 asked_of (Some r) s l = Some (a_replay r)
 asked_of None (Some s) l = Some (a_sweep s)
 asked_of None None (Some l) = Some (a_load l)

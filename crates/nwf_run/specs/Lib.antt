@@ -1,13 +1,6 @@
 pub mod CommandLine
-pub mod Forms
 pub mod Stops
 pub mod Said
-pub mod Judging
 pub mod Reading
-pub mod Writable
-pub mod Runs
-pub mod Loads
-pub mod Sweeps
 pub mod Replaying
-pub mod Running
 pub mod Answers

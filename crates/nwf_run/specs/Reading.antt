@@ -5,7 +5,7 @@ use Rattle.std.specs.declared.alloc.Global.{Global}
 use Rattle.script_reader.specs.declared.causes.Refusal.{Refusal}
 use Rattle.nwf_run.specs.declared.stops.Stop.{Stop}
 use Rattle.nwf_run.specs.declared.stops.Stop.TheVariants.{Usage, Refused, ReadFault, NoMemory}
-use Rattle.nwf_run.specs.Judging.{AcceptedBefore, IsFirstRefused}
+use Rattle.client_reports.specs.Judging.{AcceptedBefore, IsFirstRefused}
 use Rattle.whole_files.specs.Outside.{Opening, Rose}
 use Rattle.nwf_run.specs.CommandLine.{Replay}
 

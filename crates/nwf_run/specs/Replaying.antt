@@ -3,23 +3,24 @@ use Rattle.std.specs.Prelude.{◌≡◌, ◌↔◌, ℕ, ◌+◌, ◌≤◌, Boo
 use Rattle.std.specs.Io.KnownBytes.{Appends}
 use Rattle.std.specs.List.{flat_map}
 use Rattle.lin_report.specs.declared.calls.Client.{Client}
+use Rattle.lin_report.specs.declared.calls.Op.{Op}
 use Rattle.lin_report.specs.Calls.{Report}
 use Rattle.lin_report.specs.Text.{report_text, summary_text}
 use Rattle.script_reader.specs.declared.schedules.ScheduleEntry.{ScheduleEntry}
 use Rattle.schedule_runs.specs.Orders.{IsOrderOf}
-use Rattle.nwf_run.specs.declared.running.Replayed.{Replayed}
+use Rattle.client_reports.specs.declared.running.Replayed.{Replayed}
 use Rattle.nwf_run.specs.declared.stops.Stop.{Stop}
 use Rattle.nwf_run.specs.declared.stops.Stop.TheVariants.{Usage, NoMemory}
-use Rattle.nwf_run.specs.Forms.{form_of}
-use Rattle.nwf_run.specs.Judging.{Accepts}
-use Rattle.nwf_run.specs.Loads.{IsLoadOf}
+use Rattle.client_reports.specs.Forms.{form_of}
+use Rattle.client_reports.specs.Judging.{Accepts, SayFirst}
+use Rattle.client_reports.specs.Loads.{IsLoadOf}
 use Rattle.whole_files.specs.Outside.{Opening, Rose, AppendsPrefix, WritesMessage}
 use Rattle.nwf_run.specs.Reading.{files_by_name, Opens, OpensUntil, StopsReading}
-use Rattle.nwf_run.specs.Running.{IsRunOfFiles}
-use Rattle.nwf_run.specs.Runs.{FilesRun, IsRun, RunMeetsHeadline}
+use Rattle.client_reports.specs.Running.{IsThreadRun}
+use Rattle.client_reports.specs.Runs.{FilesRun, IsRun, RunMeetsHeadline}
 use Rattle.nwf_run.specs.Stops.{status_of, message_of}
-use Rattle.nwf_run.specs.Sweeps.{AreSweepOf, SomeExhausts, stop_lines}
-use Rattle.nwf_run.specs.CommandLine.{Asked, Replay, client_asked}
+use Rattle.client_reports.specs.Sweeps.{AreSwept, SomeExhausts, stop_lines}
+use Rattle.nwf_run.specs.CommandLine.{Asked, Replay, Sweep, client_asked}
 use Rattle.nwf_run.specs.CommandLine.Asked.{a_replay, a_sweep, a_load, a_run}
 
 -- the run is that of the replay: of the commands of its files, in the order that its schedule names; where bytes are
@@ -30,6 +31,19 @@ pub record IsReplayOf (tells : Bool) (held : List ℕ → Option (List ℕ)) (re
   pub seats : length run.commands ≡ length replay.files
   pub named : IsOrderOf (form_of replay.client) run.setup run.commands entries run.order
   pub runs : IsRun (form_of replay.client) replay.cap replay.limit run
+
+-- the run is one of named command files, which are all there and accepted where bytes are told
+pub record IsRunOfFiles (tells : Bool) (held : List ℕ → Option (List ℕ)) (words : Replay) (run : FilesRun) : Type 0 where
+  pub accepted : IsTrue tells → SayFirst words.client (length words.files) (files_by_name held words) run.commands
+  pub seats : length run.commands ≡ length words.files
+  pub runs : IsThreadRun (form_of words.client) words.cap words.limit run
+
+-- the runs are those of a sweep over named command files, which are all there and accepted where bytes are told
+pub record AreSweepOf (tells : Bool) (held : List ℕ → Option (List ℕ)) (sweep : Sweep) (runs : List FilesRun) : Type 0 where
+  pub commands : List (List Op)
+  pub accepted : IsTrue tells → SayFirst sweep.of_files.client (length sweep.of_files.files) (files_by_name held sweep.of_files) commands
+  pub seats : length commands ≡ length sweep.of_files.files
+  pub swept : AreSwept (form_of sweep.of_files.client) sweep.of_files.cap sweep.of_files.limit sweep.most commands runs
 
 -- there is one run, and this holds of it
 abbrev pub OfOne : (FilesRun → Type 0) → List FilesRun → Type 0

@@ -2,8 +2,8 @@
 use Rattle.std.specs.Prelude.{ℕ, List, ◌++◌, codes, decimal}
 use Rattle.script_reader.specs.declared.causes.Refusal.{Refusal}
 use Rattle.script_reader.specs.Outcomes.{cause_number}
-use Rattle.nwf_run.specs.declared.stops.NoReport.{NoReport}
-use Rattle.nwf_run.specs.declared.stops.NoReport.TheVariants as no
+use Rattle.client_reports.specs.declared.no_report.NoReport.{NoReport}
+use Rattle.client_reports.specs.declared.no_report.NoReport.TheVariants as no
 use Rattle.nwf_run.specs.declared.stops.Stop.{Stop}
 use Rattle.nwf_run.specs.declared.stops.Stop.TheVariants.{Usage, Refused, ReadFault, NoMemory}
 

@@ -3,19 +3,7 @@ ghost use Rattle.std.specs.Prelude.{◌≡◌, ◌≤◌, map, IfSome, string_by
 ghost use Rattle.nwf_run.specs.CommandLine.{load_words};
 
 use crate::words::{MAX_CAP, MAX_LIMIT, client_named, number_in};
-use lin_report::Client;
-
-/// What the words of a load say: which structure, how many blocks there are, how often a call may fail on its
-/// fast path, how many seats make calls, how many calls each of them makes, and the seed of these calls.
-#[derive(Clone, Copy, Debug, PartialEq, Eq)]
-pub struct LoadWords {
-    pub client: Client,
-    pub cap: u32,
-    pub limit: u32,
-    pub threads: u32,
-    pub calls: u32,
-    pub seed: u32,
-}
+use client_reports::Load;
 
 /// The most seats.
 const MAX_THREADS: u32 = 8;
@@ -23,7 +11,7 @@ const MAX_THREADS: u32 = 8;
 const MAX_CALLS: u32 = 65_535;
 
 /// Reads `load CLIENT CAP LIMIT THREADS CALLS SEED`. Other words are no load.
-pub fn load_words(words: &[String]) -> Option<LoadWords>
+pub fn load_words(words: &[String]) -> Option<Load>
     ensures words { result ≡ load_words (map string_bytes words.now) }
     ensures cap { IfSome result (λ w. (1 ≤ w.cap) × (w.cap ≤ 65536)) }
     ensures limit { IfSome result (λ w. w.limit ≤ 255) }
@@ -36,7 +24,7 @@ pub fn load_words(words: &[String]) -> Option<LoadWords>
     if command.as_str() != "load" {
         return None;
     }
-    Some(LoadWords {
+    Some(Load {
         client: client_named(client.as_str())?,
         cap: number_in(1, MAX_CAP, cap.as_str())?,
         limit: number_in(0, MAX_LIMIT, limit.as_str())?,

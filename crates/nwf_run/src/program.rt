@@ -5,18 +5,18 @@ ghost use Rattle.script_reader.specs.declared.causes.Refusal.{Refusal};
 ghost use Rattle.whole_files.specs.Outside.{Rose, AppendsPrefix, WritesMessage};
 ghost use Rattle.nwf_run.specs.Reading.{Opens, Reaches, Refuses};
 ghost use Rattle.nwf_run.specs.Replaying.{AreRunsFor, OpensAll, OpensSome, RunsMeetHeadline, text_for};
-ghost use Rattle.nwf_run.specs.Runs.{FilesRun};
+ghost use Rattle.client_reports.specs.Runs.{FilesRun};
 ghost use Rattle.nwf_run.specs.Stops.{status_of, USAGE_MESSAGE, NO_MEMORY_MESSAGE, refused_message, unread_message};
-ghost use Rattle.nwf_run.specs.Sweeps.{SomeExhausts};
+ghost use Rattle.client_reports.specs.Sweeps.{SomeExhausts};
 ghost use Rattle.nwf_run.specs.CommandLine.{files_asked, nwf_asked, starts_run, client_asked};
 ghost use Rattle.nwf_run.specs.declared.stops.Stop.{Stop};
 
 use crate::replay::replay_main;
 use crate::run::run_main;
+use client_reports::Gate;
 use std::alloc::Global;
 use std::sync::Wait;
 use std::thread::Threads;
-use thread_runs::Gate;
 use whole_files::{Files, Sink};
 
 /// Whether the first word is `run`.

@@ -7,22 +7,20 @@ ghost use Rattle.whole_files.specs.Outside.{Rose, AppendsPrefix, WritesMessage};
 ghost use Rattle.nwf_run.specs.Answers.{GivesDue, IsDue};
 ghost use Rattle.nwf_run.specs.Reading.{FaultsAsTold, Opens, OpensUntil, Reaches, Refuses, StopsReading};
 ghost use Rattle.nwf_run.specs.Replaying.{Ends, AreRunsFor, Makes, OpensAll, OpensFor, OpensSome, Reports, RunsMeetHeadline, StopsFor, text_for};
-ghost use Rattle.nwf_run.specs.Runs.{FilesRun};
+ghost use Rattle.client_reports.specs.Runs.{FilesRun};
 ghost use Rattle.nwf_run.specs.Said.{said, said_sweep};
 ghost use Rattle.nwf_run.specs.Stops.{status_of, message_of, USAGE_MESSAGE, NO_MEMORY_MESSAGE, refused_message, unread_message};
-ghost use Rattle.nwf_run.specs.Sweeps.{SomeExhausts};
+ghost use Rattle.client_reports.specs.Sweeps.{SomeExhausts};
 ghost use Rattle.nwf_run.specs.CommandLine.{asked_words, files_asked, client_asked};
 ghost use Rattle.nwf_run.specs.CommandLine.Asked.{a_replay, a_sweep};
 ghost use Rattle.nwf_run.specs.declared.stops.Stop.{Stop};
 
 use crate::load_words::load_words;
-use crate::loading::make_summary;
-use crate::running::{Replayed, make_report};
 use crate::scripts::{read_command_files, read_scripts};
 use crate::stops::Stop;
 use crate::sweep_words::{SweepWords, sweep_words};
-use crate::sweeping::make_lines;
 use crate::words::{ReplayWords, replay_words};
+use client_reports::{Replayed, make_lines, make_report, make_summary};
 use std::alloc::Global;
 use whole_files::{Files, Sink, write_all};
 

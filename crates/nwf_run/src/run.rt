@@ -5,24 +5,22 @@ ghost use Rattle.script_reader.specs.declared.causes.Refusal.{Refusal};
 ghost use Rattle.whole_files.specs.Outside.{Rose, AppendsPrefix, WritesMessage};
 ghost use Rattle.nwf_run.specs.Reading.{FaultsAsTold, Opens, OpensUntil, Reaches, Refuses, StopsReading};
 ghost use Rattle.nwf_run.specs.Replaying.{AreRunsFor, Makes, OpensAll, OpensFor, OpensSome, RunsMeetHeadline, StopsFor, text_for};
-ghost use Rattle.nwf_run.specs.Runs.{FilesRun};
+ghost use Rattle.client_reports.specs.Runs.{FilesRun};
 ghost use Rattle.nwf_run.specs.Said.{said_run};
 ghost use Rattle.nwf_run.specs.Stops.{status_of, USAGE_MESSAGE, NO_MEMORY_MESSAGE, refused_message, unread_message};
-ghost use Rattle.nwf_run.specs.Sweeps.{SomeExhausts};
+ghost use Rattle.client_reports.specs.Sweeps.{SomeExhausts};
 ghost use Rattle.nwf_run.specs.CommandLine.{files_asked, run_asked, client_asked};
 ghost use Rattle.nwf_run.specs.CommandLine.Asked.{a_run};
 ghost use Rattle.nwf_run.specs.declared.stops.Stop.{Stop};
 
 use crate::replay::finish;
-use crate::running::Replayed;
 use crate::scripts::read_command_files;
 use crate::stops::Stop;
-use crate::threads::make_thread_report;
 use crate::words::{RunWords, run_words};
+use client_reports::{Gate, Replayed, make_thread_report};
 use std::alloc::Global;
 use std::sync::Wait;
 use std::thread::Threads;
-use thread_runs::Gate;
 use whole_files::{Files, Sink};
 
 /// Reads the files and makes the report of their run.

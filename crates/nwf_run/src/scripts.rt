@@ -5,13 +5,13 @@ ghost use Rattle.lin_report.specs.Object.{object_of};
 ghost use Rattle.script_reader.specs.Schedules.{schedule_outcome};
 ghost use Rattle.script_reader.specs.Scripts.{script_outcome};
 ghost use Rattle.nwf_run.specs.Said.{said, said_run};
-ghost use Rattle.nwf_run.specs.Judging.{Accepts, SayFirst};
+ghost use Rattle.client_reports.specs.Judging.{Accepts, SayFirst};
 ghost use Rattle.nwf_run.specs.Reading.{FaultsAsTold, FileReads, OpensUntil, StopsReading, files_by_name};
 ghost use Rattle.nwf_run.specs.declared.stops.Stop.TheVariants as stop;
 
-use crate::judging::{Scripts, judge_commands, judge_schedule};
 use crate::stops::Stop;
 use crate::words::{ReplayWords, RunWords};
+use client_reports::{Scripts, judge_commands, judge_schedule};
 use lin_report::{Client, Op};
 use script_reader::ScheduleEntry;
 use std::alloc::Global;

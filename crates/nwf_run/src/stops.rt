@@ -1,31 +1,11 @@
-//! Why there is no report of bytes, and why a top call ends without one.
+//! Why a top call ends without a report, and what it says then.
 ghost use Rattle.nwf_run.specs.Stops.{stop_for, status_of, message_of};
-ghost use Rattle.std.specs.Prelude.{◌≡◌, ◌≤◌, ◌+◌, ◌++◌, codes, decimal, length};
-ghost use Rattle.arrayvec.specs.ArrayString.{array_string_len};
-ghost use Rattle.nwf_run.specs.declared.stops.NoReport.TheVariants as no;
+ghost use Rattle.std.specs.Prelude.{◌≡◌};
 ghost use Rattle.nwf_run.specs.declared.stops.Stop.TheVariants as variant;
 
-use arrayvec::ArrayString;
-use itoa::Buffer;
+use client_reports::{Message, NoReport, push_named};
 use lin_report::NoMemory;
 use script_reader::{Refusal, cause_number};
-
-/// Why bytes have no report. File 0 is the schedule, and file k the k-th command file.
-#[derive(Clone, Copy, Debug, PartialEq, Eq)]
-pub enum NoReport {
-    /// The grammar refuses a file.
-    Refused { file: u32, refusal: Refusal },
-    /// There was no memory.
-    NoMemory,
-}
-
-impl From<NoMemory> for NoReport {
-    ghost from_gives = { λ _ why. why ≡ no.NoMemory };
-
-    fn from(_error: NoMemory) -> NoReport {
-        NoReport::NoMemory
-    }
-}
 
 /// Why a top call ends without a report. File 0 is the schedule, and file k the k-th command file.
 #[derive(Clone, Copy, Debug, PartialEq, Eq)]
@@ -39,12 +19,6 @@ pub enum Stop {
     /// There was no memory.
     NoMemory,
 }
-
-/// The most bytes of a message.
-const MESSAGE_ROOM: usize = 160;
-
-/// A message, in room that needs no memory.
-pub type Message = ArrayString<MESSAGE_ROOM>;
 
 impl Stop {
     /// The status with which the call ends.
@@ -77,16 +51,6 @@ impl Stop {
         text.push_str("\n");
         text
     }
-}
-
-/// Puts a name and a number last.
-pub fn push_named(text: &mut Message, name: &str, number: u32)
-    requires { array_string_len text.old + length name.now + 40 ≤ 160 }
-    ensures bytes { text.new.bytes ≡ text.old.bytes ++ name.now ++ decimal number }
-    ensures len { array_string_len text.new ≤ array_string_len text.old + length name.now + 40 }
-{
-    text.push_str(name);
-    text.push_str(Buffer::new().format(number));
 }
 
 impl From<NoReport> for Stop {

@@ -1,8 +1,7 @@
 //! Reports of buckets, beside those of the list.
 use super::rows::{Row, compare};
-use crate::judging::judge_files;
-use crate::running::report_of;
 use bucket_set::BucketSet;
+use client_reports::{judge_files, report_of};
 use harris_list::HarrisList;
 use lin_report::Client;
 use std::alloc::Global;

@@ -1,6 +1,6 @@
 //! The call on bytes, on the first worked example.
-use crate::replay_bytes::replay_of_bytes;
-use crate::stops::NoReport;
+use client_reports::NoReport;
+use client_reports::replay_bytes::replay_of_bytes;
 use lin_report::Client;
 use script_reader::{Cause, Refusal};
 use std::test::Fail;

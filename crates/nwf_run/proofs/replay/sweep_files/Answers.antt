@@ -3,7 +3,7 @@ use Rattle.std.specs.Global.{Global}
 use Rattle.std.proofs.lemmas.List.{length-map}
 use Rattle.lin_report.specs.declared.calls.Op.{Op}
 use Rattle.nwf_run.specs.Said.{said_sweep}
-use Rattle.nwf_run.proofs.SweepRuns.{sweep_made}
+use Rattle.nwf_run.proofs.Replays.{sweep_made}
 use Rattle.nwf_run.proofs.replay.sweep_files.Goals as goal
 
 pub returns-clause-text : goal.returns-clause-text

@@ -7,9 +7,9 @@ use Rattle.lin_report.specs.CommandFiles.{IsCommandFile}
 use Rattle.lin_report.specs.Object.{object_of}
 use Rattle.script_reader.specs.Scripts.{script_outcome}
 use Rattle.nwf_run.specs.Said.{said_run}
-use Rattle.nwf_run.specs.Judging.{SayFirst}
+use Rattle.client_reports.specs.Judging.{SayFirst}
 use Rattle.nwf_run.specs.Reading.{FileReads, Opens, OpensUntil, StopsReading, files_by_name, name_of}
-use Rattle.nwf_run.proofs.JudgedFiles.{say_more, told_err}
+use Rattle.client_reports.proofs.JudgedFiles.{say_more, told_err}
 use Rattle.nwf_run.proofs.ReadFiles.{name_at, opens_more, opens_until, stops_next}
 use Rattle.nwf_run.proofs.scripts.read_command_files.Goals as goal
 

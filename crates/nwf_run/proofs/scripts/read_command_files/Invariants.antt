@@ -1,7 +1,7 @@
 use Rattle.std.proofs.Common.{◌≡◌, ◌≤◌, ◌+◌, ℕ, IsTrue, List, All, map, length, vec_len, vec_capacity}
 use Rattle.lin_report.specs.CommandFiles.{IsCommandFile}
 use Rattle.lin_report.specs.Object.{object_of}
-use Rattle.nwf_run.specs.Judging.{SayFirst}
+use Rattle.client_reports.specs.Judging.{SayFirst}
 use Rattle.nwf_run.specs.Reading.{Opens, files_by_name}
 use Rattle.nwf_run.specs.Said.{said_run}
 use Rattle.nwf_run.proofs.scripts.read_command_files.Given as goal

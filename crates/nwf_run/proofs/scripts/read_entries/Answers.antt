@@ -2,7 +2,7 @@ use Rattle.std.proofs.Common.{◌≡◌, IsTrue, IsSomeAnd, Ok, Err, Result, Lis
 use Rattle.script_reader.specs.declared.causes.Refusal.{Refusal}
 use Rattle.script_reader.specs.declared.schedules.ScheduleEntry.{ScheduleEntry}
 use Rattle.script_reader.specs.Schedules.{schedule_outcome}
-use Rattle.nwf_run.specs.Judging.{IsJudged}
+use Rattle.client_reports.specs.Judging.{IsJudged}
 use Rattle.nwf_run.specs.Reading.{FileReads}
 use Rattle.nwf_run.proofs.CutFiles.{judged_schedule}
 use Rattle.nwf_run.proofs.ReadFiles.{reads_as}

@@ -1,7 +1,7 @@
 use Rattle.std.proofs.Common.{rules, ◌≡◌, ◌+◌, ℕ, List, Err, Vec, length, subst, sym}
 use Rattle.std.specs.Global.{Global}
 use Rattle.lin_report.specs.declared.calls.Op.{Op}
-use Rattle.nwf_run.specs.declared.judging.Scripts.{Scripts}
+use Rattle.client_reports.specs.declared.judging.Scripts.{Scripts}
 use Rattle.nwf_run.specs.Said.{said}
 use Rattle.whole_files.specs.Outside.{Opening}
 use Rattle.nwf_run.specs.Reading.{Opens, OpensUntil}

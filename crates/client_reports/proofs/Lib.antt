@@ -1,0 +1,10 @@
+pub mod FormsOfClients
+pub mod JudgedFiles
+pub mod JudgedBytes
+pub mod BytesRun
+pub mod SameOrder
+pub mod Writable
+pub mod RunReports
+pub mod ThreadReports
+pub mod LoadRuns
+pub mod SweepRuns
