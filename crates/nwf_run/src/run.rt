@@ -55,7 +55,7 @@ fn run_files<R: Threads + Wait + Sync, F: Files, G: Gate + Sync>(
 }
 
 /// The report that the words ask for, or why there is none.
-fn answer<R: Threads + Wait + Sync, F: Files, G: Gate + Sync>(
+fn answer_run<R: Threads + Wait + Sync, F: Files, G: Gate + Sync>(
     rt: &R,
     alloc: Global,
     words: &[String],
@@ -125,6 +125,6 @@ pub fn run_main<R: Threads + Wait + Sync, F: Files, K: Sink, G: Gate + Sync>(
     ensures some_opened { result ≡ 6 → IsSomeAnd (run_asked (map string_bytes words.now)) (λ a. OpensSome a (F.faults files.old) (F.opened files.old) (F.opened files.new)) }
     ensures held { (n : List ℕ) → F.held files.new n ≡ F.held files.old n }
 {
-    let answer = answer(rt, alloc, words, files, gate);
+    let answer = answer_run(rt, alloc, words, files, gate);
     finish(out, answer)
 }
