@@ -1,9 +1,10 @@
 -- Why a check ends without a verdict, and what it says then.
-use Rattle.std.specs.Prelude.{ℕ, List, ◌++◌, codes, decimal}
+use Rattle.std.specs.Prelude.{ℕ, List}
 use Rattle.script_reader.specs.declared.causes.Cause.TheVariants.{FileTooLong}
 use Rattle.script_reader.specs.declared.causes.ScriptFault.{ScriptFault}
 use Rattle.script_reader.specs.declared.causes.ScriptFault.TheVariants as script
 use Rattle.script_reader.specs.Outcomes.{cause_number}
+use Rattle.command_line.specs.Lines.{NO_MEMORY_LINE, USAGE_LINE, refused_line, unread_line}
 use Rattle.report_check.specs.declared.reports.ReportFault.{ReportFault}
 use Rattle.report_check.specs.declared.reports.ReportFault.TheVariants as report
 use Rattle.checking.specs.declared.checked.CheckedFile.{CheckedFile}
@@ -53,21 +54,14 @@ status_of (ReadFault file) = 4
 status_of NoMemory = 6
 
 -- the line that is written for each
-abbrev pub USAGE_MESSAGE : List ℕ
-USAGE_MESSAGE = codes "nwf: usage\n"
-
 abbrev pub refused_message : NotAccepted → List ℕ
-refused_message why =
-    codes "nwf: refused file " ++ decimal (file_number (file_of why)) ++ codes " line " ++ decimal (line_of why) ++ codes " cause " ++ decimal (cause_of why) ++ codes "\n"
+refused_message why = refused_line (file_number (file_of why)) (line_of why) (cause_of why)
 
 abbrev pub unread_message : CheckedFile → List ℕ
-unread_message file = codes "nwf: read fault file " ++ decimal (file_number file) ++ codes "\n"
-
-abbrev pub NO_MEMORY_MESSAGE : List ℕ
-NO_MEMORY_MESSAGE = codes "nwf: no memory\n"
+unread_message file = unread_line (file_number file)
 
 abbrev pub message_of : Stop → List ℕ
-message_of Usage = USAGE_MESSAGE
+message_of Usage = USAGE_LINE
 message_of (Refused why) = refused_message why
 message_of (ReadFault file) = unread_message file
-message_of NoMemory = NO_MEMORY_MESSAGE
+message_of NoMemory = NO_MEMORY_LINE

@@ -2,7 +2,7 @@
 use Rattle.std.specs.Prelude.{ℕ, if◌then◌else◌, List, [], ◌∷◌, Option, Some, None, codes}
 use Rattle.std.specs.Str.{bytes_eq}
 use Rattle.lin_report.specs.declared.calls.Client.{Client}
-use Rattle.lin_report.specs.declared.calls.Client.TheVariants as client
+use Rattle.command_line.specs.Words.{client_named}
 use Rattle.checking.specs.declared.words.CheckWords.{CheckWords}
 
 -- what is asked for: of which client the report is, and the names of its file and of the order's
@@ -10,14 +10,6 @@ pub record Check : Type 0 where
   pub client : Client
   pub report : List ℕ
   pub order : List ℕ
-
--- the client that a word names
-abbrev pub client_named : List ℕ → Option Client
-client_named word =
-    if bytes_eq word (codes "queue") then Some client.Queue
-    else (if bytes_eq word (codes "list") then Some client.List
-    else (if bytes_eq word (codes "tree") then Some client.Tree
-    else (if bytes_eq word (codes "buckets") then Some client.Buckets else None)))
 
 -- a check of a client
 abbrev pub check_of : Option Client → List ℕ → List ℕ → Option Check

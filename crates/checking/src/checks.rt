@@ -6,7 +6,8 @@ ghost use Rattle.report_check.specs.Sayings.{verdict_text};
 ghost use Rattle.report_check.specs.declared.verdicts.Verdict.{Verdict};
 ghost use Rattle.checking.specs.Checking.{IsVerdictOn, OpensFor, StopsFor, verdict_status};
 ghost use Rattle.checking.specs.Reading.{FaultsAsTold, Opens, OpensUntil, Reaches, Refuses, StopsReading};
-ghost use Rattle.checking.specs.Stops.{status_of, file_of, USAGE_MESSAGE, NO_MEMORY_MESSAGE, refused_message, unread_message};
+ghost use Rattle.command_line.specs.Lines.{NO_MEMORY_LINE, USAGE_LINE};
+ghost use Rattle.checking.specs.Stops.{status_of, file_of, refused_message, unread_message};
 ghost use Rattle.checking.specs.Words.{check_words, said};
 ghost use Rattle.checking.specs.declared.checked.CheckedFile.{CheckedFile};
 ghost use Rattle.checking.specs.declared.checked.CheckedFile.TheVariants as file;
@@ -97,8 +98,8 @@ pub fn check_main<F: Files, K: Sink>(
 
     // The other statuses have their message, of which the sink has all or, after a fault, the first bytes.
     ensures statuses { (result ≡ 0) ⊎ (result ≡ 5) ⊎ (result ≡ 8) ⊎ ((stop : Stop) × (result ≡ status_of stop)) }
-    ensures unserved { result ≡ 2 → WritesMessage (K.written out.old) (K.written out.new) (K.faults out.old) (K.faults out.new) USAGE_MESSAGE }
-    ensures no_memory { result ≡ 6 → WritesMessage (K.written out.old) (K.written out.new) (K.faults out.old) (K.faults out.new) NO_MEMORY_MESSAGE }
+    ensures unserved { result ≡ 2 → WritesMessage (K.written out.old) (K.written out.new) (K.faults out.old) (K.faults out.new) USAGE_LINE }
+    ensures no_memory { result ≡ 6 → WritesMessage (K.written out.old) (K.written out.new) (K.faults out.old) (K.faults out.new) NO_MEMORY_LINE }
     ensures some_opened { result ≡ 6 → IsSomeAnd (check_words (map string_bytes words.now)) (λ check. (last : CheckedFile) × Opens check last (F.faults files.old) (F.opened files.old) (F.opened files.new)) }
     ensures held { (n : List ℕ) → F.held files.new n ≡ F.held files.old n }
 {

@@ -4,7 +4,7 @@
 pub use checked::{CheckedFile, NotAccepted};
 pub use checks::check_main;
 pub use stops::Stop;
-pub use words::{CheckWords, check_words, client_named};
+pub use words::{CheckWords, check_words};
 
 pub mod checked;
 pub mod checks;

@@ -1,12 +1,10 @@
 //! Why a check ends without a verdict, and what is written then.
-ghost use Rattle.std.specs.Prelude.{◌≡◌, ◌≤◌, ◌+◌, ◌++◌, decimal, length};
-ghost use Rattle.arrayvec.specs.ArrayString.{array_string_len};
+ghost use Rattle.std.specs.Prelude.{◌≡◌};
 ghost use Rattle.checking.specs.Stops.{status_of, message_of, stop_for_report, stop_for_order};
 ghost use Rattle.checking.specs.declared.stops.Stop.TheVariants as stop;
 
 use crate::checked::{CheckedFile, NotAccepted};
-use arrayvec::ArrayString;
-use itoa::Buffer;
+use command_line::{Message, no_memory_line, refused_line, unread_line, usage_line};
 use lin_report::NoMemory;
 use report_check::ReportFault;
 use script_reader::ScriptFault;
@@ -23,12 +21,6 @@ pub enum Stop {
     /// There was no memory.
     NoMemory,
 }
-
-/// The most bytes of a message.
-const MESSAGE_ROOM: usize = 160;
-
-/// A message, in room that needs no memory.
-pub type Message = ArrayString<MESSAGE_ROOM>;
 
 impl Stop {
     /// The status with which the call ends.
@@ -47,30 +39,13 @@ impl Stop {
     pub fn message(self) -> Message
         ensures { result.bytes ≡ message_of self }
     {
-        let mut text = Message::new();
         match self {
-            Stop::Usage => text.push_str("nwf: usage"),
-            Stop::Refused(why) => {
-                push_named(&mut text, "nwf: refused file ", why.file().number());
-                push_named(&mut text, " line ", why.line());
-                push_named(&mut text, " cause ", why.cause());
-            }
-            Stop::ReadFault(file) => push_named(&mut text, "nwf: read fault file ", file.number()),
-            Stop::NoMemory => text.push_str("nwf: no memory"),
+            Stop::Usage => usage_line(),
+            Stop::Refused(why) => refused_line(why.file().number(), why.line(), why.cause()),
+            Stop::ReadFault(file) => unread_line(file.number()),
+            Stop::NoMemory => no_memory_line(),
         }
-        text.push_str("\n");
-        text
     }
-}
-
-/// Puts a name and a number last.
-fn push_named(text: &mut Message, name: &str, number: u32)
-    requires { array_string_len text.old + length name.now + 40 ≤ 160 }
-    ensures bytes { text.new.bytes ≡ text.old.bytes ++ name.now ++ decimal number }
-    ensures len { array_string_len text.new ≤ array_string_len text.old + length name.now + 40 }
-{
-    text.push_str(name);
-    text.push_str(Buffer::new().format(number));
 }
 
 impl From<NoMemory> for Stop {

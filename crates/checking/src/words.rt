@@ -1,22 +1,10 @@
 //! The words of a check.
 ghost use Rattle.std.specs.Prelude.{◌≡◌, map, string_bytes};
 ghost use Rattle.std.specs.Option.{option_map};
-ghost use Rattle.checking.specs.Words.{client_named, check_words, said};
+ghost use Rattle.checking.specs.Words.{check_words, said};
 
+use command_line::client_named;
 use lin_report::Client;
-
-/// The client that a word names.
-pub fn client_named(word: &str) -> Option<Client>
-    ensures { result ≡ client_named word.now }
-{
-    match word {
-        "queue" => Some(Client::Queue),
-        "list" => Some(Client::List),
-        "tree" => Some(Client::Tree),
-        "buckets" => Some(Client::Buckets),
-        _ => None,
-    }
-}
 
 /// What the words of a check say: of which structure the report is, and the names of the two files.
 #[derive(Clone, Copy, Debug)]

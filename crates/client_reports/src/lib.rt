@@ -4,7 +4,6 @@
 
 pub use judging::{Scripts, judge_commands, judge_files, judge_schedule};
 pub use loading::{Load, make_summary};
-pub use messages::{Message, push_named};
 pub use no_report::NoReport;
 pub use replay_bytes::replay_of_bytes;
 pub use running::{Replayed, make_report, report_of};
@@ -15,7 +14,6 @@ pub use threads::make_thread_report;
 mod clients;
 pub mod judging;
 pub mod loading;
-pub mod messages;
 pub mod no_report;
 pub mod replay_bytes;
 pub mod running;

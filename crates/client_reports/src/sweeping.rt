@@ -12,8 +12,8 @@ ghost use Rattle.client_reports.specs.Sweeps.{IsSwept, longest, stop_line, stop_
 
 use crate::clients::at_client;
 use crate::loading::ROUNDS_OF_A_CALL;
-use crate::messages::{Message, push_named};
 use crate::running::{Replayed, any_exhausted, runs_can_be_written};
+use command_line::{Message, push_named};
 use event_core::Core;
 use fast_slow_engine::Setup;
 use lin_report::laws::report_text_fits;

@@ -9,7 +9,8 @@ use Rattle.whole_files.specs.Outside.{Opening, WritesMessage}
 use Rattle.nwf_run.specs.Reading.{Opens, Reaches, Refuses}
 use Rattle.nwf_run.specs.Replaying.{Ends, Makes, OpensFor, OpensSome, Reports, StopsFor}
 use Rattle.nwf_run.specs.Replaying.Reports.{wrote, failed}
-use Rattle.nwf_run.specs.Stops.{status_of, refused_message, unread_message}
+use Rattle.command_line.specs.Lines.{unread_line}
+use Rattle.nwf_run.specs.Stops.{status_of, refused_message}
 use Rattle.nwf_run.specs.CommandLine.{Asked, Replay, Sweep, asked_of, files_asked}
 use Rattle.nwf_run.specs.CommandLine.Asked.{a_replay, a_sweep, a_load, a_run}
 
@@ -107,7 +108,7 @@ module _ (written written' : Option (List ℕ)) (faults faults' status : ℕ) wh
       refused None (Err stop) stops opens ends three = let is : status ≡ 2 = ends.0 ∙ ap status_of stops in absurd (omega (arith, is, three))
 
       abbrev IsUnread : Replay → Type 0
-      IsUnread r = (file : ℕ) × Reaches tells held r file × Opens r (file + 1) read before now × WritesMessage written written' faults faults' (unread_message file)
+      IsUnread r = (file : ℕ) × Reaches tells held r file × Opens r (file + 1) read before now × WritesMessage written written' faults faults' (unread_line file)
 
       pub unread : (words : Option Asked) (answer : Result Replayed Stop) → IfErr answer (StopsFor tells held words) → OpensFor words read before now answer
           → Ends written written' faults faults' status answer → status ≡ 4 → IsSomeAnd (files_asked words) IsUnread

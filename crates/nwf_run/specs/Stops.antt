@@ -1,7 +1,8 @@
 -- Why a top call ends without a report, and what it says then.
-use Rattle.std.specs.Prelude.{ℕ, List, ◌++◌, codes, decimal}
+use Rattle.std.specs.Prelude.{ℕ, List}
 use Rattle.script_reader.specs.declared.causes.Refusal.{Refusal}
 use Rattle.script_reader.specs.Outcomes.{cause_number}
+use Rattle.command_line.specs.Lines.{NO_MEMORY_LINE, USAGE_LINE, refused_line, unread_line}
 use Rattle.client_reports.specs.declared.no_report.NoReport.{NoReport}
 use Rattle.client_reports.specs.declared.no_report.NoReport.TheVariants as no
 use Rattle.nwf_run.specs.declared.stops.Stop.{Stop}
@@ -20,21 +21,11 @@ status_of (ReadFault file) = 4
 status_of NoMemory = 6
 
 -- the line that is written for each
-abbrev pub USAGE_MESSAGE : List ℕ
-USAGE_MESSAGE = codes "nwf: usage\n"
-
 abbrev pub refused_message : ℕ → Refusal → List ℕ
-refused_message file refusal =
-    codes "nwf: refused file " ++ decimal file ++ codes " line " ++ decimal refusal.line ++ codes " cause " ++ decimal (cause_number refusal.cause) ++ codes "\n"
-
-abbrev pub unread_message : ℕ → List ℕ
-unread_message file = codes "nwf: read fault file " ++ decimal file ++ codes "\n"
-
-abbrev pub NO_MEMORY_MESSAGE : List ℕ
-NO_MEMORY_MESSAGE = codes "nwf: no memory\n"
+refused_message file refusal = refused_line file refusal.line (cause_number refusal.cause)
 
 abbrev pub message_of : Stop → List ℕ
-message_of Usage = USAGE_MESSAGE
+message_of Usage = USAGE_LINE
 message_of (Refused file refusal) = refused_message file refusal
-message_of (ReadFault file) = unread_message file
-message_of NoMemory = NO_MEMORY_MESSAGE
+message_of (ReadFault file) = unread_line file
+message_of NoMemory = NO_MEMORY_LINE

@@ -2,8 +2,9 @@
 ghost use Rattle.std.specs.Prelude.{◌≡◌, ◌≤◌, map, IfSome, string_bytes};
 ghost use Rattle.nwf_run.specs.CommandLine.{load_words};
 
-use crate::words::{MAX_CAP, MAX_LIMIT, client_named, number_in};
+use crate::words::{MAX_CAP, MAX_LIMIT};
 use client_reports::Load;
+use command_line::{client_named, number_in};
 
 /// The most seats.
 const MAX_THREADS: u32 = 8;

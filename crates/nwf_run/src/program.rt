@@ -6,7 +6,8 @@ ghost use Rattle.whole_files.specs.Outside.{Rose, AppendsPrefix, WritesMessage};
 ghost use Rattle.nwf_run.specs.Reading.{Opens, Reaches, Refuses};
 ghost use Rattle.nwf_run.specs.Replaying.{AreRunsFor, OpensAll, OpensSome, RunsMeetHeadline, text_for};
 ghost use Rattle.client_reports.specs.Runs.{FilesRun};
-ghost use Rattle.nwf_run.specs.Stops.{status_of, USAGE_MESSAGE, NO_MEMORY_MESSAGE, refused_message, unread_message};
+ghost use Rattle.command_line.specs.Lines.{NO_MEMORY_LINE, USAGE_LINE, unread_line};
+ghost use Rattle.nwf_run.specs.Stops.{status_of, refused_message};
 ghost use Rattle.client_reports.specs.Sweeps.{SomeExhausts};
 ghost use Rattle.nwf_run.specs.CommandLine.{files_asked, nwf_asked, starts_run, client_asked};
 ghost use Rattle.nwf_run.specs.declared.stops.Stop.{Stop};
@@ -55,7 +56,7 @@ pub fn nwf_main<R: Threads + Wait + Sync, F: Files, K: Sink, G: Gate + Sync>(
     // still before the last opening. Each file before that one is there and accepted. No other answer comes
     // after a fault.
     ensures read_fault { result ≡ 4 → Rose (F.faults files.old) (F.faults files.new) }
-    ensures unread { result ≡ 4 → IsSomeAnd (files_asked (nwf_asked (map string_bytes words.now))) (λ r. (file : ℕ) × Reaches (F.tells files.old) (F.held files.old) r file × Opens r (file + 1) (F.faults files.old) (F.opened files.old) (F.opened files.new) × WritesMessage (K.written out.old) (K.written out.new) (K.faults out.old) (K.faults out.new) (unread_message file)) }
+    ensures unread { result ≡ 4 → IsSomeAnd (files_asked (nwf_asked (map string_bytes words.now))) (λ r. (file : ℕ) × Reaches (F.tells files.old) (F.held files.old) r file × Opens r (file + 1) (F.faults files.old) (F.opened files.old) (F.opened files.new) × WritesMessage (K.written out.old) (K.written out.new) (K.faults out.old) (K.faults out.new) (unread_line file)) }
     ensures read_calm { result ≢ 4 → F.faults files.new ≡ F.faults files.old }
     ensures write_fault { result ≡ 5 → Rose (K.faults out.old) (K.faults out.new) }
     ensures write_calm { (result ≡ 0) ⊎ (result ≡ 7) → K.faults out.new ≡ K.faults out.old }
@@ -66,8 +67,8 @@ pub fn nwf_main<R: Threads + Wait + Sync, F: Files, K: Sink, G: Gate + Sync>(
 
     // The other statuses have their message, of which the sink has all or, after a fault, the first bytes.
     ensures statuses { (result ≡ 0) ⊎ (result ≡ 5) ⊎ (result ≡ 7) ⊎ ((stop : Stop) × (result ≡ status_of stop)) }
-    ensures unserved { result ≡ 2 → WritesMessage (K.written out.old) (K.written out.new) (K.faults out.old) (K.faults out.new) USAGE_MESSAGE }
-    ensures no_memory { result ≡ 6 → WritesMessage (K.written out.old) (K.written out.new) (K.faults out.old) (K.faults out.new) NO_MEMORY_MESSAGE }
+    ensures unserved { result ≡ 2 → WritesMessage (K.written out.old) (K.written out.new) (K.faults out.old) (K.faults out.new) USAGE_LINE }
+    ensures no_memory { result ≡ 6 → WritesMessage (K.written out.old) (K.written out.new) (K.faults out.old) (K.faults out.new) NO_MEMORY_LINE }
     ensures some_opened { result ≡ 6 → IsSomeAnd (nwf_asked (map string_bytes words.now)) (λ a. OpensSome a (F.faults files.old) (F.opened files.old) (F.opened files.new)) }
     ensures held { (n : List ℕ) → F.held files.new n ≡ F.held files.old n }
 {

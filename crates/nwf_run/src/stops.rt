@@ -3,7 +3,8 @@ ghost use Rattle.nwf_run.specs.Stops.{stop_for, status_of, message_of};
 ghost use Rattle.std.specs.Prelude.{◌≡◌};
 ghost use Rattle.nwf_run.specs.declared.stops.Stop.TheVariants as variant;
 
-use client_reports::{Message, NoReport, push_named};
+use client_reports::NoReport;
+use command_line::{Message, no_memory_line, refused_line, unread_line, usage_line};
 use lin_report::NoMemory;
 use script_reader::{Refusal, cause_number};
 
@@ -37,19 +38,14 @@ impl Stop {
     pub fn message(self) -> Message
         ensures { result.bytes ≡ message_of self }
     {
-        let mut text = Message::new();
         match self {
-            Stop::Usage => text.push_str("nwf: usage"),
+            Stop::Usage => usage_line(),
             Stop::Refused { file, refusal } => {
-                push_named(&mut text, "nwf: refused file ", file);
-                push_named(&mut text, " line ", refusal.line);
-                push_named(&mut text, " cause ", cause_number(refusal.cause));
+                refused_line(file, refusal.line, cause_number(refusal.cause))
             }
-            Stop::ReadFault { file } => push_named(&mut text, "nwf: read fault file ", file),
-            Stop::NoMemory => text.push_str("nwf: no memory"),
+            Stop::ReadFault { file } => unread_line(file),
+            Stop::NoMemory => no_memory_line(),
         }
-        text.push_str("\n");
-        text
     }
 }
 

@@ -4,7 +4,8 @@ ghost use Rattle.std.specs.Option.{option_map};
 ghost use Rattle.nwf_run.specs.CommandLine.{sweep_words};
 ghost use Rattle.nwf_run.specs.Said.{said_sweep};
 
-use crate::words::{MAX_CAP, MAX_FILES, MAX_LIMIT, RunWords, client_named, number_in};
+use crate::words::{MAX_CAP, MAX_FILES, MAX_LIMIT, RunWords};
+use command_line::{client_named, number_in};
 
 /// What the words of a sweep say: those of a run, and up to how many steps its first seat makes before it stops.
 #[derive(Clone, Copy, Debug)]

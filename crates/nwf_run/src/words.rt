@@ -1,24 +1,11 @@
 //! The words of the command line.
 ghost use Rattle.std.specs.Prelude.{◌≡◌, ◌≤◌, Some, map, length, IfSome, string_bytes};
 ghost use Rattle.std.specs.Option.{option_map};
-ghost use Rattle.nwf_run.specs.CommandLine.{number_in, replay_words, run_words, client_named};
+ghost use Rattle.nwf_run.specs.CommandLine.{replay_words, run_words};
 ghost use Rattle.nwf_run.specs.Said.{said_run};
 
+use command_line::{client_named, number_in};
 use lin_report::Client;
-use script_reader::number_up_to;
-
-/// The client that a word names.
-pub fn client_named(word: &str) -> Option<Client>
-    ensures { result ≡ client_named word.now }
-{
-    match word {
-        "queue" => Some(Client::Queue),
-        "list" => Some(Client::List),
-        "tree" => Some(Client::Tree),
-        "buckets" => Some(Client::Buckets),
-        _ => None,
-    }
-}
 
 /// What the words of a run with threads say: those of a replay without a schedule.
 #[derive(Clone, Copy, Debug)]
@@ -101,18 +88,5 @@ pub fn run_words(words: &[String]) -> Option<RunWords<'_>>
             files,
         }),
         _ => None,
-    }
-}
-
-/// The number that a word writes, where it is in range.
-pub fn number_in(least: u32, most: u32, word: &str) -> Option<u32>
-    ensures number { result ≡ number_in least most word.now }
-    ensures range { IfSome result (λ n. (least ≤ n) × (n ≤ most)) }
-{
-    let number = number_up_to(most, word.as_bytes())?;
-    if !word.is_empty() && least <= number {
-        Some(number)
-    } else {
-        None
     }
 }

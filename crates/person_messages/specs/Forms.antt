@@ -1,7 +1,7 @@
 -- The forms of the command line: which words stand behind a command, and what each of them may be.
-use Rattle.std.specs.Prelude.{ℕ, ◌+◌, ◌-◌, Bool, true, false, nat_lt, nat_le, ◌&&◌, ◌||◌, if◌then◌else◌, List, [], ◌∷◌, length, slice_get, Option, Some, None, codes}
+use Rattle.std.specs.Prelude.{ℕ, ◌+◌, ◌-◌, Bool, true, false, nat_lt, ◌&&◌, if◌then◌else◌, List, [], ◌∷◌, length, slice_get, Option, Some, None, is_some, codes}
 use Rattle.std.specs.Str.{bytes_eq}
-use Rattle.script_reader.specs.Words.{number_up_to}
+use Rattle.command_line.specs.Words.{client_named, number_in}
 use Rattle.person_messages.specs.declared.forms.Command.{Command}
 use Rattle.person_messages.specs.declared.forms.Command.TheVariants.{Replay, Run, Load, Sweep, Check}
 use Rattle.person_messages.specs.declared.forms.Place.{Place}
@@ -46,22 +46,14 @@ range_of Report = None
 range_of Order = None
 range_of File = None
 
-abbrev pub client_is_named : List ℕ → Bool
-client_is_named word =
-    bytes_eq word (codes "queue") || bytes_eq word (codes "list") || bytes_eq word (codes "tree") || bytes_eq word (codes "buckets")
-
-abbrev pub at_least : ℕ → Option ℕ → Bool
-at_least least None = false
-at_least least (Some n) = nat_le least n
-
--- a word is one or more digits, of a number in the range
+-- a word is a number in the range, where there is one
 abbrev pub is_in_range : Option (ℕ × ℕ) → List ℕ → Bool
 is_in_range None word = true
-is_in_range (Some range) word = nat_lt 0 (length word) && at_least range.0 (number_up_to range.1 word)
+is_in_range (Some range) word = is_some (number_in range.0 range.1 word)
 
 -- a word may stand at a place; any word names a file
 abbrev pub fits : Place → List ℕ → Bool
-fits Client word = client_is_named word
+fits Client word = is_some (client_named word)
 fits place word = is_in_range (range_of place) word
 
 -- how many words have to stand behind a command

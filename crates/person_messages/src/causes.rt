@@ -2,17 +2,6 @@
 use crate::file_words::FileKind;
 use lin_report::Client;
 
-/// The client that a word names.
-pub fn client_of(word: &str) -> Option<Client> {
-    match word {
-        "queue" => Some(Client::Queue),
-        "list" => Some(Client::List),
-        "tree" => Some(Client::Tree),
-        "buckets" => Some(Client::Buckets),
-        _ => None,
-    }
-}
-
 /// What the commands of a client are.
 fn commands_text(client: Option<Client>) -> &'static str {
     match client {

@@ -1,10 +1,11 @@
 //! The text on standard error for the status with which the program ends.
-use crate::causes::{cause_text, client_of};
+use crate::causes::cause_text;
 use crate::file_words::{NamedFile, Trouble, file_named};
 use crate::said::{Said, read_said};
 use crate::unseen::{line_numbered, unseen_in};
 use crate::usage::{USAGE, VERSION, push_word_fault};
 use crate::word_faults::word_fault;
+use command_line::client_named;
 use lin_report::Client;
 use std::alloc::{AllocError, Global};
 use std::fmt::Write;
@@ -41,7 +42,7 @@ fn usage(text: &mut String, words: &[String]) -> Result<(), AllocError> {
 
 /// The client that the second word names.
 fn client_in(words: &[String]) -> Option<Client> {
-    client_of(words.get(1)?.as_str())
+    client_named(words.get(1)?.as_str())
 }
 
 /// Puts what is wrong with a line of a file last.

@@ -1,8 +1,8 @@
 //! The forms of the command line: which words stand behind a command, and what each of them may be.
 ghost use Rattle.std.specs.Prelude.{◌≡◌};
-ghost use Rattle.person_messages.specs.Forms.{client_is_named, command_named, fits, least_words, may_stand, place_at, places_of, range_of, takes_files};
+ghost use Rattle.person_messages.specs.Forms.{command_named, fits, least_words, may_stand, place_at, places_of, range_of, takes_files};
 
-use script_reader::number_up_to;
+use command_line::{client_named, number_in};
 
 /// What the first word asks for.
 #[derive(Clone, Copy, Debug, PartialEq, Eq)]
@@ -126,25 +126,15 @@ impl Place {
     }
 }
 
-/// Whether a word names a client.
-fn client_is_named(word: &str) -> bool
-    ensures { result ≡ client_is_named word.now }
-{
-    matches!(word, "queue" | "list" | "tree" | "buckets")
-}
-
 /// Whether a word may stand at a place. Any word may name a file.
 pub fn fits(place: Place, word: &str) -> bool
     ensures { result ≡ fits place word.now }
 {
     if let Place::Client = place {
-        return client_is_named(word);
+        return client_named(word).is_some();
     }
     match place.range() {
         None => true,
-        Some((least, most)) => match number_up_to(most, word.as_bytes()) {
-            Some(number) => !word.is_empty() && least <= number,
-            None => false,
-        },
+        Some((least, most)) => number_in(least, most, word).is_some(),
     }
 }
