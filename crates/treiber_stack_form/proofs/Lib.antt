@@ -1,3 +1,1 @@
-pub mod NodesStay
 pub mod ShapeKept
-pub mod Laws
