@@ -1,7 +1,7 @@
 -- What every allowed step keeps: the words of nodes, what a search has learnt, and the shape of the stack.
 use Rattle.std.proofs.Common.{◌≡◌, ◌≢◌, ℕ, ◌+◌, ◌-◌, ◌*◌, ◌/◌, ◌^◌, ◌<◌, ◌≤◌, Bool, true, false, eqb, List, [], ◌∷◌, length, Some, refl, sym, ap, ◌∙◌, subst, inl, inr, arith}
 use Rattle.std.specs.Prelude.{slice_get, All}
-use Rattle.std.proofs.lemmas.Bool.{true≢false, or_left, eq-eqb, eqb-true}
+use Rattle.std.proofs.lemmas.Bool.{true≢false, cond-true, or_left, eq-eqb, eqb-true}
 use Rattle.lin_report.specs.declared.calls.Op.{Op}
 use Rattle.lin_report.specs.declared.calls.Reply.{Reply}
 use Rattle.lin_report.specs.declared.calls.Reply.TheVariants.{Done, Value}
@@ -195,18 +195,18 @@ module _ (world : World) (stack : IsStack world) (list : Listed) (word : ℕ) (u
       → Later world (taken world list entry word used) → NodesStay world (taken world list entry word used) → IsStack (taken world list entry word used)
 
   -- where the top then leads to these blocks, with what is held then
-  won_keeps : (top reference : ℕ) (blocks : List ℕ) → reference < 2 ^ 24 → reference ≡ first_node blocks → (stack_apply list.call.op held).0 ≢ held
-      → AreLinked (taken world list (top_entry top reference) word used) blocks (stack_apply list.call.op held).0
+  won_keeps : (top reference : ℕ) (blocks values : List ℕ) → reference < 2 ^ 24 → reference ≡ first_node blocks → (stack_apply list.call.op held).0 ≡ values → values ≢ held
+      → AreLinked (taken world list (top_entry top reference) word used) blocks values
       → IsKnown (taken world list (top_entry top reference) word used) blocks (any_step.item_of (By list 0) (top_entry top reference) (cause_of world (By list 0) (top_entry top reference)))
       → ((won : Won) → Among won world.journal → (won.cause.kind ≡ 1 → ¬ Among won.cause.block blocks) × (won.cause ≢ cause_of world (By list 0) (top_entry top reference))) → Keeps (top_entry top reference)
-  won_keeps top reference blocks small names more linked known others listed same change kept stay =
+  won_keeps top reference blocks values small names applied more linked known others listed same change kept stay =
       let after = taken world list (top_entry top reference) word used in
       record {
         blocks = blocks;
         top = ap versioned_value (same_place TOP word world.words) ∙ sym (value-cleared word) ∙ ap versioned_value change.to ∙ value-changed top reference small ∙ names;
-        linked = linked;
+        linked = subst (AreLinked after blocks) (sym applied) linked;
         zero = kept.used 0 stack.zero;
-        effective = (more, stack.effective);
+        effective = (λ e. more (sym applied ∙ e), stack.effective);
         made = made_more world after kept.used kept.journal stack.made (change_of stack_object list world.changes) refl fresh
             (record { entry = top_entry top reference; cause = cause_of world (By list 0) (top_entry top reference); listed = listed; won = inl refl }) own unused;
         known = each_more (IsKnown after blocks) _ world.journal _ refl known (λ won a. known_kept world after kept stay stack.blocks blocks won (others won a).0 (stack.known won a));
@@ -217,8 +217,8 @@ module _ (world : World) (stack : IsStack world) (list : Listed) (word : ℕ) (u
   put_keeps : (top : ℕ) → is_put list.call.op ≡ true → list.block < 2 ^ 17 → world.used list.block ≡ false → All (λ (store : ℕ × ℕ). world.words store.0 ≡ store.1) (put_offer top list.call.op.value list.block).stores
       → Keeps (top_entry top (reference_to list.block 1))
   put_keeps top put small new stored listed same change kept stay =
-      won_keeps top (reference_to list.block 1) (list.block ∷ stack.blocks) (omega (arith, small)) refl (rw put (λ e. omega (arith, ap (λ (vs : List ℕ). length vs) e)))
-      (rw put (leads list.block list.call.op.value stack.blocks held node (linked_kept world after kept stay stack.blocks held stack.linked)))
+      won_keeps top (reference_to list.block 1) (list.block ∷ stack.blocks) (list.call.op.value ∷ held) (omega (arith, small)) refl (rw put refl) (λ e. omega (arith, ap (λ (vs : List ℕ). length vs) e))
+      (leads list.block list.call.op.value stack.blocks held node (linked_kept world after kept stay stack.blocks held stack.linked))
       (record {
         used = rw put own;
         kind = rw put (omega arith);
@@ -227,13 +227,17 @@ module _ (world : World) (stack : IsStack world) (list : Listed) (word : ℕ) (u
         maker = refl;
         made = record { reply = Done; change = rw put (inl refl); told = rw put refl };
       })
-      (λ won a. (not_in won.cause.block (stack.known won a), rw put (λ e. is_new won.cause.block (stack.known won a).used (ap (λ (c : Cause). c.block) e)))) listed same change kept stay
+      (λ won a. (λ took. not_in won.cause.block (stack.known won a).used ((stack.known won a).gone took), rw put (λ e. is_new won.cause.block (stack.known won a).used (ap (λ (c : Cause). c.block) e)))) listed same change kept stay
     where
       after : World
       after = taken world list (top_entry top (reference_to list.block 1)) word used
 
       is_new : (block : ℕ) → world.used block ≡ true → block ≢ list.block
       is_new block is e = true≢false (sym is ∙ ap world.used e ∙ new)
+
+      not_in : (block : ℕ) → world.used block ≡ true → ¬ Among block stack.blocks → ¬ Among block (list.block ∷ stack.blocks)
+      not_in block is out (inl e) = is_new block is e
+      not_in block is out (inr among) = out among
 
       node : IsNode after list.block list.call.op.value stack.blocks
       node =
@@ -244,3 +248,62 @@ module _ (world : World) (stack : IsStack world) (list : Listed) (word : ℕ) (u
                 ∙ value_small (versioned_value top) (value_below top) ∙ ap versioned_value (sym same) ∙ stack.top;
             once = λ among. is_new list.block (blocks_used world stack.blocks held list.block stack.linked among) refl;
           }
+
+  -- a take leads past the first node, which tells its value for ever
+  take_keeps : (top next : ℕ) → is_put list.call.op ≡ false → Learnt (TakeReady top next) world → Keeps (top_entry top (versioned_value next))
+  take_keeps top next take learnt listed same change kept stay = by_nodes stack.blocks held refl refl stack.linked
+    where
+      after : World
+      after = taken world list (top_entry top (versioned_value next)) word used
+
+      by_nodes : (blocks values : List ℕ) → stack.blocks ≡ blocks → held ≡ values → AreLinked world blocks values → IsStack after
+      by_nodes _ _ is_blocks is_held ends = absurd (learnt.0.some (ap versioned_value (sym same) ∙ stack.top ∙ ap (λ (bs : List ℕ). first_node bs) is_blocks))
+      by_nodes _ _ is_blocks is_held (leads block value blocks values node linked) =
+          let named : versioned_value top ≡ reference_to block 1 = ap versioned_value (sym same) ∙ stack.top ∙ ap (λ (bs : List ℕ). first_node bs) is_blocks in
+          let at : versioned_value top / 4 ≡ block = ap (λ v. v / 4) named ∙ block-reference_to block 1 (omega arith) in
+          won_keeps top (versioned_value next) blocks values (value_below next) (ap versioned_value (sym learnt.1) ∙ ap (λ r. versioned_value (world.words (node_place r NODE_NEXT))) named ∙ node.linked)
+          (rw (take, is_held) refl) (λ e. omega (arith, ap (λ (vs : List ℕ). length vs) (e ∙ is_held))) (linked_kept world after kept stay blocks values linked)
+          (record {
+            used = rw (take, at) (kept.used block node.used);
+            kind = rw take (omega arith);
+            gone = rw (take, at) (λ e. node.once);
+            list = list;
+            maker = refl;
+            made = record {
+              reply = Value value;
+              change = rw (take, is_held) (inl refl);
+              told = rw (take, named) (stands_kept world after kept stay (ValueOf (reference_to block 1)) (Value value) (ap world.used (block_of_place block NODE_VALUE (omega arith)) ∙ node.used, ap Value node.valued));
+            };
+          })
+          (λ won a. (λ took among. (stack.known won a).gone took (rw is_blocks (inr among)), rw (take, at) (λ e. (stack.known won a).gone (ap (λ (c : Cause). c.kind) e) (rw is_blocks (inl (ap (λ (c : Cause). c.block) e)))))) listed same change kept stay
+
+  -- a put has a new block that is filled
+  entry_keeps : (search : StackSearch) (since : ℕ) (entry : Entry) → IsOffered stack_form world list search since
+      → (is_put list.call.op ≡ true → (world.used list.block ≡ false) × All (λ (store : ℕ × ℕ). world.words store.0 ≡ store.1) (offered search list.call.op list.block).stores) → Keeps entry
+  entry_keeps (PutReady top) since entry offer filled listed =
+      let put = offer.knows.serves in
+      let stored = subst (λ b. All (λ (store : ℕ × ℕ). world.words store.0 ≡ store.1) (put_offer top list.call.op.value b).stores) (cond-true (is_put list.call.op) list.block 0 put) (filled put).1 in
+      subst Keeps (the_entry list.entries entry (top_entry top (reference_to list.block 1)) listed (rw put at offer.entries)) (put_keeps top put offer.small (filled put).0 stored) listed
+  entry_keeps (TakeReady top next) since entry offer filled listed =
+      subst Keeps (the_entry list.entries entry (top_entry top (versioned_value next)) listed offer.entries) (take_keeps top next offer.knows.serves offer.knows.learnt) listed
+  entry_keeps _ since entry offer filled listed = absurd offer.ready
+
+-- ---- each step
+
+keeps : (world after : World) → IsStack world → Later world after → NodesStay world after → IsStep stack_form world after → IsStack after
+keeps world _ stack kept stay nothing = stack
+keeps world _ stack kept stay (elsewhere place word none) = still world place word stack kept stay (ap versioned_value (beside_word is_top world place word none TOP refl))
+keeps world _ stack kept stay (clears place some versioned listable) =
+    still world place (cleared_word (world.words place)) stack kept stay
+    (all_put (λ word after. versioned_value after ≡ versioned_value word) (λ word. refl) world.words place (cleared_word (world.words place)) (value-cleared (world.words place)) TOP)
+keeps world after stack kept stay (searches {seen = seen} search op since command asks knows requested) = subst IsStack (sym (went stack_form (asked search) world after seen requested).0) stack
+keeps world after stack kept stay (wraps wrap list stop command going follows requested) = absurd follows
+keeps world _ stack kept stay (first list search since entry word offer fresh none needs listed same change) =
+    entry_keeps world stack list word world.used fresh (ap world.used none ∙ stack.zero) (λ some. absurd (omega (arith, some, none))) search since entry offer (λ put. absurd (true≢false (sym put ∙ needs))) listed same change kept stay
+keeps world _ stack kept stay (first_of_block list search since entry word offer fresh some unused filled listed same change) =
+    entry_keeps world stack list word (using_block list.block world.used) fresh (or_left (eqb list.block list.block) (world.used list.block) (eq-eqb list.block list.block refl)) (λ some. unused)
+    search since entry offer (λ put. (unused, filled.stored)) listed same change kept stay
+keeps world _ stack kept stay (second list search since entry word offer took unmade listed same change) = absurd (no_second list.entries _ entry (one_top world list search since offer).2 listed)
+
+pub shape_keeps : (world after : World) → IsStack world → IsStep stack_form world after → IsStack after
+shape_keeps world after stack step = keeps world after stack (later world after stack step) (nodes_stay world after step) step
