@@ -1,1 +1,2 @@
 pub mod ShapeKept
+pub mod Laws
