@@ -1,5 +1,5 @@
 -- The laws of the stack: what its steps amount to.
-use Rattle.std.proofs.Common.{◌≡◌, ◌≢◌, ℕ, ◌+◌, ◌^◌, ◌<◌, ◌≤◌, Bool, true, false, if◌then◌else◌, eqb, List, [], ◌∷◌, ◌++◌, length, Option, Some, None, refl, sym, ap, ◌∙◌, subst, inl, arith}
+use Rattle.std.proofs.Common.{◌≡◌, ◌≢◌, ℕ, ◌+◌, ◌^◌, ◌<◌, ◌≤◌, true, false, if◌then◌else◌, eqb, List, [], ◌∷◌, ◌++◌, length, Option, Some, None, refl, ap, ◌∙◌, subst, inl, arith}
 use Rattle.std.specs.Prelude.{All, AllPairs, slice_get}
 use Rattle.std.proofs.lemmas.Bool.{eqb-true, eqb-false, ne_eqb, cond_both}
 use Rattle.std.proofs.lemmas.Bool.Decides.{nat_tests}
@@ -9,12 +9,12 @@ use Rattle.lin_report.specs.declared.calls.Outcome.TheVariants.{Plain, ValueOf}
 use Rattle.lin_report.specs.declared.calls.Reply.TheVariants.{Done, Empty}
 use Rattle.lin_report.specs.Object.{IsCommandOf}
 use Rattle.step_memory.specs.declared.steps.Seen.{Seen}
-use Rattle.word_fields.specs.Versioned.{versioned_value, versioned_bit, is_modified, value_below}
+use Rattle.word_fields.specs.Versioned.{versioned_value, is_modified, value_below}
 use Rattle.node_arena.specs.declared.places.TheConstants.{NODE_VALUE, NODE_NEXT}
 use Rattle.node_arena.specs.MemoryMap.{node_place, reference_to, block_at}
 use Rattle.node_arena.proofs.PlacesApart.{node_place-reference_to, block_place_behind}
 use Rattle.normal_traits.specs.declared.form.Found.{Found}
-use Rattle.normal_traits.specs.declared.form.Found.TheVariants.{Going, Ready, Answer, Contended}
+use Rattle.normal_traits.specs.declared.form.Found.TheVariants.{Going, Ready, Contended}
 use Rattle.normal_traits.specs.declared.form.Wrapped.TheVariants as wrapped
 use Rattle.normal_traits.specs.declared.lists.Entry.{Entry}
 use Rattle.normal_traits.specs.World.{Listed, Won, Change, World, held_after, first_changes, RightSince, Took, Stopped, Observes, ChangedBy}
@@ -36,7 +36,7 @@ use Rattle.treiber_stack_form.specs.declared.states.StackSearch.TheVariants.{Put
 use Rattle.treiber_stack_form.specs.declared.states.StackWrap.TheVariants.{Over}
 use Rattle.treiber_stack_form.specs.Object.{is_put, stack_object}
 use Rattle.treiber_stack_form.specs.Tellable.{stack_exhausts}
-use Rattle.treiber_stack_form.specs.Steps.{asked, asked_place, fed, met_by_take, Asks, IsReady, next_place, put_offer, top_entry, offered, told, told_by, wrap_begun}
+use Rattle.treiber_stack_form.specs.Steps.{asked, asked_place, fed, met_by_take, Asks, IsReady, top_entry, offered, told, told_by, wrap_begun}
 use Rattle.treiber_stack_form.specs.Meanings.{first_node, AreLinked, AreEffective, IsStack, WasTop, Learnt, Knows}
 use Rattle.treiber_stack_form.specs.Meanings.AreLinked.{ends, leads}
 use Rattle.treiber_stack_form.specs.Form.{stack_form}

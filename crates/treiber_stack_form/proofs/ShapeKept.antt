@@ -29,7 +29,7 @@ use Rattle.treiber_stack_form.specs.declared.states.TheConstants.{TOP}
 use Rattle.treiber_stack_form.specs.declared.states.StackSearch.{StackSearch}
 use Rattle.treiber_stack_form.specs.declared.states.StackSearch.TheVariants.{PutReady, TakeReady, TakeNext}
 use Rattle.treiber_stack_form.specs.Object.{is_put, stack_apply, stack_object}
-use Rattle.treiber_stack_form.specs.Steps.{asked, top_entry, block_for, put_offer, offered}
+use Rattle.treiber_stack_form.specs.Steps.{asked, top_entry, put_offer, offered}
 use Rattle.treiber_stack_form.specs.Meanings.{is_top, cause_of, first_node, IsNode, AreLinked, IsKnown, IsStack, WasTop, WasNode, Learnt, Knows}
 use Rattle.treiber_stack_form.specs.Meanings.AreLinked.{ends, leads}
 use Rattle.treiber_stack_form.specs.Form.{stack_form}

@@ -1,13 +1,12 @@
 -- A report can tell the stack's calls, and words that are all 0 open it.
-use Rattle.std.proofs.Common.{◌≡◌, ◌≢◌, ℕ, ◌<◌, ◌==◌, Bool, true, false, IsTrue, List, [], ◌∷◌, All, refl, arith}
+use Rattle.std.proofs.Common.{◌≢◌, ℕ, ◌<◌, IsTrue, List, [], ◌∷◌, All, refl, arith}
 use Rattle.std.proofs.lemmas.Bool.Decides.{nat_tests}
 use Rattle.std.proofs.lemmas.List.Elements.{All-nil, All-head, All-tail, All-cons}
 use Rattle.lin_report.specs.declared.calls.Op.{Op}
 use Rattle.lin_report.specs.declared.calls.Reply.{Reply}
 use Rattle.lin_report.specs.declared.calls.Reply.TheVariants.{Exhausted}
-use Rattle.lin_report.specs.declared.calls.TheConstants.{TAKE}
 use Rattle.lin_report.specs.Commands.{may_exhaust, IsReplyTo, VALUE_LIMIT}
-use Rattle.lin_report.specs.Object.{IsCommandOf, take_first, held_after}
+use Rattle.lin_report.specs.Object.{IsCommandOf, held_after}
 use Rattle.lin_report.specs.Tellable.{IsTellable}
 use Rattle.client_lemmas.proofs.Outcomes.{either}
 use Rattle.node_arena.specs.Opening.{IsOpening}
