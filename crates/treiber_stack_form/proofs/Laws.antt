@@ -1,6 +1,5 @@
 -- The laws of the stack: what its steps amount to.
-use Rattle.std.proofs.Common.{◌≡◌, ◌≢◌, ℕ, ◌+◌, ◌^◌, ◌<◌, ◌≤◌, true, false, if◌then◌else◌, eqb, List, [], ◌∷◌, ◌++◌, length, Option, Some, None, refl, ap, ◌∙◌, subst, inl, arith}
-use Rattle.std.specs.Prelude.{All, AllPairs, slice_get}
+use Rattle.std.proofs.Common.{◌≡◌, ◌≢◌, ℕ, ◌+◌, ◌^◌, ◌<◌, ◌≤◌, true, false, if◌then◌else◌, eqb, List, [], ◌∷◌, ◌++◌, All, AllPairs, slice_get, length, Option, Some, None, refl, ap, ◌∙◌, subst, inl, arith}
 use Rattle.std.proofs.lemmas.Bool.{eqb-true, eqb-false, ne_eqb, cond_both}
 use Rattle.std.proofs.lemmas.Bool.Decides.{nat_tests}
 use Rattle.std.proofs.lemmas.List.Elements.{All-nil, All-cons}
@@ -35,7 +34,6 @@ use Rattle.treiber_stack_form.specs.declared.states.StackSearch.{StackSearch}
 use Rattle.treiber_stack_form.specs.declared.states.StackSearch.TheVariants.{PutTop, PutReady, TakeTop, TakeNext, TakeReady}
 use Rattle.treiber_stack_form.specs.declared.states.StackWrap.TheVariants.{Over}
 use Rattle.treiber_stack_form.specs.Object.{is_put, stack_object}
-use Rattle.treiber_stack_form.specs.Tellable.{stack_exhausts}
 use Rattle.treiber_stack_form.specs.Steps.{asked, asked_place, fed, met_by_take, Asks, IsReady, top_entry, offered, told, told_by, wrap_begun}
 use Rattle.treiber_stack_form.specs.Meanings.{first_node, AreLinked, AreEffective, IsStack, WasTop, Learnt, Knows}
 use Rattle.treiber_stack_form.specs.Meanings.AreLinked.{ends, leads}
@@ -191,7 +189,7 @@ laws =
         notes_plain = λ block field some low. ne_eqb _ TOP (λ e. omega (arith, block_place_behind block field, e));
         search_asks_well = λ world search op since command stack asks knows. asks_well world search asks knows.learnt;
         contends = λ search seen asks found. contends search seen found;
-        lists = λ world search op since command knows ready. (refl, stack_exhausts op command.command);
+        lists = λ world search op since command knows ready. (refl, grind (arith, nat_tests, command.command));
         offers = λ world search op since block command stack knows ready small. offers world search op since block command knows ready small;
         same_entries = same_entries;
         wrap_asks_well = λ world wrap list stop stack going follows. absurd follows;

@@ -1,6 +1,5 @@
 -- What every allowed step keeps: the words of nodes, what a search has learnt, and the shape of the stack.
-use Rattle.std.proofs.Common.{◌≡◌, ◌≢◌, ℕ, ◌+◌, ◌-◌, ◌*◌, ◌/◌, ◌^◌, ◌<◌, ◌≤◌, Bool, true, false, eqb, List, [], ◌∷◌, length, Some, refl, sym, ap, ◌∙◌, subst, inl, inr, arith}
-use Rattle.std.specs.Prelude.{slice_get, All}
+use Rattle.std.proofs.Common.{◌≡◌, ◌≢◌, ℕ, ◌+◌, ◌-◌, ◌*◌, ◌/◌, ◌^◌, ◌<◌, ◌≤◌, Bool, true, false, eqb, All, slice_get, List, [], ◌∷◌, length, Some, refl, sym, ap, ◌∙◌, subst, inl, inr, arith}
 use Rattle.std.proofs.lemmas.Bool.{true≢false, cond-true, or_left, eq-eqb, eqb-true}
 use Rattle.lin_report.specs.declared.calls.Op.{Op}
 use Rattle.lin_report.specs.declared.calls.Reply.{Reply}
@@ -48,19 +47,13 @@ Anyhow word after = Unit {0}
 abbrev pub Later : World → World → Type 0
 Later world after = any_step.Later stack_form Extends Anyhow world after
 
-extends_same : (changes : List Change) → Extends changes changes
-extends_same changes = record { longer = omega arith; among = λ change a. a }
-
-extends_more : (change : Change) (changes : List Change) → Extends changes (change ∷ changes)
-extends_more change changes = record { longer = omega arith; among = λ other a. inr a }
-
 pub later : (world after : World) → IsStack world → IsStep stack_form world after → Later world after
 later =
     any_step.later stack_form Extends Anyhow (record {
-      same = extends_same;
-      beside = λ world entry stack. extends_same world.changes;
-      first = λ world list stack new. extends_more _ world.changes;
-      second = λ world list stack. extends_more _ world.changes;
+      same = λ changes. record { longer = omega arith; among = λ change a. a };
+      beside = λ world entry stack. record { longer = omega arith; among = λ change a. a };
+      first = λ world list stack new. record { longer = omega arith; among = λ change a. inr a };
+      second = λ world list stack. record { longer = omega arith; among = λ change a. inr a };
       stays = λ word. tt;
       clears = λ word. tt;
       asks = λ world search op since asking knows. tt;
@@ -218,7 +211,7 @@ module _ (world : World) (stack : IsStack world) (list : Listed) (word : ℕ) (u
       → Keeps (top_entry top (reference_to list.block 1))
   put_keeps top put small new stored listed same change kept stay =
       won_keeps top (reference_to list.block 1) (list.block ∷ stack.blocks) (list.call.op.value ∷ held) (omega (arith, small)) refl (rw put refl) (λ e. omega (arith, ap (λ (vs : List ℕ). length vs) e))
-      (leads list.block list.call.op.value stack.blocks held node (linked_kept world after kept stay stack.blocks held stack.linked))
+      (leads list.block list.call.op.value stack.blocks held node (linked_kept world _ kept stay stack.blocks held stack.linked))
       (record {
         used = rw put own;
         kind = rw put (omega arith);
@@ -227,19 +220,12 @@ module _ (world : World) (stack : IsStack world) (list : Listed) (word : ℕ) (u
         maker = refl;
         made = record { reply = Done; change = rw put (inl refl); told = rw put refl };
       })
-      (λ won a. (λ took. not_in won.cause.block (stack.known won a).used ((stack.known won a).gone took), rw put (λ e. is_new won.cause.block (stack.known won a).used (ap (λ (c : Cause). c.block) e)))) listed same change kept stay
+      (λ won a. (λ took. elim [ inl e ↦ is_new won.cause.block (stack.known won a).used e | inr among ↦ (stack.known won a).gone took among ], rw put (λ e. is_new won.cause.block (stack.known won a).used (ap (λ (c : Cause). c.block) e)))) listed same change kept stay
     where
-      after : World
-      after = taken world list (top_entry top (reference_to list.block 1)) word used
-
       is_new : (block : ℕ) → world.used block ≡ true → block ≢ list.block
       is_new block is e = true≢false (sym is ∙ ap world.used e ∙ new)
 
-      not_in : (block : ℕ) → world.used block ≡ true → ¬ Among block stack.blocks → ¬ Among block (list.block ∷ stack.blocks)
-      not_in block is out (inl e) = is_new block is e
-      not_in block is out (inr among) = out among
-
-      node : IsNode after list.block list.call.op.value stack.blocks
+      node : IsNode (taken world list (top_entry top (reference_to list.block 1)) word used) list.block list.call.op.value stack.blocks
       node =
           record {
             used = own;
@@ -253,16 +239,13 @@ module _ (world : World) (stack : IsStack world) (list : Listed) (word : ℕ) (u
   take_keeps : (top next : ℕ) → is_put list.call.op ≡ false → Learnt (TakeReady top next) world → Keeps (top_entry top (versioned_value next))
   take_keeps top next take learnt listed same change kept stay = by_nodes stack.blocks held refl refl stack.linked
     where
-      after : World
-      after = taken world list (top_entry top (versioned_value next)) word used
-
-      by_nodes : (blocks values : List ℕ) → stack.blocks ≡ blocks → held ≡ values → AreLinked world blocks values → IsStack after
+      by_nodes : (blocks values : List ℕ) → stack.blocks ≡ blocks → held ≡ values → AreLinked world blocks values → IsStack (taken world list (top_entry top (versioned_value next)) word used)
       by_nodes _ _ is_blocks is_held ends = absurd (learnt.0.some (ap versioned_value (sym same) ∙ stack.top ∙ ap (λ (bs : List ℕ). first_node bs) is_blocks))
       by_nodes _ _ is_blocks is_held (leads block value blocks values node linked) =
           let named : versioned_value top ≡ reference_to block 1 = ap versioned_value (sym same) ∙ stack.top ∙ ap (λ (bs : List ℕ). first_node bs) is_blocks in
           let at : versioned_value top / 4 ≡ block = ap (λ v. v / 4) named ∙ block-reference_to block 1 (omega arith) in
           won_keeps top (versioned_value next) blocks values (value_below next) (ap versioned_value (sym learnt.1) ∙ ap (λ r. versioned_value (world.words (node_place r NODE_NEXT))) named ∙ node.linked)
-          (rw (take, is_held) refl) (λ e. omega (arith, ap (λ (vs : List ℕ). length vs) (e ∙ is_held))) (linked_kept world after kept stay blocks values linked)
+          (rw (take, is_held) refl) (λ e. omega (arith, ap (λ (vs : List ℕ). length vs) (e ∙ is_held))) (linked_kept world _ kept stay blocks values linked)
           (record {
             used = rw (take, at) (kept.used block node.used);
             kind = rw take (omega arith);
@@ -272,7 +255,7 @@ module _ (world : World) (stack : IsStack world) (list : Listed) (word : ℕ) (u
             made = record {
               reply = Value value;
               change = rw (take, is_held) (inl refl);
-              told = rw (take, named) (stands_kept world after kept stay (ValueOf (reference_to block 1)) (Value value) (ap world.used (block_of_place block NODE_VALUE (omega arith)) ∙ node.used, ap Value node.valued));
+              told = rw (take, named) (stands_kept world _ kept stay (ValueOf (reference_to block 1)) (Value value) (ap world.used (block_of_place block NODE_VALUE (omega arith)) ∙ node.used, ap Value node.valued));
             };
           })
           (λ won a. (λ took among. (stack.known won a).gone took (rw is_blocks (inr among)), rw (take, at) (λ e. (stack.known won a).gone (ap (λ (c : Cause). c.kind) e) (rw is_blocks (inl (ap (λ (c : Cause). c.block) e)))))) listed same change kept stay

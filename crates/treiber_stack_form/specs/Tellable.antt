@@ -5,7 +5,7 @@ use Rattle.std.proofs.lemmas.List.Elements.{All-nil, All-head, All-tail, All-con
 use Rattle.lin_report.specs.declared.calls.Op.{Op}
 use Rattle.lin_report.specs.declared.calls.Reply.{Reply}
 use Rattle.lin_report.specs.declared.calls.Reply.TheVariants.{Exhausted}
-use Rattle.lin_report.specs.Commands.{may_exhaust, IsReplyTo, VALUE_LIMIT}
+use Rattle.lin_report.specs.Commands.{IsReplyTo, VALUE_LIMIT}
 use Rattle.lin_report.specs.Object.{IsCommandOf, held_after}
 use Rattle.lin_report.specs.Tellable.{IsTellable}
 use Rattle.client_lemmas.proofs.Outcomes.{either}
@@ -14,10 +14,6 @@ use Rattle.treiber_stack_form.specs.Object.{is_put, is_stack_command, stack_appl
 
 pub zeros_open : IsOpening (λ place. 0)
 zeros_open = record { zero_first = λ place low none. refl; zero_behind = λ place behind. refl; small = λ place. omega arith }
-
--- each may find no block
-pub stack_exhausts : (op : Op) → IsTrue (is_stack_command op) → IsTrue (may_exhaust op)
-stack_exhausts op command = grind (arith, nat_tests)
 
 -- values in range
 abbrev InRange : List ℕ → Type 0
