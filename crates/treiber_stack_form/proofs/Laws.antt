@@ -55,6 +55,7 @@ bit_met world op since search next found knows clear =
     cond_both (is_modified (world.words TOP)) _ (next, found) (FedWell stack_form world op since) (λ set. (knows, tt))
     (λ is. clear (record { seen = λ bit. inl refl; clear = clear_from (world.words TOP) is }))
 
+-- a take of an empty stack tells what holds now
 empty_met : (world : World) (op : Op) (since : ℕ) → is_put op ≡ false → since ≤ length world.changes → held_after stack_object world.changes ≡ [] → RightSince stack_object world op since (Plain Empty)
 empty_met world op since take began none =
     let held : held_after stack_object (first_changes (length world.changes) world.changes) ≡ [] = ap (λ (changes : List Change). held_after stack_object changes) (first_all world.changes) ∙ none in
@@ -82,13 +83,10 @@ fed_well world TakeTop op since stack asks knows = take_met world op since stack
 fed_well world (TakeNext top) op since stack asks knows = (record { serves = knows.serves; began = knows.began; learnt = (knows.learnt, refl) }, tt)
 fed_well world _ op since stack asks knows = absurd asks
 
-abbrev Fits : StackSearch × Found → Type 0
-Fits result = FoundFits result.1
-
 -- what it answers of itself is Empty
 found_fits : (search : StackSearch) (seen : Seen) → FoundFits (fed search seen).1
-found_fits PutTop seen = either Fits (is_modified seen.before) _ _ tt tt
-found_fits TakeTop seen = either Fits (eqb (versioned_value seen.before) 0) _ _ (omega arith) (either Fits (is_modified seen.before) _ _ tt tt)
+found_fits PutTop seen = grind (arith, nat_tests)
+found_fits TakeTop seen = grind (arith, nat_tests)
 found_fits _ seen = tt
 
 contends : (search : StackSearch) (seen : Seen) → (fed search seen).1 ≡ Contended → MayContend stack_form search seen
@@ -144,6 +142,7 @@ begun_well world list search since stop stack offer stopped =
     (λ none. stopped_lost stack_form world list search since offer (offers world search list.call.op since list.block offer.command offer.knows offer.ready offer.small) stop (eqb-true stop 0 none) stopped)
     (λ some. took_well (stopped.took 0 (omega (arith, eqb-false stop 0 some))))
   where
+    -- the entry took effect
     took_well : (t : Took world list 0) → WrappedWell stack_form world list stop Over (wrapped.Done (told_by list.call.op (slice_get list.entries 0)))
     took_well t =
         let known = stack.known _ t.won in

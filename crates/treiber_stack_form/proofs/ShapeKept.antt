@@ -33,7 +33,7 @@ use Rattle.treiber_stack_form.specs.Meanings.{is_top, cause_of, first_node, IsNo
 use Rattle.treiber_stack_form.specs.Meanings.AreLinked.{ends, leads}
 use Rattle.treiber_stack_form.specs.Form.{stack_form}
 
--- ---- what is so of any client
+-- ---- the changes and the top
 
 -- changes grow in front
 pub record Extends (old new : List Change) : Type 0 where
@@ -79,7 +79,7 @@ node_is_word world reference field small used =
     behind_notes is_top world (reference / 4) (12 + 5 * (node_named reference - 1) + field) (omega (arith, node_field_below reference field small))
     (ap world.used (sym (block_at-node_place reference field small)) ∙ used) (omega arith)
 
--- it is never exchanged
+-- so its word stays, for it is never exchanged
 abbrev pub NodesStay : World → World → Type 0
 NodesStay world after = (reference field : ℕ) → field < 5 → world.used (block_at (node_place reference field)) ≡ true → after.words (node_place reference field) ≡ world.words (node_place reference field)
 

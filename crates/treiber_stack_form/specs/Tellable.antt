@@ -1,16 +1,15 @@
 -- A report can tell the stack's calls, and words that are all 0 open it.
 use Rattle.std.proofs.Common.{◌≢◌, ℕ, ◌<◌, IsTrue, List, [], ◌∷◌, All, refl, arith}
 use Rattle.std.proofs.lemmas.Bool.Decides.{nat_tests}
-use Rattle.std.proofs.lemmas.List.Elements.{All-nil, All-head, All-tail, All-cons}
+use Rattle.std.proofs.lemmas.Grind.{common_steps}
+use Rattle.std.proofs.lemmas.List.Elements.{All-nil, All-head, All-tail}
 use Rattle.lin_report.specs.declared.calls.Op.{Op}
-use Rattle.lin_report.specs.declared.calls.Reply.{Reply}
 use Rattle.lin_report.specs.declared.calls.Reply.TheVariants.{Exhausted}
 use Rattle.lin_report.specs.Commands.{IsReplyTo, VALUE_LIMIT}
 use Rattle.lin_report.specs.Object.{IsCommandOf, held_after}
 use Rattle.lin_report.specs.Tellable.{IsTellable}
-use Rattle.client_lemmas.proofs.Outcomes.{either}
 use Rattle.node_arena.specs.Opening.{IsOpening}
-use Rattle.treiber_stack_form.specs.Object.{is_put, is_stack_command, stack_apply, stack_object}
+use Rattle.treiber_stack_form.specs.Object.{is_stack_command, stack_apply, stack_object}
 
 pub zeros_open : IsOpening (λ place. 0)
 zeros_open = record { zero_first = λ place low none. refl; zero_behind = λ place behind. refl; small = λ place. omega arith }
@@ -21,9 +20,8 @@ InRange values = All (λ v. v < VALUE_LIMIT) values
 
 -- a command leaves values in range
 range_kept : (op : Op) (values : List ℕ) → op.value < VALUE_LIMIT → InRange values → InRange (stack_apply op values).0
-range_kept op [] low small = either (λ (r : List ℕ × Reply). InRange r.0) (is_put op) _ _ (All-cons (λ v. v < VALUE_LIMIT) op.value [] low small) small
-range_kept op (v ∷ values) low small =
-    either (λ (r : List ℕ × Reply). InRange r.0) (is_put op) _ _ (All-cons (λ v. v < VALUE_LIMIT) op.value (v ∷ values) low small) (All-tail (λ v. v < VALUE_LIMIT) v values small)
+range_kept op [] low small = grind (arith, nat_tests, common_steps)
+range_kept op (v ∷ values) low small = grind (arith, nat_tests, common_steps, All-tail (λ v. v < VALUE_LIMIT) v values small)
 
 -- and is given a reply that it may be given
 reply_fits : (op : Op) (values : List ℕ) → IsTrue (is_stack_command op) → InRange values → IsReplyTo op (stack_apply op values).1
