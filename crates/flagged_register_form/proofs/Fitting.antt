@@ -16,28 +16,17 @@ use Rattle.flagged_register_form.specs.Register.Search.{AtFlag, AtRegister, Name
 use Rattle.client_lemmas.proofs.Outcomes.{either}
 
 told_fits : (op : Op) (register : ℕ) → FitsRecord (told op register)
-told_fits op register =
-    either FitsRecord (op.code == GET) (if is_in register then ValueOf (versioned_value register) else Plain Absent) (Plain No) (either FitsRecord (is_in register) (ValueOf (versioned_value register)) (Plain Absent) tt (omega arith)) (omega arith)
+told_fits op register = either FitsRecord (op.code == GET) _ (Plain No) (either FitsRecord (is_in register) _ _ tt (omega arith)) (omega arith)
 
 pub found_fits : (search : Search) (seen : Seen) → FoundFits (found_of search seen)
+found_fits (AtRegister op flag) seen = either FoundFits (op.key == 0) _ found.Going (either FoundFits (toggles op seen.before) found.Ready _ tt (told_fits op seen.before)) tt
 found_fits (AtFlag op) seen = tt
-found_fits (AtRegister op flag) seen =
-    either FoundFits (op.key == 0) (if toggles op seen.before then found.Ready else found.Answer (told op seen.before)) found.Going
-    (either FoundFits (toggles op seen.before) found.Ready (found.Answer (told op seen.before)) tt (told_fits op seen.before)) tt
-found_fits (Named op flag register) seen = tt
-found_fits (Helping op help) seen = tt
+found_fits _ seen = tt
 
 pub begun_fits : (op : Op) (entries : List Entry) (stop : ℕ) → WrappedFits (wrap_begun_of op entries stop)
-begun_fits op entries stop = by_stop (stop == 0)
-  where
-    by_stop : (b : Bool) → WrappedFits (if b then wrapped.Restart else wrapped.Going)
-    by_stop true = tt
-    by_stop false = tt
+begun_fits op entries stop = either WrappedFits (stop == 0) wrapped.Restart wrapped.Going tt tt
 
 pub wrapped_fits : (help : Help) (seen : Seen) → WrappedFits (wrap_found_of help seen)
-wrapped_fits (Deciding flag make) seen = tt
-wrapped_fits (Checking flag) seen = tt
-wrapped_fits (Reading flag) seen = tt
-wrapped_fits (Changing flag noted) seen = tt
 wrapped_fits (Clearing flag true) seen = omega arith
 wrapped_fits (Clearing flag false) seen = tt
+wrapped_fits _ seen = tt

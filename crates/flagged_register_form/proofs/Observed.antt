@@ -4,6 +4,7 @@ use Rattle.std.specs.Prelude.{◌==◌, if◌then◌else◌, IsTrue, Some, None,
 use Rattle.std.specs.FinMap as map
 use Rattle.std.specs.Ordering.{nat_cmp}
 use Rattle.std.specs.Cmp.{nat_cmp_total, unsigned_tied}
+use Rattle.std.proofs.lemmas.Bool.Decides.{nat_tests}
 use Rattle.std.proofs.lemmas.Bool.{eqb-true, eq-eqb, ne_eqb, or_cases, and_parts}
 use Rattle.lin_report.specs.declared.calls.Op.{Op}
 use Rattle.lin_report.specs.declared.calls.Outcome.{Outcome}
@@ -101,9 +102,6 @@ module _ (world : World) (register value : ℕ) (pairs : map.FinMap nat_cmp ℕ)
   observed_get : IsObserved world register value GET pairs
   observed_get = λ same. (refl, (by_name names).0, (by_name names).1)
     where
-      told_get : Bool → Outcome
-      told_get b = if b then ValueOf (versioned_value register) else Plain Absent
-
       by_name : IsName register world.used → StandsFor world (if is_in register then ValueOf (versioned_value register) else Plain Absent) (value_or_absent (map.get pairs 0))
           × IsFixed flagged_form (if is_in register then ValueOf (versioned_value register) else Plain Absent)
       by_name (inl e) =
@@ -118,15 +116,7 @@ module _ (world : World) (register value : ℕ) (pairs : map.FinMap nat_cmp ℕ)
           (sym (some_in world register name.0 name.3)) ((used, word), fixed_value world register name.0 name.3)
 
 code_of : (op : Op) → IsCommandOf map_object op → (op.code ≡ SET) ⊎ ((op.code ≡ REM) ⊎ (op.code ≡ GET))
-code_of op command = by_set (or_cases (op.code == SET && nat_lt op.key KEY_LIMIT) ((op.code == REM || op.code == GET) && takes_key op) command.command)
-  where
-    by_rem : ((op.code == REM) ≡ true) ⊎ ((op.code == GET) ≡ true) → (op.code ≡ SET) ⊎ ((op.code ≡ REM) ⊎ (op.code ≡ GET))
-    by_rem (inl e) = inr (inl (eqb-true op.code REM e))
-    by_rem (inr e) = inr (inr (eqb-true op.code GET e))
-
-    by_set : ((op.code == SET && nat_lt op.key KEY_LIMIT) ≡ true) ⊎ (((op.code == REM || op.code == GET) && takes_key op) ≡ true) → (op.code ≡ SET) ⊎ ((op.code ≡ REM) ⊎ (op.code ≡ GET))
-    by_set (inl e) = inl (eqb-true op.code SET (and_parts (op.code == SET) (nat_lt op.key KEY_LIMIT) e).0)
-    by_set (inr e) = by_rem (or_cases (op.code == REM) (op.code == GET) (and_parts (op.code == REM || op.code == GET) (takes_key op) e).0)
+code_of op command = grind (arith, nat_tests, command.command)
 
 pub observed : (world : World) (op : Op) (register : ℕ) (pairs : map.FinMap nat_cmp ℕ) → IsCommandOf map_object op → op.key ≡ 0 → toggles op register ≡ false → IsName register world.used → map.get pairs 0 ≡ content register world.words
     → ((map_apply op pairs).0 ≡ pairs) × StandsFor world (told op register) (map_apply op pairs).1 × IsFixed flagged_form (told op register)
@@ -137,17 +127,6 @@ observed world op register pairs command key same names tells = rw key (by_code 
     by_code (inr (inl e)) = subst (λ c. IsObserved world register op.value c pairs) (sym e) (observed_rem world register op.value pairs names tells)
     by_code (inr (inr e)) = subst (λ c. IsObserved world register op.value c pairs) (sym e) (observed_get world register op.value pairs names tells)
 
-abbrev may : ℕ → Type 0
-may code = IsTrue (code == SET || code == REM) × IsTrue (not (code == HAS || code == GET || code == PEEK || code == MIN))
-
 -- an operation that would change the register may be listed, and may find no block
 pub listed : (op : Op) (register : ℕ) → toggles op register ≡ true → IsTrue (op.code == SET || op.code == REM) × IsTrue (may_exhaust op)
-listed op register e = by_set (op.code == SET) refl e
-  where
-    by_rem : (d : Bool) → (op.code == REM) ≡ d → (if d then is_in register else false) ≡ true → may op.code
-    by_rem true is e' = subst may (sym (eqb-true op.code REM is)) (refl, refl)
-    by_rem false is e' = absurd cc
-
-    by_set : (a : Bool) → (op.code == SET) ≡ a → (if a then not (is_in register) else (if op.code == REM then is_in register else false)) ≡ true → may op.code
-    by_set true is e' = subst may (sym (eqb-true op.code SET is)) (refl, refl)
-    by_set false is e' = by_rem (op.code == REM) refl e'
+listed op register e = (grind (arith, nat_tests), grind (arith, nat_tests))

@@ -75,40 +75,28 @@ decide_effect world after seen list made shape flagged w =
 pub named_block : (world : World) (list : Listed) (flag : ℕ) → Shape world → Flagged world list → flag ≡ flag_of list.entries → versioned_value flag / 4 ≡ list.block
 named_block world list flag shape flagged own = omega (arith, ap versioned_value own, flag_names world list shape flagged)
 
+-- an exchange that is lost leaves the world
+tried : (world after : World) (seen : Seen) (place from to : ℕ) → Went flagged_form (Exchange place from to) world after seen → (HasWon flagged_form world after seen place from to → Effect world after) → Effect world after
+tried world after seen place from to (inl lost) won = rw lost.1 (unchanged world)
+tried world after seen place from to (inr w) won = won w
+
 pub help_effect : (world after : World) (seen : Seen) (help : Help) (list : Listed) → Shape world → Helps help world list → Requested flagged_form (request_of_help help) world after seen → Effect world after
-help_effect world after seen (Deciding flag make) list shape h r = by_cases (went flagged_form (Exchange (decision_place (versioned_value flag / 4)) 0 (decided make)) world after seen r)
-  where
-    by_cases : Went flagged_form (Exchange (decision_place (versioned_value flag / 4)) 0 (decided make)) world after seen → Effect world after
-    by_cases (inl l) = subst (Effect world) (sym l.1) (unchanged world)
-    by_cases (inr w) = decide_effect world after seen list make shape h.0 (subst (λ block. HasWon flagged_form world after seen (decision_place block) 0 (decided make)) (named_block world list flag shape h.0 h.1) w)
-help_effect world after seen (Checking flag) list shape h r = subst (Effect world) (sym (went flagged_form (Load (decision_place (versioned_value flag / 4))) world after seen r).0) (unchanged world)
-help_effect world after seen (Reading flag) list shape h r = subst (Effect world) (sym (went flagged_form (Load (note_place (versioned_value flag / 4))) world after seen r).0) (unchanged world)
-help_effect world after seen (Changing flag noted) list shape h r = by_cases (went flagged_form (Exchange REGISTER noted (toggled noted (versioned_value flag / 4))) world after seen r)
-  where
-    by_cases : Went flagged_form (Exchange REGISTER noted (toggled noted (versioned_value flag / 4))) world after seen → Effect world after
-    by_cases (inl l) = subst (Effect world) (sym l.1) (unchanged world)
-    by_cases (inr w) = make_effect world after seen list noted shape h.0 h.2 h.3 (subst (λ block. HasWon flagged_form world after seen REGISTER noted (toggled noted block)) (named_block world list flag shape h.0 h.1) w)
-help_effect world after seen (Clearing flag made) list shape h r = by_cases (went flagged_form (Exchange FLAG flag (changed_word flag 0)) world after seen r)
-  where
-    by_cases : Went flagged_form (Exchange FLAG flag (changed_word flag 0)) world after seen → Effect world after
-    by_cases (inl l) = subst (Effect world) (sym l.1) (unchanged world)
-    by_cases (inr w) = by_made made h w
-      where
-        by_made : (m : Bool) → Helps (Clearing flag m) world list → HasWon flagged_form world after seen FLAG flag (changed_word flag 0) → Effect world after
-        by_made true h' w' = clear_effect world after seen list flag shape h'.0 h'.1 (inl h'.2) w'
-        by_made false h' w' = clear_effect world after seen list flag shape h'.0 h'.1 (inr h'.2) w'
+help_effect world after seen (Deciding flag make) list shape h r =
+    tried world after seen _ _ _ (went flagged_form (request_of_help (Deciding flag make)) world after seen r) (λ w. decide_effect world after seen list make shape h.0 (rw (named_block world list flag shape h.0 h.1) at w))
+help_effect world after seen (Checking flag) list shape h r = rw (went flagged_form (request_of_help (Checking flag)) world after seen r).0 (unchanged world)
+help_effect world after seen (Reading flag) list shape h r = rw (went flagged_form (request_of_help (Reading flag)) world after seen r).0 (unchanged world)
+help_effect world after seen (Changing flag noted) list shape h r =
+    tried world after seen _ _ _ (went flagged_form (request_of_help (Changing flag noted)) world after seen r) (λ w. make_effect world after seen list noted shape h.0 h.2 h.3 (rw (named_block world list flag shape h.0 h.1) at w))
+help_effect world after seen (Clearing flag true) list shape h r =
+    tried world after seen _ _ _ (went flagged_form (request_of_help (Clearing flag true)) world after seen r) (clear_effect world after seen list flag shape h.0 h.1 (inl h.2))
+help_effect world after seen (Clearing flag false) list shape h r =
+    tried world after seen _ _ _ (went flagged_form (request_of_help (Clearing flag false)) world after seen r) (clear_effect world after seen list flag shape h.0 h.1 (inr h.2))
 
 -- ---- the setting of a flag
 
 -- the world after the first entry of a list with a block
-abbrev with_flag : World → Listed → Entry → ℕ → World
-with_flag world list entry word =
-    record {
-      words = with_word entry.target word world.words;
-      changes = world.changes;
-      used = using_block list.block world.used;
-      journal = record { place = entry.target; before = entry.from; after = entry.to; maker = By list 0; cause = cause_here list.block 0 } ∷ world.journal;
-    }
+abbrev pub with_flag : World → Listed → Entry → ℕ → World
+with_flag world list entry word = record (exchanged flagged_form (By list 0) None entry word world) { used = using_block list.block world.used }
 
 pub flag_effect : (world : World) (list : Listed) (search : Search) (since : ℕ) (entry : Entry) (word : ℕ) → IsOffered flagged_form world list search since → IsFresh world list → 0 < list.block → world.used list.block ≡ false
     → IsFilled world list (offer_of search list.call.op list.block).stores → slice_get list.entries 0 ≡ Some entry → world.words entry.target ≡ entry.from → IsExchanged entry word → Effect world (with_flag world list entry word)
@@ -167,8 +155,8 @@ clears_effect world place e = subst (λ p. Effect world (put_word p (cleared_wor
 }))
 
 search_effect : (world after : World) (seen : Seen) (search : Search) (op : Op) (since : ℕ) → Shape world → asks search → Knows search op world since → Requested flagged_form (request_of search) world after seen → Effect world after
-search_effect world after seen (AtFlag o) op since shape asking knows r = subst (Effect world) (sym (went flagged_form (Load FLAG) world after seen r).0) (unchanged world)
-search_effect world after seen (AtRegister o flag) op since shape asking knows r = subst (Effect world) (sym (went flagged_form (Load REGISTER) world after seen r).0) (unchanged world)
+search_effect world after seen (AtFlag o) op since shape asking knows r = rw (went flagged_form (Load FLAG) world after seen r).0 (unchanged world)
+search_effect world after seen (AtRegister o flag) op since shape asking knows r = rw (went flagged_form (Load REGISTER) world after seen r).0 (unchanged world)
 search_effect world after seen (Named o flag register) op since shape asking knows r = absurd asking
 search_effect world after seen (Helping o help) op since shape asking knows r = help_effect world after seen help knows.1.1.0 shape knows.1.1.1 r
 
