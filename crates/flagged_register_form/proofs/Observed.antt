@@ -1,5 +1,5 @@
 -- An operation that finds the register as it would leave it only observes.
-use Rattle.std.proofs.Common.{◌≡◌, ℕ, ◌/◌, Bool, true, false, not, ◌||◌, ◌&&◌, is_some, refl, sym, ap, subst, ◌∙◌, inl, inr, ◌⊎◌, arith}
+use Rattle.std.proofs.Common.{◌≡◌, ◌≢◌, ◌<◌, ℕ, ◌/◌, Bool, true, false, not, ◌||◌, ◌&&◌, is_some, refl, sym, ap, subst, ◌∙◌, inl, inr, ◌⊎◌, arith}
 use Rattle.std.specs.Prelude.{◌==◌, if◌then◌else◌, IsTrue, Some, None, nat_lt}
 use Rattle.std.specs.FinMap as map
 use Rattle.std.specs.Ordering.{nat_cmp}
@@ -15,14 +15,23 @@ use Rattle.lin_report.specs.declared.calls.TheConstants.{SET, REM, GET, HAS, PEE
 use Rattle.lin_report.specs.Object.{map_apply, set_absent, value_or_absent, yes_if, IsCommandOf, map_object}
 use Rattle.lin_report.specs.Commands.{takes_key, may_exhaust, KEY_LIMIT}
 use Rattle.node_arena.specs.declared.places.TheConstants.{NODE_VALUE}
-use Rattle.node_arena.specs.MemoryMap.{node_place, block_at}
-use Rattle.node_arena.proofs.PlacesApart.{node_place-reference_to, block_at-block_place, field_at-block_place}
+use Rattle.node_arena.specs.MemoryMap.{node_place, block_place, block_at, field_at}
+use Rattle.node_arena.proofs.PlacesApart.{same_field, node_place-reference_to, block_at-block_place, field_at-block_place}
 use Rattle.word_fields.specs.Versioned.{versioned_value}
 use Rattle.normal_traits.specs.World.{World, StandsFor}
 use Rattle.normal_traits.specs.Laws.{IsFixed}
 use Rattle.flagged_register_form.specs.Register.{FLAG, REGISTER, value_at, flag_value, is_in, toggles, told}
 use Rattle.flagged_register_form.specs.Meanings.{content, IsName, flagged_form}
 use Rattle.flagged_register_form.proofs.Basics.{value_flag, value_register}
+
+-- a field but for those of the two words and of the decision is no versioned word
+pub plain_field : (block field : ℕ) → field < 28 → field ≢ 14 → field ≢ 16 → flagged_form.is_versioned (block_place block field) ≡ false
+plain_field block field low other apart =
+    rw (
+      ne_eqb (block_place block field) FLAG (λ e. apart (same_field block field 0 16 (omega (arith, low)) (omega arith) e)),
+      ne_eqb (block_place block field) REGISTER (λ e. other (same_field block field 0 14 (omega (arith, low)) (omega arith) e)),
+      ne_eqb (field_at (block_place block field)) 28 (λ e. omega (arith, low, e, field_at-block_place block field (omega (arith, low)))),
+    ) refl
 
 remove_same : (pairs : map.FinMap nat_cmp ℕ) → map.get pairs 0 ≡ None → map.remove pairs 0 ≡ pairs
 remove_same pairs has = map.same_map nat_cmp_total map.nat_cmp-IsAntisymmetric (map.remove pairs 0) pairs (λ q.
@@ -58,8 +67,7 @@ module _ (world : World) (register : ℕ) where
     node_is = ap (λ reference. node_place reference NODE_VALUE) name ∙ node_place-reference_to block 1 1 (omega arith) (omega arith)
 
     fixed_value : flagged_form.is_versioned (node_place (versioned_value register) NODE_VALUE) ≡ false
-    fixed_value = subst (λ place. flagged_form.is_versioned place ≡ false) (sym node_is)
-        (rw (ne_eqb (value_at block) FLAG (value_flag block), ne_eqb (value_at block) REGISTER (value_register block), field_at-block_place block 13 (omega arith)) refl)
+    fixed_value = rw node_is (plain_field block 13 (omega arith) (λ e. omega (arith, e)) (λ e. omega (arith, e)))
 
   pub has_key : (pairs : map.FinMap nat_cmp ℕ) → IsName register world.used → map.get pairs 0 ≡ content register world.words → map.contains_key pairs 0 ≡ is_in register
   has_key pairs (inl e) tells = ap is_some (tells ∙ none_content e) ∙ sym (none_in e)

@@ -1,9 +1,10 @@
 -- All laws of the flagged register.
-use Rattle.std.proofs.Common.{◌≡◌, ◌≢◌, ℕ, zero, suc, ◌^◌, ◌<◌, Bool, true, false, ◌||◌, List, [], ◌∷◌, ◌++◌, length, refl, sym, ap, subst, ◌∙◌, inl, inr, ◌⊎◌, arith}
+use Rattle.std.proofs.Common.{◌≡◌, ◌≢◌, ℕ, zero, suc, ◌^◌, ◌<◌, ◌≤◌, Bool, true, false, ◌||◌, List, [], ◌∷◌, ◌++◌, length, refl, sym, ap, subst, ◌∙◌, inl, inr, ◌⊎◌, arith}
 use Rattle.std.specs.Prelude.{◌==◌, if◌then◌else◌, slice_get, Some, None, IsTrue}
 use Rattle.std.specs.FinMap as map
 use Rattle.std.specs.Ordering.{nat_cmp}
-use Rattle.std.proofs.lemmas.Bool.{eqb-true, eq-eqb, ne_eqb, or_left}
+use Rattle.std.proofs.lemmas.Bool.{eqb-true, eqb-false, eq-eqb, or_left, false≢true, cond_both}
+use Rattle.std.proofs.lemmas.Bool.Decides.{nat_tests}
 use Rattle.std.proofs.lemmas.List.Elements.{All-nil, All-cons}
 use Rattle.std.proofs.lemmas.List.Kept.{AllPairs-cons}
 use Rattle.word_fields.specs.Versioned.{versioned_value, versioned_bit, versioned_version}
@@ -35,7 +36,7 @@ use Rattle.flagged_register_form.proofs.Steps.{effect_of}
 use Rattle.flagged_register_form.proofs.Kept.EachEffect.{effect_keeps}
 use Rattle.flagged_register_form.proofs.Kept.FlagLists.{flagged_from, older, newly}
 use Rattle.flagged_register_form.proofs.Basics.{value_flag, value_register}
-use Rattle.flagged_register_form.proofs.Observed.{none_content, listed}
+use Rattle.flagged_register_form.proofs.Observed.{none_content, listed, plain_field}
 use Rattle.flagged_register_form.proofs.Fed.{search_asks, help_asks, search_fed_well, wrap_fed_well}
 use Rattle.client_lemmas.proofs.Places.{field_word}
 use Rattle.client_lemmas.proofs.Growing.{all_among}
@@ -111,42 +112,16 @@ good_entry world op flag register block shape read small = record {
   changed = (flag_value block, flag_value_below block small, refl);
 }
 
-good_store : (block register : ℕ) → register < 2 ^ 64 → IsGoodStore flagged_form block (note_place block, register)
-good_store block register fits = record {
-  field = 27;
-  behind = omega arith;
-  within = omega arith;
+-- a value or a note is no versioned word
+good_store : (block field word : ℕ) → 12 ≤ field → field < 28 → field ≢ 14 → field ≢ 16 → word < 2 ^ 64 → IsGoodStore flagged_form block (block_place block field, word)
+good_store block field word high low other apart fits = record {
+  field = field;
+  behind = high;
+  within = omega (arith, low);
   place = refl;
   word = fits;
-  versioned = λ e. absurd (apart e);
+  versioned = λ e. absurd (false≢true (sym (plain_field block field low other apart) ∙ e));
 }
-  where
-    flag_not : (note_place block == FLAG) ≡ false
-    flag_not = ne_eqb (note_place block) FLAG (note_flag block)
-
-    register_not : (note_place block == REGISTER) ≡ false
-    register_not = ne_eqb (note_place block) REGISTER (note_register block)
-
-    field_not : (field_at (note_place block) == 28) ≡ false
-    field_not = ap (λ field. field == 28) (field_at-block_place block 27 (omega arith))
-
-    apart : (note_place block == FLAG || note_place block == REGISTER || field_at (note_place block) == 28) ≡ true → ⊥
-    apart e = let none : (note_place block == FLAG || note_place block == REGISTER || field_at (note_place block) == 28) ≡ false = rw (flag_not, register_not, field_not) refl in absurd cc
-
-good_value : (block value : ℕ) → value < 2 ^ 32 → IsGoodStore flagged_form block (value_at block, value)
-good_value block value fits = record {
-  field = 13;
-  behind = omega arith;
-  within = omega arith;
-  place = refl;
-  word = omega (arith, fits);
-  versioned = λ e. absurd (apart e);
-}
-  where
-    apart : (value_at block == FLAG || value_at block == REGISTER || field_at (value_at block) == 28) ≡ true → ⊥
-    apart e =
-        let none : (value_at block == FLAG || value_at block == REGISTER || field_at (value_at block) == 28) ≡ false =
-        rw (ne_eqb (value_at block) FLAG (value_flag block), ne_eqb (value_at block) REGISTER (value_register block), field_at-block_place block 13 (omega arith)) refl in absurd cc
 
 -- a decision is open at first
 good_decision : (block : ℕ) → IsGoodStore flagged_form block (decision_place block, 0)
@@ -162,20 +137,11 @@ good_decision block = record {
 value_note : (block : ℕ) → value_at block ≢ note_place block
 value_note block e = absurd (omega (arith, same_field block 13 block 27 (omega arith) (omega arith) e))
 
--- a note of a block is no versioned word
-note_plain : (block field : ℕ) → field < 12 → (block_place block field == FLAG || block_place block field == REGISTER || field_at (block_place block field) == 28) ≡ false
-note_plain block field low =
-    rw (
-      ne_eqb (block_place block field) FLAG (λ e. absurd (omega (arith, low, same_field block field 0 16 (omega (arith, low)) (omega arith) e))),
-      ne_eqb (block_place block field) REGISTER (λ e. absurd (omega (arith, low, same_field block field 0 14 (omega (arith, low)) (omega arith) e))),
-      ne_eqb (field_at (block_place block field)) 28 (λ e. omega (arith, low, e, field_at-block_place block field (omega (arith, low)))),
-    ) refl
-
 offers : (world : World) (search : Search) (op : Op) (since block : ℕ) → Shape world → Knows search op world since → is_ready search → block < 2 ^ 17 → IsGoodOffer flagged_form world block (offer_of search op block)
 offers world (Named o flag register) op since block shape knows ready small =
     one_entry flagged_form world block (flag_entry flag block) ((value_at block, op.value) ∷ (note_place block, register) ∷ (decision_place block, 0) ∷ []) (good_entry world op flag register block shape knows.1.1 small)
-    (All-cons (IsGoodStore flagged_form block) (value_at block, op.value) ((note_place block, register) ∷ (decision_place block, 0) ∷ []) (good_value block op.value knows.1.1.value)
-    (All-cons (IsGoodStore flagged_form block) (note_place block, register) ((decision_place block, 0) ∷ []) (good_store block register knows.1.1.fits)
+    (All-cons (IsGoodStore flagged_form block) (value_at block, op.value) ((note_place block, register) ∷ (decision_place block, 0) ∷ []) (good_store block 13 op.value (omega arith) (omega arith) (λ e. omega (arith, e)) (λ e. omega (arith, e)) (omega (arith, knows.1.1.value)))
+    (All-cons (IsGoodStore flagged_form block) (note_place block, register) ((decision_place block, 0) ∷ []) (good_store block 27 register (omega arith) (omega arith) (λ e. omega (arith, e)) (λ e. omega (arith, e)) knows.1.1.fits)
     (All-cons (IsGoodStore flagged_form block) (decision_place block, 0) [] (good_decision block) (All-nil (IsGoodStore flagged_form block)))))
     (AllPairs-cons (λ (a b : ℕ × ℕ). a.0 ≢ b.0) (value_at block, op.value) ((note_place block, register) ∷ (decision_place block, 0) ∷ [])
     (All-cons (λ (b : ℕ × ℕ). value_at block ≢ b.0) (note_place block, register) ((decision_place block, 0) ∷ []) (value_note block)
@@ -184,18 +150,9 @@ offers world (Named o flag register) op since block shape knows ready small =
 offers world _ op since block shape knows ready small = absurd ready
 
 contends : (search : Search) (seen : Seen) → found_of search seen ≡ found.Contended → ⊥
+contends (AtRegister o flag) seen e = grind (arith, nat_tests)
 contends (AtFlag o) seen e = absurd cc
-contends (AtRegister o flag) seen e = by_key (o.key == 0) e
-  where
-    by_toggles : (b : Bool) → (if b then found.Ready else found.Answer (told o seen.before)) ≡ found.Contended → ⊥
-    by_toggles true e' = absurd cc
-    by_toggles false e' = absurd cc
-
-    by_key : (b : Bool) → (if b then (if toggles o seen.before then found.Ready else found.Answer (told o seen.before)) else found.Going) ≡ found.Contended → ⊥
-    by_key true e' = by_toggles (toggles o seen.before) e'
-    by_key false e' = absurd cc
-contends (Named o flag register) seen e = absurd cc
-contends (Helping o help) seen e = absurd cc
+contends _ seen e = absurd cc
 
 -- ---- wrap-ups and dead lists
 
@@ -212,22 +169,11 @@ failed_dead world list from entries failed = record {
 
 wrap_begun : (world : World) (list : Listed) (search : Search) (since stop : ℕ) → Shape world → IsOffered flagged_form world list search since → Stopped world list stop
     → WrappedWell flagged_form world list stop (begin_wrap_of list.call.op list.entries stop) (wrap_begun_of list.call.op list.entries stop)
-wrap_begun world list search since stop shape offered stopped = by_stop (stop == 0) refl
-  where
-    first : (from : ℕ) × (list.entries ≡ flag_entry from list.block ∷ [])
-    first = offered_entries world list search since offered
-
-    by_stop : (b : Bool) → (stop == 0) ≡ b → WrappedWell flagged_form world list stop (Deciding (flag_of list.entries) true) (if b then wrapped.Restart else wrapped.Going)
-    by_stop true e =
-        let none : stop ≡ 0 = eqb-true stop 0 e in
-        failed_dead world list first.0 first.1 (subst (Failed world list) none (stopped.failed (omega (arith, none, ap length first.1))))
-    by_stop false e =
-        let some : 0 < stop = by_zero stop e in
-        (tt, (flagged_of world list 0 shape (stopped.took 0 some), refl))
-      where
-        by_zero : (n : ℕ) → (n == 0) ≡ false → 0 < n
-        by_zero zero e' = absurd cc
-        by_zero (suc n) e' = omega arith
+wrap_begun world list search since stop shape offered stopped =
+    let first = offered_entries world list search since offered in
+    cond_both (stop == 0) wrapped.Restart wrapped.Going (WrappedWell flagged_form world list stop (Deciding (flag_of list.entries) true))
+    (λ none. failed_dead world list first.0 first.1 (rw (eqb-true stop 0 none) at stopped.failed (omega (arith, eqb-true stop 0 none, ap length first.1))))
+    (λ some. (tt, (flagged_of world list 0 shape (stopped.took 0 (omega (arith, eqb-false stop 0 some))), refl)))
 
 -- after no effect has a list newly set a flag whose first word was passed
 lost_later : (world : World) (list : Listed) (from : ℕ) → list.entries ≡ flag_entry from list.block ∷ [] → versioned_version from < versioned_version (world.words FLAG) → ¬ Flagged world list → (next : World) → Effect world next → ¬ Flagged next list
@@ -291,7 +237,7 @@ flagged_laws = record {
     causes_bounded = λ world shape. all_among (λ (won : Won). (world.used won.cause.block ≡ true) × (won.cause.kind < 8)) world.journal (λ item among. bounded world item.cause (shape.spent item among));
     begins_asking = λ op command. tt;
     begins_knowing = λ world op command shape. (omega arith, refl);
-    notes_plain = λ block field some low. note_plain block field low;
+    notes_plain = λ block field some low. plain_field block field (omega (arith, low)) (λ e. omega (arith, low, e)) (λ e. omega (arith, low, e));
     search_asks_well = λ world search op since command shape asking knows. search_asks world shape search op since asking knows;
     contends = λ search seen asking e. absurd (contends search seen e);
     lists = λ world search op since command knows ready. lists world search op since knows ready;
