@@ -96,9 +96,7 @@ toggled_by false false value pairs e = absurd cc
 
 module _ (op : Op) (register : ℕ) (pairs : map.FinMap nat_cmp ℕ) (key : op.key ≡ 0) (changes : toggles op register ≡ true) (tells : map.contains_key pairs 0 ≡ is_in register) where
   both : (map.get (map_apply op pairs).0 0 ≡ (if is_in register then None else Some op.value)) × ((map_apply op pairs).1 ≡ Yes)
-  both = rw key (subst (λ b. (map.get (if op.code == SET then set_absent 0 op.value pairs else (if op.code == REM then (map.remove pairs 0, yes_if (map.contains_key pairs 0)) else (pairs, value_or_absent (map.get pairs 0)))).0 0 ≡ (if b then None else Some op.value))
-      × ((if op.code == SET then set_absent 0 op.value pairs else (if op.code == REM then (map.remove pairs 0, yes_if (map.contains_key pairs 0)) else (pairs, value_or_absent (map.get pairs 0)))).1 ≡ Yes)) tells
-      (toggled_by (op.code == SET) (op.code == REM) op.value pairs (subst (λ b. (if op.code == SET then not b else (if op.code == REM then b else false)) ≡ true) (sym tells) changes)))
+  both = rw (key, ← tells) (toggled_by (op.code == SET) (op.code == REM) op.value pairs (rw (← tells) at changes))
 
   pub tells-apply : map.get (map_apply op pairs).0 0 ≡ (if is_in register then None else Some op.value)
   tells-apply = both.0

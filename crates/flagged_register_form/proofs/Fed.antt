@@ -1,7 +1,7 @@
 -- What searches and wrap-ups ask, and what they have learnt when they are fed.
 use Rattle.std.proofs.Common.{◌||◌, ◌≡◌, ◌≢◌, ℕ, ◌+◌, ◌/◌, ◌<◌, Bool, true, false, List, length, refl, sym, ap, subst, ◌∙◌, inl, inr, ◌⊎◌, arith, not}
 use Rattle.std.specs.Prelude.{◌==◌, if◌then◌else◌}
-use Rattle.std.proofs.lemmas.Bool.{eqb-true, eq-eqb, or_left, or_right}
+use Rattle.std.proofs.lemmas.Bool.{eqb-true, eqb-false, eq-eqb, or_left, or_right, cond_both}
 use Rattle.node_arena.specs.MemoryMap.{field_at}
 use Rattle.node_arena.proofs.PlacesApart.{field_at-block_place}
 use Rattle.lin_report.specs.declared.calls.TheConstants.{GET}
@@ -158,22 +158,19 @@ module _ (world after : World) (seen : Seen) (list : Listed) (shape : Shape worl
 -- ---- what a search has learnt
 
 learnt_flag : (world : World) (o op : Op) (flag : ℕ) → Shape world → o ≡ op → flag ≡ world.words FLAG → Learnt (after_flag o flag) op world × asks (after_flag o flag)
-learnt_flag world o op flag shape same here = by_bit (versioned_bit flag == 0) refl
+learnt_flag world o op flag shape same here =
+    cond_both (versioned_bit flag == 0) _ (AtFlag o) Right
+    (λ bit. let clear = eqb-true (versioned_bit flag) 0 bit in
+    cond_both (versioned_value flag == 0) (AtRegister o flag) _ Right
+    (λ none. ((same, record { clear = clear; down = eqb-true (versioned_value flag) 0 none; seen = inl (sym here) }), tt)) (λ some. (up_at clear (eqb-false (versioned_value flag) 0 some) shape.flag, tt)))
+    (λ set. (same, tt))
   where
-    up_at : versioned_bit flag ≡ 0 → (versioned_value flag == 0) ≡ false → (versioned_value (world.words FLAG) ≡ 0) ⊎ IsUp world → Learnt (Helping o (Deciding flag (not (o.code == GET)))) op world
-    up_at clear some (inl down) = let none = eq-eqb (versioned_value flag) 0 (ap versioned_value here ∙ down) in absurd cc
+    Right : Search → Type 0
+    Right search = Learnt search op world × asks search
+
+    up_at : versioned_bit flag ≡ 0 → versioned_value flag ≢ 0 → (versioned_value (world.words FLAG) ≡ 0) ⊎ IsUp world → Learnt (Helping o (Deciding flag (not (o.code == GET)))) op world
+    up_at clear some (inl down) = absurd (some (ap versioned_value here ∙ down))
     up_at clear some (inr up) = (same, (up.list, (up.flagged, sym (cleared-clear flag clear) ∙ ap cleared_word here ∙ up.flag)))
-
-    by_value : versioned_bit flag ≡ 0 → (b : Bool) → (versioned_value flag == 0) ≡ b
-        → Learnt (if b then AtRegister o flag else Helping o (Deciding flag (not (o.code == GET)))) op world × asks (if b then AtRegister o flag else Helping o (Deciding flag (not (o.code == GET))))
-    by_value clear true e = ((same, record { clear = clear; down = eqb-true (versioned_value flag) 0 e; seen = inl (sym here) }), tt)
-    by_value clear false e = (up_at clear e shape.flag, tt)
-
-    by_bit : (b : Bool) → (versioned_bit flag == 0) ≡ b
-        → Learnt (if b then (if versioned_value flag == 0 then AtRegister o flag else Helping o (Deciding flag (not (o.code == GET)))) else AtFlag o) op world
-        × asks (if b then (if versioned_value flag == 0 then AtRegister o flag else Helping o (Deciding flag (not (o.code == GET)))) else AtFlag o)
-    by_bit true e = by_value (eqb-true (versioned_bit flag) 0 e) (versioned_value flag == 0) refl
-    by_bit false e = (same, tt)
 
 right_now : (world : World) (op : Op) (since register : ℕ) → Shape world → IsCommandOf map_object op → since < length world.changes + 1 → register ≡ world.words REGISTER → op.key ≡ 0 → toggles op register ≡ false
     → RightSince map_object world op since (told op register) × IsFixed flagged_form (told op register)

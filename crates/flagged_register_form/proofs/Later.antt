@@ -1,7 +1,7 @@
 -- What every effect keeps, and with it what searches and wrap-ups know.
 use Rattle.std.specs.Prelude.{if◌then◌else◌, ◌==◌, Some, None}
 use Rattle.std.proofs.lemmas.Bool.{eq-eqb}
-use Rattle.std.proofs.Common.{subst, ◌/◌, ◌≡◌, ◌≢◌, ℕ, ◌+◌, ◌<◌, ◌≤◌, true, false, length, sym, ap, ◌∙◌, inl, inr, ◌⊎◌, arith, Bool, None}
+use Rattle.std.proofs.Common.{subst, ◌/◌, ◌≡◌, ◌≢◌, ℕ, ◌+◌, ◌<◌, ◌≤◌, true, false, length, refl, sym, ap, ◌∙◌, inl, inr, ◌⊎◌, arith, Bool}
 use Rattle.word_fields.specs.Versioned.{versioned_value, versioned_bit, versioned_version, changed_word}
 use Rattle.word_fields.proofs.ChangedWords.{version-cleared, value-cleared}
 use Rattle.lin_report.specs.declared.calls.Op.{Op}
@@ -149,10 +149,7 @@ module _ (world after : World) (shape : Shape world) (l : Later world after) whe
   content_later same = ap (λ register. content register after.words) same ∙ by_name shape.names
     where
       by_name : IsName (world.words REGISTER) world.used → content (world.words REGISTER) after.words ≡ content (world.words REGISTER) world.words
-      by_name (inl none) = content_none after.words none ∙ sym (content_none world.words none)
-        where
-          content_none : (words : ℕ → ℕ) → versioned_value (world.words REGISTER) ≡ 0 → content (world.words REGISTER) words ≡ None
-          content_none words e = ap (λ b. if b then None else Some (words (value_at (versioned_value (world.words REGISTER) / 4)))) (eq-eqb (versioned_value (world.words REGISTER)) 0 e)
+      by_name (inl none) = rw (eq-eqb (versioned_value (world.words REGISTER)) 0 none) refl
       by_name (inr name) =
           let block : versioned_value (world.words REGISTER) / 4 ≡ name.0 = omega (arith, name.3) in
           let used : world.used (versioned_value (world.words REGISTER) / 4) ≡ true = subst (λ b. world.used b ≡ true) (sym block) name.1 in

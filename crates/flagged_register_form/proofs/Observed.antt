@@ -92,13 +92,8 @@ module _ (world : World) (register value : ℕ) (pairs : map.FinMap nat_cmp ℕ)
 
   observed_set : IsObserved world register value SET pairs
   observed_set = λ same.
-      let key : map.contains_key pairs 0 ≡ true = has ∙ by_not (is_in register) same in
-      let after : set_absent 0 value pairs ≡ (pairs, No) = ap (λ (b : Bool). if b then (pairs, No) else (map.insert pairs 0 value, Yes)) key in
-      (ap (λ (x : map.FinMap nat_cmp ℕ × Reply). x.0) after, sym (ap (λ (x : map.FinMap nat_cmp ℕ × Reply). x.1) after), tt)
-    where
-      by_not : (b : Bool) → not b ≡ false → b ≡ true
-      by_not true e = refl
-      by_not false e = absurd cc
+      let key : map.contains_key pairs 0 ≡ true = grind (arith, nat_tests, has) in
+      rw key (refl, refl, tt)
 
   observed_rem : IsObserved world register value REM pairs
   observed_rem = λ same. (remove_same pairs (by_name names same), sym (ap yes_if (has ∙ same)), tt)
@@ -112,16 +107,13 @@ module _ (world : World) (register value : ℕ) (pairs : map.FinMap nat_cmp ℕ)
     where
       by_name : IsName register world.used → StandsFor world (if is_in register then ValueOf (versioned_value register) else Plain Absent) (value_or_absent (map.get pairs 0))
           × IsFixed flagged_form (if is_in register then ValueOf (versioned_value register) else Plain Absent)
-      by_name (inl e) =
-          subst (λ (b : Bool). StandsFor world (if b then ValueOf (versioned_value register) else Plain Absent) (value_or_absent (map.get pairs 0)) × IsFixed flagged_form (if b then ValueOf (versioned_value register) else Plain Absent))
-          (sym (none_in world register e)) (ap value_or_absent (sym (tells ∙ none_content world register e)), tt)
+      by_name (inl e) = rw (none_in world register e) (ap value_or_absent (sym (tells ∙ none_content world register e)), tt)
       by_name (inr name) =
           let place = node_is world register name.0 name.3 in
           let used : world.used (block_at (node_place (versioned_value register) NODE_VALUE)) ≡ true = ap (λ p. world.used (block_at p)) place ∙ ap world.used (block_at-block_place name.0 13 (omega arith)) ∙ name.1 in
           let word : Value (world.words (node_place (versioned_value register) NODE_VALUE)) ≡ value_or_absent (map.get pairs 0) =
           ap (λ p. Value (world.words p)) place ∙ sym (ap value_or_absent (tells ∙ some_content world register name.0 name.3)) in
-          subst (λ (b : Bool). StandsFor world (if b then ValueOf (versioned_value register) else Plain Absent) (value_or_absent (map.get pairs 0)) × IsFixed flagged_form (if b then ValueOf (versioned_value register) else Plain Absent))
-          (sym (some_in world register name.0 name.3)) ((used, word), fixed_value world register name.0 name.3)
+          rw (some_in world register name.0 name.3) ((used, word), fixed_value world register name.0 name.3)
 
 code_of : (op : Op) → IsCommandOf map_object op → (op.code ≡ SET) ⊎ ((op.code ≡ REM) ⊎ (op.code ≡ GET))
 code_of op command = grind (arith, nat_tests, command.command)
@@ -131,9 +123,9 @@ pub observed : (world : World) (op : Op) (register : ℕ) (pairs : map.FinMap na
 observed world op register pairs command key same names tells = rw key (by_code (code_of op command) same)
   where
     by_code : (op.code ≡ SET) ⊎ ((op.code ≡ REM) ⊎ (op.code ≡ GET)) → IsObserved world register op.value op.code pairs
-    by_code (inl e) = subst (λ c. IsObserved world register op.value c pairs) (sym e) (observed_set world register op.value pairs names tells)
-    by_code (inr (inl e)) = subst (λ c. IsObserved world register op.value c pairs) (sym e) (observed_rem world register op.value pairs names tells)
-    by_code (inr (inr e)) = subst (λ c. IsObserved world register op.value c pairs) (sym e) (observed_get world register op.value pairs names tells)
+    by_code (inl e) = rw e (observed_set world register op.value pairs names tells)
+    by_code (inr (inl e)) = rw e (observed_rem world register op.value pairs names tells)
+    by_code (inr (inr e)) = rw e (observed_get world register op.value pairs names tells)
 
 -- an operation that would change the register may be listed, and may find no block
 pub listed : (op : Op) (register : ℕ) → toggles op register ≡ true → IsTrue (op.code == SET || op.code == REM) × IsTrue (may_exhaust op)
