@@ -1,18 +1,17 @@
 -- What the trial client tells of itself, and does not leave to a node, is Yes, No or Absent: it fits the record of a call.
-use Rattle.std.proofs.Common.{ℕ, ◌==◌, Bool, true, false, if◌then◌else◌, List, arith}
+use Rattle.std.proofs.Common.{ℕ, ◌==◌, true, false, List, arith}
 use Rattle.lin_report.specs.declared.calls.TheConstants.{GET}
 use Rattle.lin_report.specs.declared.calls.Op.{Op}
-use Rattle.lin_report.specs.declared.calls.Outcome.TheVariants.{Plain, ValueOf}
-use Rattle.lin_report.specs.declared.calls.Reply.TheVariants.{Absent, No}
+use Rattle.lin_report.specs.declared.calls.Outcome.TheVariants.{Plain}
+use Rattle.lin_report.specs.declared.calls.Reply.TheVariants.{No}
 use Rattle.step_memory.specs.declared.steps.Seen.{Seen}
-use Rattle.word_fields.specs.Versioned.{versioned_value}
 use Rattle.normal_traits.specs.declared.form.Found.TheVariants as found
 use Rattle.normal_traits.specs.declared.form.Wrapped.TheVariants as wrapped
 use Rattle.normal_traits.specs.declared.lists.Entry.{Entry}
 use Rattle.normal_traits.specs.Laws.{FitsRecord, FoundFits, WrappedFits}
 use Rattle.flagged_register_form.specs.Register.{Help, Search, found_of, is_in, toggles, told, wrap_begun_of, wrap_found_of}
-use Rattle.flagged_register_form.specs.Register.Help.{Deciding, Checking, Reading, Changing, Clearing}
-use Rattle.flagged_register_form.specs.Register.Search.{AtFlag, AtRegister, Named, Helping}
+use Rattle.flagged_register_form.specs.Register.Help.{Clearing}
+use Rattle.flagged_register_form.specs.Register.Search.{AtFlag, AtRegister}
 use Rattle.client_lemmas.proofs.Outcomes.{either}
 
 told_fits : (op : Op) (register : ℕ) → FitsRecord (told op register)

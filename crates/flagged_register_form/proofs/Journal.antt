@@ -1,10 +1,10 @@
 -- Which list set a flag, by the journal.
-use Rattle.std.proofs.Common.{◌≡◌, ◌≢◌, ℕ, zero, suc, Bool, true, false, List, [], ◌∷◌, Option, refl, sym, ap, subst, ◌∙◌, inl, inr, ◌⊎◌, arith}
-use Rattle.std.specs.Prelude.{◌==◌, if◌then◌else◌, slice_get, Some, None}
+use Rattle.std.proofs.Common.{◌≡◌, ℕ, zero, List, [], ◌∷◌, Option, refl, sym, ap, subst, ◌∙◌, inl, inr}
+use Rattle.std.specs.Prelude.{◌==◌, slice_get, Some}
 use Rattle.std.proofs.lemmas.Bool.{eq-eqb, eqb-true, cond_both}
 use Rattle.normal_traits.specs.declared.lists.Entry.{Entry}
 use Rattle.normal_traits.specs.World.{Listed, Maker, Won, World, Among, Took}
-use Rattle.normal_traits.specs.World.Maker.{By, Beside}
+use Rattle.normal_traits.specs.World.Maker.{By}
 use Rattle.flagged_register_form.specs.Register.{flag_entry}
 use Rattle.flagged_register_form.specs.Meanings.{Flagged, Shape, IsBy, flag_won, cause_here, flagger, flagger_or}
 

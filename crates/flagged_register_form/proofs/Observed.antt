@@ -1,19 +1,19 @@
 -- An operation that finds the register as it would leave it only observes.
-use Rattle.std.proofs.Common.{◌≡◌, ◌≢◌, ◌<◌, ℕ, ◌/◌, Bool, true, false, not, ◌||◌, ◌&&◌, is_some, refl, sym, ap, subst, ◌∙◌, inl, inr, ◌⊎◌, arith}
-use Rattle.std.specs.Prelude.{◌==◌, if◌then◌else◌, IsTrue, Some, None, nat_lt}
+use Rattle.std.proofs.Common.{◌≡◌, ◌≢◌, ◌<◌, ℕ, ◌/◌, Bool, true, false, not, ◌||◌, is_some, refl, sym, ap, ◌∙◌, inl, inr, ◌⊎◌, arith}
+use Rattle.std.specs.Prelude.{◌==◌, if◌then◌else◌, IsTrue, Some, None}
 use Rattle.std.specs.FinMap as map
 use Rattle.std.specs.Ordering.{nat_cmp}
 use Rattle.std.specs.Cmp.{nat_cmp_total, unsigned_tied}
 use Rattle.std.proofs.lemmas.Bool.Decides.{nat_tests}
-use Rattle.std.proofs.lemmas.Bool.{eqb-true, eq-eqb, ne_eqb, or_cases, and_parts}
+use Rattle.std.proofs.lemmas.Bool.{eqb-true, eq-eqb, ne_eqb}
 use Rattle.lin_report.specs.declared.calls.Op.{Op}
 use Rattle.lin_report.specs.declared.calls.Outcome.{Outcome}
 use Rattle.lin_report.specs.declared.calls.Outcome.TheVariants.{Plain, ValueOf}
 use Rattle.lin_report.specs.declared.calls.Reply.{Reply}
-use Rattle.lin_report.specs.declared.calls.Reply.TheVariants.{No, Yes, Absent, Value}
-use Rattle.lin_report.specs.declared.calls.TheConstants.{SET, REM, GET, HAS, PEEK, MIN}
+use Rattle.lin_report.specs.declared.calls.Reply.TheVariants.{No, Absent, Value}
+use Rattle.lin_report.specs.declared.calls.TheConstants.{SET, REM, GET}
 use Rattle.lin_report.specs.Object.{map_apply, set_absent, value_or_absent, yes_if, IsCommandOf, map_object}
-use Rattle.lin_report.specs.Commands.{takes_key, may_exhaust, KEY_LIMIT}
+use Rattle.lin_report.specs.Commands.{may_exhaust}
 use Rattle.node_arena.specs.declared.places.TheConstants.{NODE_VALUE}
 use Rattle.node_arena.specs.MemoryMap.{node_place, block_place, block_at, field_at}
 use Rattle.node_arena.proofs.PlacesApart.{same_field, node_place-reference_to, block_at-block_place, field_at-block_place}
@@ -22,7 +22,6 @@ use Rattle.normal_traits.specs.World.{World, StandsFor}
 use Rattle.normal_traits.specs.Laws.{IsFixed}
 use Rattle.flagged_register_form.specs.Register.{FLAG, REGISTER, value_at, flag_value, is_in, toggles, told}
 use Rattle.flagged_register_form.specs.Meanings.{content, IsName, flagged_form}
-use Rattle.flagged_register_form.proofs.Basics.{value_flag, value_register}
 
 -- a field but for those of the two words and of the decision is no versioned word
 pub plain_field : (block field : ℕ) → field < 28 → field ≢ 14 → field ≢ 16 → flagged_form.is_versioned (block_place block field) ≡ false

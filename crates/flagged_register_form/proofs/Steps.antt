@@ -1,26 +1,25 @@
 -- Each allowed step has one of the four effects.
-use Rattle.std.proofs.Common.{◌≡◌, ◌≢◌, ℕ, ◌+◌, ◌/◌, ◌<◌, true, false, not, ◌∷◌, Option, refl, sym, ap, subst, ◌∙◌, inl, inr, ◌⊎◌, arith, Bool}
-use Rattle.std.specs.Prelude.{◌==◌, if◌then◌else◌, slice_get, Some, None}
+use Rattle.std.proofs.Common.{◌≡◌, ◌≢◌, ℕ, ◌/◌, ◌<◌, true, false, not, refl, sym, ap, subst, ◌∙◌, inl, inr, ◌⊎◌, arith, Bool}
+use Rattle.std.specs.Prelude.{slice_get, Some, None}
 use Rattle.std.proofs.lemmas.Bool.{eq-eqb, ne_eqb, eqb-true}
-use Rattle.node_arena.specs.MemoryMap.{block_place, block_at}
+use Rattle.node_arena.specs.MemoryMap.{block_place}
 use Rattle.node_arena.proofs.PlacesApart.{block_at-block_place}
 use Rattle.word_fields.specs.Versioned.{versioned_value, versioned_version, changed_word, cleared_word}
 use Rattle.word_fields.proofs.ChangedWords.{value-cleared}
 use Rattle.lin_report.specs.declared.calls.Op.{Op}
-use Rattle.lin_report.specs.Object.{map_object}
 use Rattle.step_memory.specs.declared.steps.Request.TheVariants.{Load, Exchange}
 use Rattle.step_memory.specs.declared.steps.Seen.{Seen}
 use Rattle.normal_traits.specs.declared.lists.Entry.{Entry}
-use Rattle.normal_traits.specs.World.{Listed, Cause, World, is_state, is_word, no_root}
-use Rattle.normal_traits.specs.World.Maker.{By, Beside}
-use Rattle.normal_traits.specs.Steps.{with_word, put_word, with_change, IsExchanged, IsFresh, IsFilled, IsOffered, Requested, IsStep, exchanged, using_block}
+use Rattle.normal_traits.specs.World.{Listed, World, is_state, is_word, no_root}
+use Rattle.normal_traits.specs.World.Maker.{By}
+use Rattle.normal_traits.specs.Steps.{with_word, put_word, IsExchanged, IsFresh, IsFilled, IsOffered, Requested, IsStep, exchanged, using_block}
 use Rattle.normal_traits.specs.Steps.IsStep.{nothing, elsewhere, clears, searches, wraps, first, first_of_block, second}
-use Rattle.flagged_register_form.specs.Register.{FLAG, REGISTER, note_place, flag_value, toggled, toggles, flag_entry, flag_of, offer_of, Help, Search, request_of, request_of_help, decision_place, decided, value_at}
+use Rattle.flagged_register_form.specs.Register.{FLAG, REGISTER, note_place, toggled, toggles, flag_entry, flag_of, offer_of, Help, Search, request_of, request_of_help, decision_place, decided, value_at}
 use Rattle.flagged_register_form.specs.Register.Help.{Deciding, Checking, Reading, Changing, Clearing}
 use Rattle.flagged_register_form.specs.Register.Search.{AtFlag, AtRegister, Named, Helping}
-use Rattle.flagged_register_form.specs.Meanings.{Flagged, Made, Stands, Shape, flagged_block, cause_here, cause_of, flagger, adds_beside, Helps, WasRead, Knows, flagged_form, asks, IsGone}
+use Rattle.flagged_register_form.specs.Meanings.{Flagged, Made, Stands, Shape, flagged_block, Helps, WasRead, Knows, flagged_form, asks, IsGone}
 use Rattle.flagged_register_form.proofs.Basics.{register_flag, flag_register, note_flag, decision_flag, decided_once, decision_register, value_flag}
-use Rattle.flagged_register_form.proofs.Effects.{Effect, Sets, change_made, flag_cleared, change_decided}
+use Rattle.flagged_register_form.proofs.Effects.{Effect, Sets}
 use Rattle.flagged_register_form.proofs.Effects.Effect.{quiet, sets, makes, decides}
 use Rattle.flagged_register_form.proofs.Journal.{took_of, flagger_is}
 use Rattle.flagged_register_form.proofs.Later.{flag_names}

@@ -14,7 +14,7 @@ use Rattle.lin_report.specs.Object.{map_object}
 use Rattle.lin_report.specs.Commands.{may_exhaust}
 use Rattle.node_arena.specs.Opening.{opening_word}
 use Rattle.node_arena.specs.MemoryMap.{block_place, field_at}
-use Rattle.node_arena.proofs.PlacesApart.{field_at-block_place, same_field}
+use Rattle.node_arena.proofs.PlacesApart.{same_field}
 use Rattle.step_memory.specs.declared.steps.Seen.{Seen}
 use Rattle.normal_traits.specs.declared.form.Found.TheVariants as found
 use Rattle.normal_traits.specs.declared.form.Wrapped.TheVariants as wrapped
@@ -22,12 +22,12 @@ use Rattle.normal_traits.specs.declared.lists.Entry.{Entry}
 use Rattle.normal_traits.specs.World.{Listed, Won, Cause, Change, World, Among, Took, Failed, Stopped, Observes, held_after, no_root}
 use Rattle.normal_traits.specs.Steps.{IsOffered, IsFresh}
 use Rattle.normal_traits.specs.Laws.{Laws, opening_world, IsGoodEntry, IsGoodStore, IsGoodOffer, WrappedWell}
-use Rattle.flagged_register_form.specs.Register.{FLAG, REGISTER, note_place, flag_value, toggles, told, flag_entry, flag_of, offer_of, found_of, begin_wrap_of, wrap_begun_of, Search, decision_place, value_at}
+use Rattle.flagged_register_form.specs.Register.{FLAG, REGISTER, note_place, flag_value, flag_entry, flag_of, offer_of, found_of, begin_wrap_of, wrap_begun_of, Search, decision_place, value_at}
 use Rattle.flagged_register_form.specs.Register.Help.{Deciding}
-use Rattle.flagged_register_form.specs.Register.Search.{AtFlag, AtRegister, Named, Helping}
+use Rattle.flagged_register_form.specs.Register.Search.{AtFlag, AtRegister, Named}
 use Rattle.flagged_register_form.specs.Meanings.{Flagged, Shape, IsOver, IsSpent, EachChanges, flagged_block, flagger, adds_beside, WasRead, Knows, Dead, is_ready, flagged_form, IsGone}
 use Rattle.flagged_register_form.proofs.Fitting.{begun_fits, found_fits, wrapped_fits}
-use Rattle.flagged_register_form.proofs.Basics.{flag_value_below, note_register, note_flag, note_decision, value_decision, decided_once}
+use Rattle.flagged_register_form.proofs.Basics.{flag_value_below, note_decision, value_decision, decided_once}
 use Rattle.flagged_register_form.proofs.Effects.{Effect, made_won, cleared_won, decided_won}
 use Rattle.flagged_register_form.proofs.Effects.Effect.{quiet, sets, makes, decides, clears}
 use Rattle.flagged_register_form.proofs.Journal.{took_of, flagged_of, flagger_flagged}
@@ -35,7 +35,6 @@ use Rattle.flagged_register_form.proofs.Later.{decided_later, later, helps_later
 use Rattle.flagged_register_form.proofs.Steps.{effect_of}
 use Rattle.flagged_register_form.proofs.Kept.EachEffect.{effect_keeps}
 use Rattle.flagged_register_form.proofs.Kept.FlagLists.{flagged_from, older, newly}
-use Rattle.flagged_register_form.proofs.Basics.{value_flag, value_register}
 use Rattle.flagged_register_form.proofs.Observed.{none_content, listed, plain_field}
 use Rattle.flagged_register_form.proofs.Fed.{search_asks, help_asks, search_fed_well, wrap_fed_well}
 use Rattle.client_lemmas.proofs.Places.{field_word}
