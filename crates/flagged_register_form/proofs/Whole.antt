@@ -34,7 +34,7 @@ use Rattle.flagged_register_form.proofs.Journal.{took_of, flagged_of, flagger_fl
 use Rattle.flagged_register_form.proofs.Later.{decided_later, later, helps_later, knows_later, flag_rises, flagged_later}
 use Rattle.flagged_register_form.proofs.Steps.{effect_of}
 use Rattle.flagged_register_form.proofs.Kept.EachEffect.{effect_keeps}
-use Rattle.flagged_register_form.proofs.Kept.FlagLists.{flagged_from, older, newly}
+use Rattle.flagged_register_form.proofs.Kept.FlagLists.{flagged_from, unset, newly}
 use Rattle.flagged_register_form.proofs.Observed.{none_content, listed, plain_field}
 use Rattle.flagged_register_form.proofs.Fed.{search_asks, help_asks, search_fed_well, wrap_fed_well}
 use Rattle.client_lemmas.proofs.Places.{field_word}
@@ -155,15 +155,11 @@ contends _ seen e = absurd cc
 
 -- ---- wrap-ups and dead lists
 
--- the first entry of a list is the setting of its flag
-first_is : (list : Listed) (from : ℕ) (entry : Entry) → list.entries ≡ flag_entry from list.block ∷ [] → slice_get list.entries 0 ≡ Some entry → entry ≡ flag_entry from list.block
-first_is list from entry entries listed' = sym (the_entry list.entries entry (flag_entry from list.block) listed' entries)
-
 failed_dead : (world : World) (list : Listed) (from : ℕ) → list.entries ≡ flag_entry from list.block ∷ [] → Failed world list 0 → Dead list world
 failed_dead world list from entries failed = record {
   from = from;
   entries = entries;
-  fate = inl (subst (λ (e : Entry). versioned_version e.from < versioned_version (world.words e.target)) (first_is list from failed.entry entries failed.listed) failed.passed, λ flagged. failed.lost (took_of world list flagged));
+  fate = inl (subst (λ (e : Entry). versioned_version e.from < versioned_version (world.words e.target)) (sym (the_entry list.entries failed.entry (flag_entry from list.block) failed.listed entries)) failed.passed, λ flagged. failed.lost (took_of world list flagged));
 }
 
 wrap_begun : (world : World) (list : Listed) (search : Search) (since stop : ℕ) → Shape world → IsOffered flagged_form world list search since → Stopped world list stop
@@ -185,12 +181,9 @@ lost_later world list from entries passed lost next (sets other from' word s) = 
         let same : flag_entry from' other.block ≡ flag_entry from list.block =
         the_entry list.entries (flag_entry from list.block) (flag_entry from' other.block) (ap (λ (es : List Entry). slice_get es 0) entries) (ap (λ (x : Listed). x.entries) one ∙ s.entries) in
         omega (arith, passed, ap (λ (e : Entry). versioned_version e.from) same, ap versioned_version s.here)
-lost_later world list from entries passed lost next (makes other m) =
-    λ flagged. lost (record { from = flagged.from; entries = flagged.entries; won = older list flagged.from (made_won other (world.words REGISTER)) world.journal refl flagged.won })
-lost_later world list from entries passed lost next (decides other made d) =
-    λ flagged. lost (record { from = flagged.from; entries = flagged.entries; won = older list flagged.from (decided_won other made) world.journal refl flagged.won })
-lost_later world list from entries passed lost next (clears other flag c) =
-    λ flagged. lost (record { from = flagged.from; entries = flagged.entries; won = older list flagged.from (cleared_won other flag) world.journal refl flagged.won })
+lost_later world list from entries passed lost next (makes other m) = λ flagged. lost (unset world next (made_won other (world.words REGISTER)) refl refl list flagged)
+lost_later world list from entries passed lost next (decides other made d) = λ flagged. lost (unset world next (decided_won other made) refl refl list flagged)
+lost_later world list from entries passed lost next (clears other flag c) = λ flagged. lost (unset world next (cleared_won other flag) refl refl list flagged)
 
 dead_later : (world after : World) (list : Listed) → Shape world → Dead list world → Effect world after → Dead list after
 dead_later world after list shape dead e = record { from = dead.from; entries = dead.entries; fate = by_fate dead.fate }
@@ -205,7 +198,7 @@ dead_first world list search since entry dead offered fresh listed' = λ e. by_f
   where
     by_fate : world.words entry.target ≡ entry.from → ((versioned_version dead.from < versioned_version (world.words FLAG)) × (¬ Flagged world list)) ⊎ (Flagged world list × IsGone world list) → ⊥
     by_fate e (inl lost) =
-        let is : entry ≡ flag_entry dead.from list.block = first_is list dead.from entry dead.entries listed' in
+        let is : entry ≡ flag_entry dead.from list.block = sym (the_entry list.entries entry (flag_entry dead.from list.block) listed' dead.entries) in
         let here : world.words FLAG ≡ dead.from = subst (λ (x : Entry). world.words x.target ≡ x.from) is e in
         omega (arith, lost.0, ap versioned_version here)
     by_fate e (inr gone) = fresh list 0 refl (took_of world list gone.0)

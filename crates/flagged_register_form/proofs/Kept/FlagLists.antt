@@ -1,5 +1,5 @@
 -- The lists that set the flag, before and after a step, and the one whose flag is up.
-use Rattle.std.proofs.Common.{◌≡◌, ℕ, ◌<◌, Bool, true, false, List, ◌∷◌, sym, ap, ◌∙◌, inl, inr, ◌⊎◌, arith}
+use Rattle.std.proofs.Common.{◌≡◌, ℕ, ◌<◌, true, false, ◌∷◌, subst, sym, ap, ◌∙◌, inl, inr, ◌⊎◌, arith}
 use Rattle.word_fields.specs.Versioned.{versioned_value, versioned_version, cleared_word}
 use Rattle.word_fields.proofs.ChangedWords.{value-cleared}
 use Rattle.normal_traits.specs.World.{Listed, Maker, Won, World, Among}
@@ -18,14 +18,13 @@ abbrev list_of : Listed → Maker → Listed
 list_of other (By list j) = list
 list_of other Beside = other
 
-abbrev is_by : Maker → Bool
-is_by (By list j) = true
-is_by Beside = false
-
 -- an exchange beside the lists sets no flag
-pub older : (list : Listed) (from : ℕ) (new : Won) (journal : List Won) → new.maker ≡ Beside → Among (flag_won list from) (new ∷ journal) → Among (flag_won list from) journal
-older list from new journal beside (inl e) = let e' : true ≡ false = ap (λ (w : Won). is_by w.maker) e ∙ ap is_by beside in absurd cc
-older list from new journal beside (inr among) = among
+pub unset : (world after : World) (new : Won) → after.journal ≡ new ∷ world.journal → new.maker ≡ Beside → (list : Listed) → Flagged after list → Flagged world list
+unset world after new journal beside list flagged = record { from = flagged.from; entries = flagged.entries; won = by_place (subst (Among (flag_won list flagged.from)) journal flagged.won) }
+  where
+    by_place : (flag_won list flagged.from ≡ new) ⊎ Among (flag_won list flagged.from) world.journal → Among (flag_won list flagged.from) world.journal
+    by_place (inl e) = let by : By list 0 ≡ Beside = ap (λ (w : Won). w.maker) e ∙ beside in absurd cc
+    by_place (inr among) = among
 
 -- after the setting of a flag, the lists that set one are those before and the new one
 pub newly : (world : World) (list : Listed) (from word : ℕ) (other : Listed) → Flagged (flag_set list from word world) other → (other ≡ list) ⊎ Flagged world other
