@@ -14,10 +14,6 @@ use Rattle.flagged_register_form.proofs.Later.{flag_names}
 pub flagged_from : (a b : World) (list : Listed) → ((item : Won) → Among item a.journal → Among item b.journal) → Flagged a list → Flagged b list
 flagged_from a b list f flagged = record { from = flagged.from; entries = flagged.entries; won = f (flag_won list flagged.from) flagged.won }
 
-abbrev list_of : Listed → Maker → Listed
-list_of other (By list j) = list
-list_of other Beside = other
-
 -- an exchange beside the lists sets no flag
 pub unset : (world after : World) (new : Won) → after.journal ≡ new ∷ world.journal → new.maker ≡ Beside → (list : Listed) → Flagged after list → Flagged world list
 unset world after new journal beside list flagged = record { from = flagged.from; entries = flagged.entries; won = by_place (subst (Among (flag_won list flagged.from)) journal flagged.won) }
@@ -31,7 +27,7 @@ pub newly : (world : World) (list : Listed) (from word : ℕ) (other : Listed) �
 newly world list from word other flagged = by_place flagged.won
   where
     by_place : Among (flag_won other flagged.from) (flag_won list from ∷ world.journal) → (other ≡ list) ⊎ Flagged world other
-    by_place (inl e) = inl (ap (λ (w : Won). list_of list w.maker) e)
+    by_place (inl e) = let by : By other 0 ≡ By list 0 = ap (λ (w : Won). w.maker) e in inl cc
     by_place (inr among) = inr (record { from = flagged.from; entries = flagged.entries; won = among })
 
 -- ---- one flag is up
