@@ -74,57 +74,45 @@ module _ (world : World) (register : ℕ) where
 
 -- ---- observations
 
-abbrev applied : ℕ → ℕ → map.FinMap nat_cmp ℕ → map.FinMap nat_cmp ℕ × Reply
-applied code value pairs = if code == SET then set_absent 0 value pairs else (if code == REM then (map.remove pairs 0, yes_if (map.contains_key pairs 0)) else (pairs, value_or_absent (map.get pairs 0)))
+-- the operation leaves the map as it is, and is told what the map says
+abbrev IsObserved : World → ℕ → Op → map.FinMap nat_cmp ℕ → Type 0
+IsObserved world register op pairs = ((map_apply op pairs).0 ≡ pairs) × StandsFor world (told op register) (map_apply op pairs).1 × IsFixed flagged_form (told op register)
 
-abbrev told_by : ℕ → ℕ → Outcome
-told_by code register = if code == GET then (if is_in register then ValueOf (versioned_value register) else Plain Absent) else Plain No
-
-abbrev IsObserved : World → ℕ → ℕ → ℕ → map.FinMap nat_cmp ℕ → Type 0
-IsObserved world register value code pairs =
-    (if code == SET then not (is_in register) else (if code == REM then is_in register else false)) ≡ false
-    → ((applied code value pairs).0 ≡ pairs) × StandsFor world (told_by code register) (applied code value pairs).1 × IsFixed flagged_form (told_by code register)
-
-module _ (world : World) (register value : ℕ) (pairs : map.FinMap nat_cmp ℕ) (names : IsName register world.used) (tells : map.get pairs 0 ≡ content register world.words) where
+module _ (world : World) (op : Op) (register : ℕ) (pairs : map.FinMap nat_cmp ℕ) (key : op.key ≡ 0) (same : toggles op register ≡ false) (names : IsName register world.used) (tells : map.get pairs 0 ≡ content register world.words) where
   has : map.contains_key pairs 0 ≡ is_in register
   has = has_key world register pairs names tells
 
-  observed_set : IsObserved world register value SET pairs
-  observed_set = λ same.
-      let key : map.contains_key pairs 0 ≡ true = grind (arith, nat_tests, has) in
-      rw key (refl, refl, tt)
+  observed_set : op.code ≡ SET → IsObserved world register op pairs
+  observed_set code =
+      let there : map.contains_key pairs 0 ≡ true = grind (arith, nat_tests, has, rw code at same) in
+      rw (key, code, there) (refl, refl, tt)
 
-  observed_rem : IsObserved world register value REM pairs
-  observed_rem = λ same. (remove_same pairs (by_name names same), sym (ap yes_if (has ∙ same)), tt)
+  observed_rem : op.code ≡ REM → IsObserved world register op pairs
+  observed_rem code = let out = rw code at same in rw (key, code) (remove_same pairs (by_name names out), sym (ap yes_if (has ∙ out)), tt)
     where
       by_name : IsName register world.used → is_in register ≡ false → map.get pairs 0 ≡ None
       by_name (inl e) out = tells ∙ none_content world register e
       by_name (inr name) out = let one = some_in world register name.0 name.3 in absurd cc
 
-  observed_get : IsObserved world register value GET pairs
-  observed_get = λ same. (refl, (by_name names).0, (by_name names).1)
+  observed_get : op.code ≡ GET → IsObserved world register op pairs
+  observed_get code = by_name names
     where
-      by_name : IsName register world.used → StandsFor world (if is_in register then ValueOf (versioned_value register) else Plain Absent) (value_or_absent (map.get pairs 0))
-          × IsFixed flagged_form (if is_in register then ValueOf (versioned_value register) else Plain Absent)
-      by_name (inl e) = rw (none_in world register e) (ap value_or_absent (sym (tells ∙ none_content world register e)), tt)
+      by_name : IsName register world.used → IsObserved world register op pairs
+      by_name (inl e) = rw (key, code, none_in world register e) (refl, ap value_or_absent (sym (tells ∙ none_content world register e)), tt)
       by_name (inr name) =
           let place = node_is world register name.0 name.3 in
           let used : world.used (block_at (node_place (versioned_value register) NODE_VALUE)) ≡ true = ap (λ p. world.used (block_at p)) place ∙ ap world.used (block_at-block_place name.0 13 (omega arith)) ∙ name.1 in
           let word : Value (world.words (node_place (versioned_value register) NODE_VALUE)) ≡ value_or_absent (map.get pairs 0) =
           ap (λ p. Value (world.words p)) place ∙ sym (ap value_or_absent (tells ∙ some_content world register name.0 name.3)) in
-          rw (some_in world register name.0 name.3) ((used, word), fixed_value world register name.0 name.3)
+          rw (key, code, some_in world register name.0 name.3) (refl, (used, word), fixed_value world register name.0 name.3)
 
-code_of : (op : Op) → IsCommandOf map_object op → (op.code ≡ SET) ⊎ ((op.code ≡ REM) ⊎ (op.code ≡ GET))
-code_of op command = grind (arith, nat_tests, command.command)
-
-pub observed : (world : World) (op : Op) (register : ℕ) (pairs : map.FinMap nat_cmp ℕ) → IsCommandOf map_object op → op.key ≡ 0 → toggles op register ≡ false → IsName register world.used → map.get pairs 0 ≡ content register world.words
-    → ((map_apply op pairs).0 ≡ pairs) × StandsFor world (told op register) (map_apply op pairs).1 × IsFixed flagged_form (told op register)
-observed world op register pairs command key same names tells = rw key (by_code (code_of op command) same)
-  where
-    by_code : (op.code ≡ SET) ⊎ ((op.code ≡ REM) ⊎ (op.code ≡ GET)) → IsObserved world register op.value op.code pairs
-    by_code (inl e) = rw e (observed_set world register op.value pairs names tells)
-    by_code (inr (inl e)) = rw e (observed_rem world register op.value pairs names tells)
-    by_code (inr (inr e)) = rw e (observed_get world register op.value pairs names tells)
+  pub observed : IsCommandOf map_object op → IsObserved world register op pairs
+  observed command = by_code (grind (arith, nat_tests, command.command))
+    where
+      by_code : (op.code ≡ SET) ⊎ ((op.code ≡ REM) ⊎ (op.code ≡ GET)) → IsObserved world register op pairs
+      by_code (inl set) = observed_set set
+      by_code (inr (inl rem)) = observed_rem rem
+      by_code (inr (inr get)) = observed_get get
 
 -- an operation that would change the register may be listed, and may find no block
 pub listed : (op : Op) (register : ℕ) → toggles op register ≡ true → IsTrue (op.code == SET || op.code == REM) × IsTrue (may_exhaust op)
