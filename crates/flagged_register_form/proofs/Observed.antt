@@ -7,12 +7,9 @@ use Rattle.std.specs.Cmp.{nat_cmp_total, unsigned_tied}
 use Rattle.std.proofs.lemmas.Bool.Decides.{nat_tests}
 use Rattle.std.proofs.lemmas.Bool.{eqb-true, eq-eqb, ne_eqb}
 use Rattle.lin_report.specs.declared.calls.Op.{Op}
-use Rattle.lin_report.specs.declared.calls.Outcome.{Outcome}
-use Rattle.lin_report.specs.declared.calls.Outcome.TheVariants.{Plain, ValueOf}
-use Rattle.lin_report.specs.declared.calls.Reply.{Reply}
-use Rattle.lin_report.specs.declared.calls.Reply.TheVariants.{No, Absent, Value}
+use Rattle.lin_report.specs.declared.calls.Reply.TheVariants.{Value}
 use Rattle.lin_report.specs.declared.calls.TheConstants.{SET, REM, GET}
-use Rattle.lin_report.specs.Object.{map_apply, set_absent, value_or_absent, yes_if, IsCommandOf, map_object}
+use Rattle.lin_report.specs.Object.{map_apply, value_or_absent, yes_if, IsCommandOf, map_object}
 use Rattle.lin_report.specs.Commands.{may_exhaust}
 use Rattle.node_arena.specs.declared.places.TheConstants.{NODE_VALUE}
 use Rattle.node_arena.specs.MemoryMap.{node_place, block_place, block_at, field_at}

@@ -2,7 +2,7 @@
 use Rattle.std.proofs.Common.{◌≡◌, ℕ, ◌<◌, true, false, ◌∷◌, subst, sym, ap, ◌∙◌, inl, inr, ◌⊎◌, arith}
 use Rattle.word_fields.specs.Versioned.{versioned_value, versioned_version, cleared_word}
 use Rattle.word_fields.proofs.ChangedWords.{value-cleared}
-use Rattle.normal_traits.specs.World.{Listed, Maker, Won, World, Among}
+use Rattle.normal_traits.specs.World.{Listed, Won, World, Among}
 use Rattle.normal_traits.specs.World.Maker.{By, Beside}
 use Rattle.flagged_register_form.specs.Register.{FLAG, REGISTER, note_place, flag_value, flag_of, decided}
 use Rattle.flagged_register_form.specs.Meanings.{Flagged, Stands, Shape, flag_won}
