@@ -153,7 +153,7 @@ told_fits : (op : Op) (entry : Option Entry) → FitsRecord (told_by op entry)
 told_fits op None = omega arith
 told_fits op (Some entry) = either FitsRecord (is_put op) _ _ (omega arith) tt
 
--- ---- all laws
+-- ---- the shape
 
 effective_behind : (newer older : List Change) (change : Change) → AreEffective (newer ++ change ∷ older) → ¬ Observes stack_object change.list.call.op (held_after stack_object older)
 effective_behind [] older change effective = effective.0
@@ -171,6 +171,8 @@ opens =
       known = λ won a. absurd a;
       causes_differ = pairs_none (λ (a b : Won). a.cause ≢ b.cause);
     }
+
+-- ---- all laws
 
 pub laws : Laws stack_form
 laws =

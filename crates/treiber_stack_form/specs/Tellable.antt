@@ -28,6 +28,7 @@ reply_fits : (op : Op) (values : List ℕ) → IsTrue (is_stack_command op) → 
 reply_fits op [] command small = record { named = grind (arith, nat_tests); value = grind (arith, nat_tests) }
 reply_fits op (v ∷ values) command small = record { named = grind (arith, nat_tests); value = grind (arith, nat_tests, All-head (λ v. v < VALUE_LIMIT) v values small) }
 
+-- also after commands
 fits_from : (values : List ℕ) (ops : List Op) (op : Op) → InRange values → All (IsCommandOf stack_object) ops → IsCommandOf stack_object op → IsReplyTo op (stack_apply op (held_after stack_object values ops)).1
 fits_from values [] op small before command = reply_fits op values command.command small
 fits_from values (first ∷ ops) op small before command =
