@@ -1,5 +1,5 @@
 -- Places, words and the map of one key.
-use Rattle.std.proofs.Common.{◌≡◌, ◌≢◌, ℕ, ◌^◌, ◌<◌, Bool, true, false, not, refl, sym, ap, ◌∙◌, arith, None, is_some, Some, subst}
+use Rattle.std.proofs.Common.{◌≡◌, ◌≢◌, ℕ, ◌^◌, ◌<◌, Bool, true, false, not, refl, sym, ap, ◌∙◌, arith, None, is_some, Some}
 use Rattle.std.specs.Prelude.{◌==◌, if◌then◌else◌}
 use Rattle.std.specs.FinMap as map
 use Rattle.std.specs.Ordering.{nat_cmp}
@@ -14,6 +14,7 @@ use Rattle.word_fields.specs.Versioned.{versioned_value, versioned_bit}
 use Rattle.word_fields.proofs.ChangedWords.{value-changed, bit-changed}
 use Rattle.flagged_register_form.specs.Register.{FLAG, REGISTER, note_place, flag_value, flag_word, is_in, toggles, decided, decided_value, decision_place, toggled_value, value_at}
 use Rattle.client_lemmas.proofs.Words.{value_small}
+use Rattle.client_lemmas.proofs.Outcomes.{either}
 
 -- ---- places
 
@@ -60,11 +61,8 @@ pub decided_is : (made : Bool) → versioned_value (decided made) ≡ decided_va
 decided_is made = value-changed 0 (decided_value made) (decided_value_below made)
 
 pub decided_some : (made : Bool) → decided made ≢ 0
-decided_some made e = by_made made (sym (decided_is made) ∙ ap versioned_value e ∙ value_small 0 (omega arith))
-  where
-    by_made : (m : Bool) → decided_value m ≡ 0 → ⊥
-    by_made true e' = omega (arith, e')
-    by_made false e' = omega (arith, e')
+decided_some true e = omega (arith, decided_is true, ap versioned_value e, value_small 0 (omega arith))
+decided_some false e = omega (arith, decided_is false, ap versioned_value e, value_small 0 (omega arith))
 
 pub decided_once : decided true ≢ decided false
 decided_once e = absurd (omega (arith, decided_is true, decided_is false, ap versioned_value e))
@@ -79,11 +77,7 @@ pub flagged_bit : (from block : ℕ) → block < 2 ^ 17 → versioned_bit (flag_
 flagged_bit from block small = bit-changed from (flag_value block) (flag_value_below block small)
 
 pub toggled_below : (register block : ℕ) → block < 2 ^ 17 → toggled_value register block < 2 ^ 24
-toggled_below register block small = by_test (is_in register)
-  where
-    by_test : (b : Bool) → (if b then 0 else flag_value block) < 2 ^ 24
-    by_test true = omega arith
-    by_test false = flag_value_below block small
+toggled_below register block small = either (λ value. value < 2 ^ 24) (is_in register) 0 (flag_value block) (omega arith) (flag_value_below block small)
 
 -- ---- the map
 
@@ -102,9 +96,7 @@ toggled_by false false value pairs e = absurd cc
 
 module _ (op : Op) (register : ℕ) (pairs : map.FinMap nat_cmp ℕ) (key : op.key ≡ 0) (changes : toggles op register ≡ true) (tells : map.contains_key pairs 0 ≡ is_in register) where
   both : (map.get (map_apply op pairs).0 0 ≡ (if is_in register then None else Some op.value)) × ((map_apply op pairs).1 ≡ Yes)
-  both = rw key (subst (λ b. (map.get (if op.code == SET then set_absent 0 op.value pairs else (if op.code == REM then (map.remove pairs 0, yes_if (map.contains_key pairs 0)) else (pairs, value_or_absent (map.get pairs 0)))).0 0 ≡ (if b then None else Some op.value))
-      × ((if op.code == SET then set_absent 0 op.value pairs else (if op.code == REM then (map.remove pairs 0, yes_if (map.contains_key pairs 0)) else (pairs, value_or_absent (map.get pairs 0)))).1 ≡ Yes)) tells
-      (toggled_by (op.code == SET) (op.code == REM) op.value pairs (subst (λ b. (if op.code == SET then not b else (if op.code == REM then b else false)) ≡ true) (sym tells) changes)))
+  both = rw (key, ← tells) (toggled_by (op.code == SET) (op.code == REM) op.value pairs (rw (← tells) at changes))
 
   pub tells-apply : map.get (map_apply op pairs).0 0 ≡ (if is_in register then None else Some op.value)
   tells-apply = both.0

@@ -1,7 +1,7 @@
 -- What searches and wrap-ups ask, and what they have learnt when they are fed.
 use Rattle.std.proofs.Common.{◌||◌, ◌≡◌, ◌≢◌, ℕ, ◌+◌, ◌/◌, ◌<◌, Bool, true, false, List, length, refl, sym, ap, subst, ◌∙◌, inl, inr, ◌⊎◌, arith, not}
 use Rattle.std.specs.Prelude.{◌==◌, if◌then◌else◌}
-use Rattle.std.proofs.lemmas.Bool.{eqb-true, eq-eqb, or_left, or_right}
+use Rattle.std.proofs.lemmas.Bool.{eqb-true, eqb-false, eq-eqb, or_left, or_right, cond_both}
 use Rattle.node_arena.specs.MemoryMap.{field_at}
 use Rattle.node_arena.proofs.PlacesApart.{field_at-block_place}
 use Rattle.lin_report.specs.declared.calls.TheConstants.{GET}
@@ -54,16 +54,14 @@ module _ (world : World) (shape : Shape world) where
 
   pub help_asks : (help : Help) (list : Listed) → Helps help world list → AsksWell flagged_form world (request_of_help help)
   help_asks (Deciding flag make) list h =
-      subst (λ block. AsksWell flagged_form world (Exchange (decision_place block) 0 (decided make))) (sym (named_block world list flag shape h.0 h.1)) (
+      rw (named_block world list flag shape h.0 h.1) (
         field_word no_root world list.block 28 (omega arith) (shape.flaggers list h.0).used refl,
         is_versioned_decision list.block,
         λ listable. absurd (decision_flag list.block (eqb-true (decision_place list.block) FLAG listable)),
         (decided_value make, decided_value_below make, refl),
       )
-  help_asks (Checking flag) list h =
-      subst (λ block. is_word no_root world (decision_place block) ≡ true) (sym (named_block world list flag shape h.0 h.1)) (field_word no_root world list.block 28 (omega arith) (shape.flaggers list h.0).used refl)
-  help_asks (Reading flag) list h =
-      subst (λ block. is_word no_root world (note_place block) ≡ true) (sym (named_block world list flag shape h.0 h.1)) (field_word no_root world list.block 27 (omega arith) (shape.flaggers list h.0).used refl)
+  help_asks (Checking flag) list h = rw (named_block world list flag shape h.0 h.1) (field_word no_root world list.block 28 (omega arith) (shape.flaggers list h.0).used refl)
+  help_asks (Reading flag) list h = rw (named_block world list flag shape h.0 h.1) (field_word no_root world list.block 27 (omega arith) (shape.flaggers list h.0).used refl)
   help_asks (Changing flag noted) list h =
       (register_is_word, or_left (REGISTER == FLAG || REGISTER == REGISTER) (field_at REGISTER == 28) (or_right (REGISTER == FLAG) (REGISTER == REGISTER) (eq-eqb REGISTER REGISTER refl)), λ listable. absurd (register_flag (eqb-true REGISTER FLAG listable)), (toggled_value noted (versioned_value flag / 4), toggled_below noted (versioned_value flag / 4) (omega (arith, named_block world list flag shape h.0 h.1, (shape.flaggers list h.0).small)), refl))
   help_asks (Clearing flag true) list h = clearing_asks flag list h.0 h.1
@@ -87,40 +85,36 @@ made_since world list shape flagged agreed differs = by_fate (shape.flaggers lis
     by_fate (inr (inr gone)) = absurd (decided_once (sym agreed ∙ gone))
 
 module _ (world after : World) (seen : Seen) (list : Listed) (shape : Shape world) where
-  help_decided : (flag : ℕ) (make : Bool) → Helps (Deciding flag make) world list → Requested flagged_form (request_of_help (Deciding flag make)) world after seen → Helps (Checking flag) after list
-  help_decided flag make h r = by_cases (subst (λ block. Went flagged_form (Exchange (decision_place block) 0 (decided make)) world after seen) (named_block world list flag shape h.0 h.1) (went flagged_form (Exchange (decision_place (versioned_value flag / 4)) 0 (decided make)) world after seen r))
+  pub help_fed : (help : Help) → Helps help world list → Requested flagged_form (request_of_help help) world after seen → Helps (feed_help help seen) after list
+  help_fed (Deciding flag make) h r =
+      let a = went flagged_form (request_of_help (Deciding flag make)) world after seen r in
+      by_cases (rw (named_block world list flag shape h.0 h.1) at a)
     where
       l : Later world after
       l = later world after shape (help_effect world after seen (Deciding flag make) list shape h r)
 
       by_cases : Went flagged_form (Exchange (decision_place list.block) 0 (decided make)) world after seen → Helps (Checking flag) after list
-      by_cases (inl lost) = subst (λ w. Helps (Checking flag) w list) (sym lost.1) (h.0, h.1, lost.0)
+      by_cases (inl lost) = rw lost.1 (h.0, h.1, lost.0)
       by_cases (inr w) =
           let new : after.words (decision_place list.block) ≡ decided make = ap (λ (x : World). x.words (decision_place list.block)) w.2 ∙ same_place (decision_place list.block) (decided make) world.words in
           (flagged_later world after shape l list h.0, h.1, λ e. decided_some make (sym new ∙ e))
-
   -- what was decided is what its word says
-  help_checked : (flag : ℕ) → Helps (Checking flag) world list → Requested flagged_form (request_of_help (Checking flag)) world after seen → Helps (feed_help (Checking flag) seen) after list
-  help_checked flag h r =
-      let a = went flagged_form (Load (decision_place (versioned_value flag / 4))) world after seen r in
+  help_fed (Checking flag) h r =
+      let a = went flagged_form (request_of_help (Checking flag)) world after seen r in
       let here : seen.before ≡ world.words (decision_place list.block) = ap (λ (s : Seen). s.before) a.1 ∙ ap (λ block. world.words (decision_place block)) (named_block world list flag shape h.0 h.1) in
-      subst (λ w. Helps (feed_help (Checking flag) seen) w list) (sym a.0) (by_test here (versioned_value seen.before == 1) refl (shape.flaggers list h.0).decision)
+      rw a.0 (by_test here (versioned_value seen.before == 1) refl (shape.flaggers list h.0).decision)
     where
       by_test : seen.before ≡ world.words (decision_place list.block) → (b : Bool) → (versioned_value seen.before == 1) ≡ b
           → (world.words (decision_place list.block) ≡ 0) ⊎ ((world.words (decision_place list.block) ≡ decided true) ⊎ IsGone world list) → Helps (if b then Reading flag else Clearing flag false) world list
       by_test here b e (inl none) = absurd (h.2 none)
       by_test here true e (inr (inl agreed)) = (h.0, h.1, agreed)
       by_test here true e (inr (inr gone)) = absurd (omega (arith, eqb-true (versioned_value seen.before) 1 e, ap versioned_value (here ∙ gone), decided_is false))
-      by_test here false e (inr (inl agreed)) = let one = eq-eqb (versioned_value seen.before) 1 (ap versioned_value (here ∙ agreed) ∙ decided_is true) in absurd cc
+      by_test here false e (inr (inl agreed)) = absurd (eqb-false (versioned_value seen.before) 1 e (ap versioned_value (here ∙ agreed) ∙ decided_is true))
       by_test here false e (inr (inr gone)) = (h.0, h.1, gone)
-
-  help_read : (flag : ℕ) → Helps (Reading flag) world list → Requested flagged_form (request_of_help (Reading flag)) world after seen → Helps (Changing flag seen.before) after list
-  help_read flag h r =
-      let a = went flagged_form (Load (note_place (versioned_value flag / 4))) world after seen r in
-      subst (λ w. Helps (Changing flag seen.before) w list) (sym a.0) (h.0, h.1, h.2, ap (λ (s : Seen). s.before) a.1 ∙ ap (λ block. world.words (note_place block)) (named_block world list flag shape h.0 h.1))
-
-  help_changed : (flag noted : ℕ) → Helps (Changing flag noted) world list → Requested flagged_form (request_of_help (Changing flag noted)) world after seen → Helps (Clearing flag true) after list
-  help_changed flag noted h r = by_cases (went flagged_form (Exchange REGISTER noted (toggled noted (versioned_value flag / 4))) world after seen r)
+  help_fed (Reading flag) h r =
+      let a = went flagged_form (request_of_help (Reading flag)) world after seen r in
+      rw a.0 (h.0, h.1, h.2, ap (λ (s : Seen). s.before) a.1 ∙ ap (λ block. world.words (note_place block)) (named_block world list flag shape h.0 h.1))
+  help_fed (Changing flag noted) h r = by_cases (went flagged_form (request_of_help (Changing flag noted)) world after seen r)
     where
       e : Effect world after
       e = help_effect world after seen (Changing flag noted) list shape h r
@@ -128,8 +122,8 @@ module _ (world after : World) (seen : Seen) (list : Listed) (shape : Shape worl
       l : Later world after
       l = later world after shape e
 
-      by_cases : Went flagged_form (Exchange REGISTER noted (toggled noted (versioned_value flag / 4))) world after seen → Helps (Clearing flag true) after list
-      by_cases (inl lost) = subst (λ w. Helps (Clearing flag true) w list) (sym lost.1) (h.0, h.1, made_since world list shape h.0 h.2 (λ same. lost.0 (same ∙ sym h.3)))
+      by_cases : Went flagged_form (request_of_help (Changing flag noted)) world after seen → Helps (Clearing flag true) after list
+      by_cases (inl lost) = rw lost.1 (h.0, h.1, made_since world list shape h.0 h.2 (λ same. lost.0 (same ∙ sym h.3)))
       by_cases (inr w) =
           let new : after.words REGISTER ≡ toggled noted (versioned_value flag / 4) = ap (λ (x : World). x.words REGISTER) w.2 ∙ same_place REGISTER (toggled noted (versioned_value flag / 4)) world.words in
           let note : after.words (note_place list.block) ≡ noted = note_later world after shape l list h.0 ∙ sym h.3 in (
@@ -138,42 +132,30 @@ module _ (world after : World) (seen : Seen) (list : Listed) (shape : Shape worl
             made_since after list (effect_keeps world after shape e) (flagged_later world after shape l list h.0) (decided_later world after shape l list true h.0 h.2)
                 (λ same. absurd (omega (arith, w.1, ap versioned_version (sym new ∙ same ∙ note)))),
           )
-
-  pub help_fed : (help : Help) → Helps help world list → Requested flagged_form (request_of_help help) world after seen → Helps (feed_help help seen) after list
-  help_fed (Deciding flag make) h r = help_decided flag make h r
-  help_fed (Checking flag) h r = help_checked flag h r
-  help_fed (Reading flag) h r = help_read flag h r
-  help_fed (Changing flag noted) h r = help_changed flag noted h r
   help_fed (Clearing flag made) h r = helps_later world after shape (later world after shape (help_effect world after seen (Clearing flag made) list shape h r)) (Clearing flag made) list h
 
   pub wrap_fed_well : (help : Help) (stop : ℕ) → Helps help world list → Requested flagged_form (request_of_help help) world after seen → WrappedWell flagged_form after list stop (feed_help help seen) (wrap_found_of help seen)
-  wrap_fed_well (Deciding flag make) stop h r = (tt, help_fed (Deciding flag make) h r)
-  wrap_fed_well (Checking flag) stop h r = (tt, help_fed (Checking flag) h r)
-  wrap_fed_well (Reading flag) stop h r = (tt, help_fed (Reading flag) h r)
-  wrap_fed_well (Changing flag noted) stop h r = (tt, help_fed (Changing flag noted) h r)
   wrap_fed_well (Clearing flag false) stop h r =
       let gone : Helps (Clearing flag false) after list = help_fed (Clearing flag false) h r in record { from = gone.0.from; entries = gone.0.entries; fate = inr (gone.0, gone.2) }
   wrap_fed_well (Clearing flag true) stop h r = let made : Made after list = (help_fed (Clearing flag true) h r).2 in (record { reply = Yes; change = made.change; told = refl }, tt)
+  wrap_fed_well help stop h r = (tt, help_fed help h r)
 
 -- ---- what a search has learnt
 
 learnt_flag : (world : World) (o op : Op) (flag : ℕ) → Shape world → o ≡ op → flag ≡ world.words FLAG → Learnt (after_flag o flag) op world × asks (after_flag o flag)
-learnt_flag world o op flag shape same here = by_bit (versioned_bit flag == 0) refl
+learnt_flag world o op flag shape same here =
+    cond_both (versioned_bit flag == 0) _ (AtFlag o) Right
+    (λ bit. let clear = eqb-true (versioned_bit flag) 0 bit in
+    cond_both (versioned_value flag == 0) (AtRegister o flag) _ Right
+    (λ none. ((same, record { clear = clear; down = eqb-true (versioned_value flag) 0 none; seen = inl (sym here) }), tt)) (λ some. (up_at clear (eqb-false (versioned_value flag) 0 some) shape.flag, tt)))
+    (λ set. (same, tt))
   where
-    up_at : versioned_bit flag ≡ 0 → (versioned_value flag == 0) ≡ false → (versioned_value (world.words FLAG) ≡ 0) ⊎ IsUp world → Learnt (Helping o (Deciding flag (not (o.code == GET)))) op world
-    up_at clear some (inl down) = let none = eq-eqb (versioned_value flag) 0 (ap versioned_value here ∙ down) in absurd cc
+    Right : Search → Type 0
+    Right search = Learnt search op world × asks search
+
+    up_at : versioned_bit flag ≡ 0 → versioned_value flag ≢ 0 → (versioned_value (world.words FLAG) ≡ 0) ⊎ IsUp world → Learnt (Helping o (Deciding flag (not (o.code == GET)))) op world
+    up_at clear some (inl down) = absurd (some (ap versioned_value here ∙ down))
     up_at clear some (inr up) = (same, (up.list, (up.flagged, sym (cleared-clear flag clear) ∙ ap cleared_word here ∙ up.flag)))
-
-    by_value : versioned_bit flag ≡ 0 → (b : Bool) → (versioned_value flag == 0) ≡ b
-        → Learnt (if b then AtRegister o flag else Helping o (Deciding flag (not (o.code == GET)))) op world × asks (if b then AtRegister o flag else Helping o (Deciding flag (not (o.code == GET))))
-    by_value clear true e = ((same, record { clear = clear; down = eqb-true (versioned_value flag) 0 e; seen = inl (sym here) }), tt)
-    by_value clear false e = (up_at clear e shape.flag, tt)
-
-    by_bit : (b : Bool) → (versioned_bit flag == 0) ≡ b
-        → Learnt (if b then (if versioned_value flag == 0 then AtRegister o flag else Helping o (Deciding flag (not (o.code == GET)))) else AtFlag o) op world
-        × asks (if b then (if versioned_value flag == 0 then AtRegister o flag else Helping o (Deciding flag (not (o.code == GET)))) else AtFlag o)
-    by_bit true e = by_value (eqb-true (versioned_bit flag) 0 e) (versioned_value flag == 0) refl
-    by_bit false e = (same, tt)
 
 right_now : (world : World) (op : Op) (since register : ℕ) → Shape world → IsCommandOf map_object op → since < length world.changes + 1 → register ≡ world.words REGISTER → op.key ≡ 0 → toggles op register ≡ false
     → RightSince map_object world op since (told op register) × IsFixed flagged_form (told op register)
@@ -181,7 +163,7 @@ right_now world op since register shape command before here key same =
     let held = held_after map_object world.changes in
     let names : IsName register world.used = subst (λ r. IsName r world.used) (sym here) shape.names in
     let tells : map.get held 0 ≡ content register world.words = shape.tells ∙ ap (λ r. content r world.words) (sym here) in
-    let o : ((map_apply op held).0 ≡ held) × StandsFor world (told op register) (map_apply op held).1 × IsFixed flagged_form (told op register) = observed world op register held command key same names tells in
+    let o : ((map_apply op held).0 ≡ held) × StandsFor world (told op register) (map_apply op held).1 × IsFixed flagged_form (told op register) = observed world op register held key same names tells command in
     let all = first_all world.changes in
     let right : RightSince map_object world op since (told op register) = record {
       count = length world.changes;
@@ -221,11 +203,11 @@ pub search_fed_well : (world after : World) (seen : Seen) (search : Search) (op 
 search_fed_well world after seen (AtFlag o) op since command shape asking knows r =
     let a = went flagged_form (Load FLAG) world after seen r in
     let learnt = learnt_flag world o op seen.before shape knows.1 (ap (λ (s : Seen). s.before) a.1) in
-    subst (λ w. Knows (after_flag o seen.before) op w since × FoundWell flagged_form w op since (after_flag o seen.before) found.Going) (sym a.0) ((knows.0, learnt.0), learnt.1)
+    rw a.0 ((knows.0, learnt.0), learnt.1)
 search_fed_well world after seen (AtRegister o flag) op since command shape asking knows r =
     let a = went flagged_form (Load REGISTER) world after seen r in
     let learnt = learnt_register world o op flag seen.before since shape command knows.0 knows.1.0 knows.1.1 (ap (λ (s : Seen). s.before) a.1) in
-    subst (λ w. Knows (feed_of (AtRegister o flag) seen) op w since × FoundWell flagged_form w op since (feed_of (AtRegister o flag) seen) (found_of (AtRegister o flag) seen)) (sym a.0) ((knows.0, learnt.0), learnt.1)
+    rw a.0 ((knows.0, learnt.0), learnt.1)
 search_fed_well world after seen (Named o flag register) op since command shape asking knows r = absurd asking
 search_fed_well world after seen (Helping o help) op since command shape asking knows r = by_help help (knows.1.1.1) r
   where
@@ -236,8 +218,5 @@ search_fed_well world after seen (Helping o help) op since command shape asking 
     counted h helps r' = omega (arith, knows.0, (later world after shape (help_effect world after seen h list shape helps r')).count)
 
     by_help : (h : Help) → Helps h world list → Requested flagged_form (request_of_help h) world after seen → Knows (after_help o h seen) op after since × asks (after_help o h seen)
-    by_help (Deciding flag make) helps r' = ((counted (Deciding flag make) helps r', (knows.1.0, (list, help_fed world after seen list shape (Deciding flag make) helps r'))), tt)
-    by_help (Checking flag) helps r' = ((counted (Checking flag) helps r', (knows.1.0, (list, help_fed world after seen list shape (Checking flag) helps r'))), tt)
-    by_help (Reading flag) helps r' = ((counted (Reading flag) helps r', (knows.1.0, (list, help_fed world after seen list shape (Reading flag) helps r'))), tt)
-    by_help (Changing flag noted) helps r' = ((counted (Changing flag noted) helps r', (knows.1.0, (list, help_fed world after seen list shape (Changing flag noted) helps r'))), tt)
     by_help (Clearing flag made) helps r' = ((counted (Clearing flag made) helps r', knows.1.0), tt)
+    by_help h helps r' = ((counted h helps r', (knows.1.0, (list, help_fed world after seen list shape h helps r'))), tt)

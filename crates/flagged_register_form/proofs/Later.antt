@@ -1,7 +1,7 @@
 -- What every effect keeps, and with it what searches and wrap-ups know.
 use Rattle.std.specs.Prelude.{if◌then◌else◌, ◌==◌, Some, None}
 use Rattle.std.proofs.lemmas.Bool.{eq-eqb}
-use Rattle.std.proofs.Common.{subst, ◌/◌, ◌≡◌, ◌≢◌, ℕ, ◌+◌, ◌<◌, ◌≤◌, true, false, length, sym, ap, ◌∙◌, inl, inr, ◌⊎◌, arith, Bool, None}
+use Rattle.std.proofs.Common.{subst, ◌/◌, ◌≡◌, ◌≢◌, ℕ, ◌+◌, ◌<◌, ◌≤◌, ◌∷◌, true, false, length, refl, sym, ap, ◌∙◌, inl, inr, ◌⊎◌, arith, Bool}
 use Rattle.word_fields.specs.Versioned.{versioned_value, versioned_bit, versioned_version, changed_word}
 use Rattle.word_fields.proofs.ChangedWords.{version-cleared, value-cleared}
 use Rattle.lin_report.specs.declared.calls.Op.{Op}
@@ -42,6 +42,23 @@ flag_clear world list shape flagged = ap versioned_bit (flag_is world list flagg
 
 -- ---- every effect
 
+-- the flag's word is exchanged
+flag_later : (world : World) (word : ℕ) (used : ℕ → Bool) (new : Won) → versioned_version (world.words FLAG) < versioned_version word
+    → Later world (record { words = with_word FLAG word world.words; changes = world.changes; used = used; journal = new ∷ world.journal })
+flag_later world word used new higher =
+    let same : with_word FLAG word world.words REGISTER ≡ world.words REGISTER = word_beside FLAG word world.words REGISTER register_flag in
+    record {
+      journal = λ won among. inr among;
+      changes = λ change among. among;
+      count = omega arith;
+      flag = inr (inr (omega (arith, higher, ap versioned_version (same_place FLAG word world.words))));
+      register = omega (arith, ap versioned_version same);
+      still = λ down. same;
+      notes = λ block used. word_beside FLAG word world.words (note_place block) (note_flag block);
+      values = λ block used. word_beside FLAG word world.words (value_at block) (value_flag block);
+      decisions = λ block used some. word_beside FLAG word world.words (decision_place block) (decision_flag block);
+    }
+
 pub later : (world after : World) → Shape world → Effect world after → Later world after
 later world after shape (quiet words q) = record {
   journal = λ won among. among;
@@ -55,20 +72,8 @@ later world after shape (quiet words q) = record {
   decisions = λ block used some. q.decisions block used;
 }
 later world after shape (sets list from word s) =
-    let word_version : versioned_version word ≡ versioned_version from + 1 = sym (version-cleared word) ∙ ap versioned_version s.exchanged.to ∙ s.exchanged.raised in
-    let new : with_word FLAG word world.words FLAG ≡ word = same_place FLAG word world.words in
-    let same : with_word FLAG word world.words REGISTER ≡ world.words REGISTER = word_beside FLAG word world.words REGISTER register_flag in
-    record {
-      journal = λ won among. inr among;
-      changes = λ change among. among;
-      count = omega arith;
-      flag = inr (inr (omega (arith, word_version, ap versioned_version new, ap versioned_version s.here)));
-      register = omega (arith, ap versioned_version same);
-      still = λ down. same;
-      notes = λ block used. word_beside FLAG word world.words (note_place block) (note_flag block);
-      values = λ block used. word_beside FLAG word world.words (value_at block) (value_flag block);
-      decisions = λ block used some. word_beside FLAG word world.words (decision_place block) (decision_flag block);
-    }
+    let raised : versioned_version word ≡ versioned_version from + 1 = sym (version-cleared word) ∙ ap versioned_version s.exchanged.to ∙ s.exchanged.raised in
+    flag_later world word _ _ (omega (arith, raised, ap versioned_version s.here))
 later world after shape (makes list m) =
     let word = toggled (world.words REGISTER) list.block in
     let new : with_word REGISTER word world.words REGISTER ≡ word = same_place REGISTER word world.words in
@@ -98,21 +103,7 @@ later world after shape (decides list made d) =
       decisions = λ block used some. word_beside place (decided made) world.words (decision_place block)
           (λ e. some (ap (λ b. world.words (decision_place b)) (same_decision block list.block e) ∙ d.undecided));
     }
-later world after shape (clears list flag c) =
-    let word = changed_word flag 0 in
-    let new : with_word FLAG word world.words FLAG ≡ word = same_place FLAG word world.words in
-    let same : with_word FLAG word world.words REGISTER ≡ world.words REGISTER = word_beside FLAG word world.words REGISTER register_flag in
-    record {
-      journal = λ won among. inr among;
-      changes = λ change among. among;
-      count = omega arith;
-      flag = inr (inr (omega (arith, ap versioned_version new, c.raised, ap versioned_version c.here)));
-      register = omega (arith, ap versioned_version same);
-      still = λ down. same;
-      notes = λ block used. word_beside FLAG word world.words (note_place block) (note_flag block);
-      values = λ block used. word_beside FLAG word world.words (value_at block) (value_flag block);
-      decisions = λ block used some. word_beside FLAG word world.words (decision_place block) (decision_flag block);
-    }
+later world after shape (clears list flag c) = flag_later world (changed_word flag 0) _ _ (omega (arith, c.raised, ap versioned_version c.here))
 
 -- ---- what is kept
 
@@ -149,10 +140,7 @@ module _ (world after : World) (shape : Shape world) (l : Later world after) whe
   content_later same = ap (λ register. content register after.words) same ∙ by_name shape.names
     where
       by_name : IsName (world.words REGISTER) world.used → content (world.words REGISTER) after.words ≡ content (world.words REGISTER) world.words
-      by_name (inl none) = content_none after.words none ∙ sym (content_none world.words none)
-        where
-          content_none : (words : ℕ → ℕ) → versioned_value (world.words REGISTER) ≡ 0 → content (world.words REGISTER) words ≡ None
-          content_none words e = ap (λ b. if b then None else Some (words (value_at (versioned_value (world.words REGISTER) / 4)))) (eq-eqb (versioned_value (world.words REGISTER)) 0 e)
+      by_name (inl none) = rw (eq-eqb (versioned_value (world.words REGISTER)) 0 none) refl
       by_name (inr name) =
           let block : versioned_value (world.words REGISTER) / 4 ≡ name.0 = omega (arith, name.3) in
           let used : world.used (versioned_value (world.words REGISTER) / 4) ≡ true = subst (λ b. world.used b ≡ true) (sym block) name.1 in

@@ -1,27 +1,33 @@
 -- An operation that finds the register as it would leave it only observes.
-use Rattle.std.proofs.Common.{◌≡◌, ℕ, ◌/◌, Bool, true, false, not, ◌||◌, ◌&&◌, is_some, refl, sym, ap, subst, ◌∙◌, inl, inr, ◌⊎◌, arith}
-use Rattle.std.specs.Prelude.{◌==◌, if◌then◌else◌, IsTrue, Some, None, nat_lt}
+use Rattle.std.proofs.Common.{◌≡◌, ◌≢◌, ◌<◌, ℕ, ◌/◌, Bool, true, false, not, ◌||◌, is_some, refl, sym, ap, ◌∙◌, inl, inr, ◌⊎◌, arith}
+use Rattle.std.specs.Prelude.{◌==◌, if◌then◌else◌, IsTrue, Some, None}
 use Rattle.std.specs.FinMap as map
 use Rattle.std.specs.Ordering.{nat_cmp}
 use Rattle.std.specs.Cmp.{nat_cmp_total, unsigned_tied}
-use Rattle.std.proofs.lemmas.Bool.{eqb-true, eq-eqb, ne_eqb, or_cases, and_parts}
+use Rattle.std.proofs.lemmas.Bool.Decides.{nat_tests}
+use Rattle.std.proofs.lemmas.Bool.{eqb-true, eq-eqb, ne_eqb}
 use Rattle.lin_report.specs.declared.calls.Op.{Op}
-use Rattle.lin_report.specs.declared.calls.Outcome.{Outcome}
-use Rattle.lin_report.specs.declared.calls.Outcome.TheVariants.{Plain, ValueOf}
-use Rattle.lin_report.specs.declared.calls.Reply.{Reply}
-use Rattle.lin_report.specs.declared.calls.Reply.TheVariants.{No, Yes, Absent, Value}
-use Rattle.lin_report.specs.declared.calls.TheConstants.{SET, REM, GET, HAS, PEEK, MIN}
-use Rattle.lin_report.specs.Object.{map_apply, set_absent, value_or_absent, yes_if, IsCommandOf, map_object}
-use Rattle.lin_report.specs.Commands.{takes_key, may_exhaust, KEY_LIMIT}
+use Rattle.lin_report.specs.declared.calls.Reply.TheVariants.{Value}
+use Rattle.lin_report.specs.declared.calls.TheConstants.{SET, REM, GET}
+use Rattle.lin_report.specs.Object.{map_apply, value_or_absent, yes_if, IsCommandOf, map_object}
+use Rattle.lin_report.specs.Commands.{may_exhaust}
 use Rattle.node_arena.specs.declared.places.TheConstants.{NODE_VALUE}
-use Rattle.node_arena.specs.MemoryMap.{node_place, block_at}
-use Rattle.node_arena.proofs.PlacesApart.{node_place-reference_to, block_at-block_place, field_at-block_place}
+use Rattle.node_arena.specs.MemoryMap.{node_place, block_place, block_at, field_at}
+use Rattle.node_arena.proofs.PlacesApart.{same_field, node_place-reference_to, block_at-block_place, field_at-block_place}
 use Rattle.word_fields.specs.Versioned.{versioned_value}
 use Rattle.normal_traits.specs.World.{World, StandsFor}
 use Rattle.normal_traits.specs.Laws.{IsFixed}
 use Rattle.flagged_register_form.specs.Register.{FLAG, REGISTER, value_at, flag_value, is_in, toggles, told}
 use Rattle.flagged_register_form.specs.Meanings.{content, IsName, flagged_form}
-use Rattle.flagged_register_form.proofs.Basics.{value_flag, value_register}
+
+-- a field but for those of the two words and of the decision is no versioned word
+pub plain_field : (block field : ℕ) → field < 28 → field ≢ 14 → field ≢ 16 → flagged_form.is_versioned (block_place block field) ≡ false
+plain_field block field low other apart =
+    rw (
+      ne_eqb (block_place block field) FLAG (λ e. apart (same_field block field 0 16 (omega (arith, low)) (omega arith) e)),
+      ne_eqb (block_place block field) REGISTER (λ e. other (same_field block field 0 14 (omega (arith, low)) (omega arith) e)),
+      ne_eqb (field_at (block_place block field)) 28 (λ e. omega (arith, low, e, field_at-block_place block field (omega (arith, low)))),
+    ) refl
 
 remove_same : (pairs : map.FinMap nat_cmp ℕ) → map.get pairs 0 ≡ None → map.remove pairs 0 ≡ pairs
 remove_same pairs has = map.same_map nat_cmp_total map.nat_cmp-IsAntisymmetric (map.remove pairs 0) pairs (λ q.
@@ -57,8 +63,7 @@ module _ (world : World) (register : ℕ) where
     node_is = ap (λ reference. node_place reference NODE_VALUE) name ∙ node_place-reference_to block 1 1 (omega arith) (omega arith)
 
     fixed_value : flagged_form.is_versioned (node_place (versioned_value register) NODE_VALUE) ≡ false
-    fixed_value = subst (λ place. flagged_form.is_versioned place ≡ false) (sym node_is)
-        (rw (ne_eqb (value_at block) FLAG (value_flag block), ne_eqb (value_at block) REGISTER (value_register block), field_at-block_place block 13 (omega arith)) refl)
+    fixed_value = rw node_is (plain_field block 13 (omega arith) (λ e. omega (arith, e)) (λ e. omega (arith, e)))
 
   pub has_key : (pairs : map.FinMap nat_cmp ℕ) → IsName register world.used → map.get pairs 0 ≡ content register world.words → map.contains_key pairs 0 ≡ is_in register
   has_key pairs (inl e) tells = ap is_some (tells ∙ none_content e) ∙ sym (none_in e)
@@ -66,88 +71,46 @@ module _ (world : World) (register : ℕ) where
 
 -- ---- observations
 
-abbrev applied : ℕ → ℕ → map.FinMap nat_cmp ℕ → map.FinMap nat_cmp ℕ × Reply
-applied code value pairs = if code == SET then set_absent 0 value pairs else (if code == REM then (map.remove pairs 0, yes_if (map.contains_key pairs 0)) else (pairs, value_or_absent (map.get pairs 0)))
+-- the operation leaves the map as it is, and is told what the map says
+abbrev IsObserved : World → ℕ → Op → map.FinMap nat_cmp ℕ → Type 0
+IsObserved world register op pairs = ((map_apply op pairs).0 ≡ pairs) × StandsFor world (told op register) (map_apply op pairs).1 × IsFixed flagged_form (told op register)
 
-abbrev told_by : ℕ → ℕ → Outcome
-told_by code register = if code == GET then (if is_in register then ValueOf (versioned_value register) else Plain Absent) else Plain No
-
-abbrev IsObserved : World → ℕ → ℕ → ℕ → map.FinMap nat_cmp ℕ → Type 0
-IsObserved world register value code pairs =
-    (if code == SET then not (is_in register) else (if code == REM then is_in register else false)) ≡ false
-    → ((applied code value pairs).0 ≡ pairs) × StandsFor world (told_by code register) (applied code value pairs).1 × IsFixed flagged_form (told_by code register)
-
-module _ (world : World) (register value : ℕ) (pairs : map.FinMap nat_cmp ℕ) (names : IsName register world.used) (tells : map.get pairs 0 ≡ content register world.words) where
+module _ (world : World) (op : Op) (register : ℕ) (pairs : map.FinMap nat_cmp ℕ) (key : op.key ≡ 0) (same : toggles op register ≡ false) (names : IsName register world.used) (tells : map.get pairs 0 ≡ content register world.words) where
   has : map.contains_key pairs 0 ≡ is_in register
   has = has_key world register pairs names tells
 
-  observed_set : IsObserved world register value SET pairs
-  observed_set = λ same.
-      let key : map.contains_key pairs 0 ≡ true = has ∙ by_not (is_in register) same in
-      let after : set_absent 0 value pairs ≡ (pairs, No) = ap (λ (b : Bool). if b then (pairs, No) else (map.insert pairs 0 value, Yes)) key in
-      (ap (λ (x : map.FinMap nat_cmp ℕ × Reply). x.0) after, sym (ap (λ (x : map.FinMap nat_cmp ℕ × Reply). x.1) after), tt)
-    where
-      by_not : (b : Bool) → not b ≡ false → b ≡ true
-      by_not true e = refl
-      by_not false e = absurd cc
+  observed_set : op.code ≡ SET → IsObserved world register op pairs
+  observed_set code =
+      let there : map.contains_key pairs 0 ≡ true = grind (arith, nat_tests, has, rw code at same) in
+      rw (key, code, there) (refl, refl, tt)
 
-  observed_rem : IsObserved world register value REM pairs
-  observed_rem = λ same. (remove_same pairs (by_name names same), sym (ap yes_if (has ∙ same)), tt)
+  observed_rem : op.code ≡ REM → IsObserved world register op pairs
+  observed_rem code = let out = rw code at same in rw (key, code) (remove_same pairs (by_name names out), sym (ap yes_if (has ∙ out)), tt)
     where
       by_name : IsName register world.used → is_in register ≡ false → map.get pairs 0 ≡ None
       by_name (inl e) out = tells ∙ none_content world register e
       by_name (inr name) out = let one = some_in world register name.0 name.3 in absurd cc
 
-  observed_get : IsObserved world register value GET pairs
-  observed_get = λ same. (refl, (by_name names).0, (by_name names).1)
+  observed_get : op.code ≡ GET → IsObserved world register op pairs
+  observed_get code = by_name names
     where
-      told_get : Bool → Outcome
-      told_get b = if b then ValueOf (versioned_value register) else Plain Absent
-
-      by_name : IsName register world.used → StandsFor world (if is_in register then ValueOf (versioned_value register) else Plain Absent) (value_or_absent (map.get pairs 0))
-          × IsFixed flagged_form (if is_in register then ValueOf (versioned_value register) else Plain Absent)
-      by_name (inl e) =
-          subst (λ (b : Bool). StandsFor world (if b then ValueOf (versioned_value register) else Plain Absent) (value_or_absent (map.get pairs 0)) × IsFixed flagged_form (if b then ValueOf (versioned_value register) else Plain Absent))
-          (sym (none_in world register e)) (ap value_or_absent (sym (tells ∙ none_content world register e)), tt)
+      by_name : IsName register world.used → IsObserved world register op pairs
+      by_name (inl e) = rw (key, code, none_in world register e) (refl, ap value_or_absent (sym (tells ∙ none_content world register e)), tt)
       by_name (inr name) =
           let place = node_is world register name.0 name.3 in
           let used : world.used (block_at (node_place (versioned_value register) NODE_VALUE)) ≡ true = ap (λ p. world.used (block_at p)) place ∙ ap world.used (block_at-block_place name.0 13 (omega arith)) ∙ name.1 in
           let word : Value (world.words (node_place (versioned_value register) NODE_VALUE)) ≡ value_or_absent (map.get pairs 0) =
           ap (λ p. Value (world.words p)) place ∙ sym (ap value_or_absent (tells ∙ some_content world register name.0 name.3)) in
-          subst (λ (b : Bool). StandsFor world (if b then ValueOf (versioned_value register) else Plain Absent) (value_or_absent (map.get pairs 0)) × IsFixed flagged_form (if b then ValueOf (versioned_value register) else Plain Absent))
-          (sym (some_in world register name.0 name.3)) ((used, word), fixed_value world register name.0 name.3)
+          rw (key, code, some_in world register name.0 name.3) (refl, (used, word), fixed_value world register name.0 name.3)
 
-code_of : (op : Op) → IsCommandOf map_object op → (op.code ≡ SET) ⊎ ((op.code ≡ REM) ⊎ (op.code ≡ GET))
-code_of op command = by_set (or_cases (op.code == SET && nat_lt op.key KEY_LIMIT) ((op.code == REM || op.code == GET) && takes_key op) command.command)
-  where
-    by_rem : ((op.code == REM) ≡ true) ⊎ ((op.code == GET) ≡ true) → (op.code ≡ SET) ⊎ ((op.code ≡ REM) ⊎ (op.code ≡ GET))
-    by_rem (inl e) = inr (inl (eqb-true op.code REM e))
-    by_rem (inr e) = inr (inr (eqb-true op.code GET e))
-
-    by_set : ((op.code == SET && nat_lt op.key KEY_LIMIT) ≡ true) ⊎ (((op.code == REM || op.code == GET) && takes_key op) ≡ true) → (op.code ≡ SET) ⊎ ((op.code ≡ REM) ⊎ (op.code ≡ GET))
-    by_set (inl e) = inl (eqb-true op.code SET (and_parts (op.code == SET) (nat_lt op.key KEY_LIMIT) e).0)
-    by_set (inr e) = by_rem (or_cases (op.code == REM) (op.code == GET) (and_parts (op.code == REM || op.code == GET) (takes_key op) e).0)
-
-pub observed : (world : World) (op : Op) (register : ℕ) (pairs : map.FinMap nat_cmp ℕ) → IsCommandOf map_object op → op.key ≡ 0 → toggles op register ≡ false → IsName register world.used → map.get pairs 0 ≡ content register world.words
-    → ((map_apply op pairs).0 ≡ pairs) × StandsFor world (told op register) (map_apply op pairs).1 × IsFixed flagged_form (told op register)
-observed world op register pairs command key same names tells = rw key (by_code (code_of op command) same)
-  where
-    by_code : (op.code ≡ SET) ⊎ ((op.code ≡ REM) ⊎ (op.code ≡ GET)) → IsObserved world register op.value op.code pairs
-    by_code (inl e) = subst (λ c. IsObserved world register op.value c pairs) (sym e) (observed_set world register op.value pairs names tells)
-    by_code (inr (inl e)) = subst (λ c. IsObserved world register op.value c pairs) (sym e) (observed_rem world register op.value pairs names tells)
-    by_code (inr (inr e)) = subst (λ c. IsObserved world register op.value c pairs) (sym e) (observed_get world register op.value pairs names tells)
-
-abbrev may : ℕ → Type 0
-may code = IsTrue (code == SET || code == REM) × IsTrue (not (code == HAS || code == GET || code == PEEK || code == MIN))
+  pub observed : IsCommandOf map_object op → IsObserved world register op pairs
+  observed command = by_code (grind (arith, nat_tests, command.command))
+    where
+      by_code : (op.code ≡ SET) ⊎ ((op.code ≡ REM) ⊎ (op.code ≡ GET)) → IsObserved world register op pairs
+      by_code (inl set) = observed_set set
+      by_code (inr (inl rem)) = observed_rem rem
+      by_code (inr (inr get)) = observed_get get
 
 -- an operation that would change the register may be listed, and may find no block
 pub listed : (op : Op) (register : ℕ) → toggles op register ≡ true → IsTrue (op.code == SET || op.code == REM) × IsTrue (may_exhaust op)
-listed op register e = by_set (op.code == SET) refl e
-  where
-    by_rem : (d : Bool) → (op.code == REM) ≡ d → (if d then is_in register else false) ≡ true → may op.code
-    by_rem true is e' = subst may (sym (eqb-true op.code REM is)) (refl, refl)
-    by_rem false is e' = absurd cc
-
-    by_set : (a : Bool) → (op.code == SET) ≡ a → (if a then not (is_in register) else (if op.code == REM then is_in register else false)) ≡ true → may op.code
-    by_set true is e' = subst may (sym (eqb-true op.code SET is)) (refl, refl)
-    by_set false is e' = by_rem (op.code == REM) refl e'
+listed op register e = (grind (arith, nat_tests), grind (arith, nat_tests))

@@ -1,26 +1,25 @@
 -- Each allowed step has one of the four effects.
-use Rattle.std.proofs.Common.{◌≡◌, ◌≢◌, ℕ, ◌+◌, ◌/◌, ◌<◌, true, false, not, ◌∷◌, Option, refl, sym, ap, subst, ◌∙◌, inl, inr, ◌⊎◌, arith, Bool}
-use Rattle.std.specs.Prelude.{◌==◌, if◌then◌else◌, slice_get, Some, None}
+use Rattle.std.proofs.Common.{◌≡◌, ◌≢◌, ℕ, ◌/◌, ◌<◌, true, false, not, refl, sym, ap, subst, ◌∙◌, inl, inr, ◌⊎◌, arith, Bool}
+use Rattle.std.specs.Prelude.{slice_get, Some, None}
 use Rattle.std.proofs.lemmas.Bool.{eq-eqb, ne_eqb, eqb-true}
-use Rattle.node_arena.specs.MemoryMap.{block_place, block_at}
+use Rattle.node_arena.specs.MemoryMap.{block_place}
 use Rattle.node_arena.proofs.PlacesApart.{block_at-block_place}
 use Rattle.word_fields.specs.Versioned.{versioned_value, versioned_version, changed_word, cleared_word}
 use Rattle.word_fields.proofs.ChangedWords.{value-cleared}
 use Rattle.lin_report.specs.declared.calls.Op.{Op}
-use Rattle.lin_report.specs.Object.{map_object}
 use Rattle.step_memory.specs.declared.steps.Request.TheVariants.{Load, Exchange}
 use Rattle.step_memory.specs.declared.steps.Seen.{Seen}
 use Rattle.normal_traits.specs.declared.lists.Entry.{Entry}
-use Rattle.normal_traits.specs.World.{Listed, Cause, World, is_state, is_word, no_root}
-use Rattle.normal_traits.specs.World.Maker.{By, Beside}
-use Rattle.normal_traits.specs.Steps.{with_word, put_word, with_change, IsExchanged, IsFresh, IsFilled, IsOffered, Requested, IsStep, exchanged, using_block}
+use Rattle.normal_traits.specs.World.{Listed, World, is_state, is_word, no_root}
+use Rattle.normal_traits.specs.World.Maker.{By}
+use Rattle.normal_traits.specs.Steps.{with_word, put_word, IsExchanged, IsFresh, IsFilled, IsOffered, Requested, IsStep, exchanged, using_block}
 use Rattle.normal_traits.specs.Steps.IsStep.{nothing, elsewhere, clears, searches, wraps, first, first_of_block, second}
-use Rattle.flagged_register_form.specs.Register.{FLAG, REGISTER, note_place, flag_value, toggled, toggles, flag_entry, flag_of, offer_of, Help, Search, request_of, request_of_help, decision_place, decided, value_at}
+use Rattle.flagged_register_form.specs.Register.{FLAG, REGISTER, note_place, toggled, toggles, flag_entry, flag_of, offer_of, Help, Search, request_of, request_of_help, decision_place, decided, value_at}
 use Rattle.flagged_register_form.specs.Register.Help.{Deciding, Checking, Reading, Changing, Clearing}
 use Rattle.flagged_register_form.specs.Register.Search.{AtFlag, AtRegister, Named, Helping}
-use Rattle.flagged_register_form.specs.Meanings.{Flagged, Made, Stands, Shape, flagged_block, cause_here, cause_of, flagger, adds_beside, Helps, WasRead, Knows, flagged_form, asks, IsGone}
+use Rattle.flagged_register_form.specs.Meanings.{Flagged, Made, Stands, Shape, flagged_block, Helps, WasRead, Knows, flagged_form, asks, IsGone}
 use Rattle.flagged_register_form.proofs.Basics.{register_flag, flag_register, note_flag, decision_flag, decided_once, decision_register, value_flag}
-use Rattle.flagged_register_form.proofs.Effects.{Effect, Sets, change_made, flag_cleared, change_decided}
+use Rattle.flagged_register_form.proofs.Effects.{Effect, Sets}
 use Rattle.flagged_register_form.proofs.Effects.Effect.{quiet, sets, makes, decides}
 use Rattle.flagged_register_form.proofs.Journal.{took_of, flagger_is}
 use Rattle.flagged_register_form.proofs.Later.{flag_names}
@@ -38,96 +37,36 @@ entry_here place from to = record { target = place; from = from; to = to }
 unchanged : (world : World) → Effect world world
 unchanged world = quiet world.words (record { flag = inl refl; register = refl; notes = λ block used. refl; values = λ block used. refl; decisions = λ block used. refl })
 
--- ---- the exchange of the register
+-- ---- the exchanges beside the lists
 
-abbrev with_made : World → ℕ → ℕ → Option Listed → Cause → World
-with_made world register to added cause =
-    record {
-      words = with_word REGISTER to world.words;
-      changes = with_change map_object added world.changes;
-      used = world.used;
-      journal = record { place = REGISTER; before = register; after = to; maker = Beside; cause = cause } ∷ world.journal;
-    }
+-- of a flag that is up, the block is that of its list
+up_block : (world : World) (list : Listed) → Shape world → Flagged world list → cleared_word (world.words FLAG) ≡ flag_of list.entries → flagged_block (world.words FLAG) ≡ list.block
+up_block world list shape flagged up = omega (arith, sym (value-cleared (world.words FLAG)) ∙ ap versioned_value up ∙ flag_names world list shape flagged)
 
--- of a flag that is up, the block and the list are found by its word
-module _ (world : World) (list : Listed) (shape : Shape world) (flagged : Flagged world list) (up : cleared_word (world.words FLAG) ≡ flag_of list.entries) where
-  up_value : versioned_value (world.words FLAG) ≡ flag_value list.block
-  up_value = sym (value-cleared (world.words FLAG)) ∙ ap versioned_value up ∙ flag_names world list shape flagged
-
-  up_block : flagged_block (world.words FLAG) ≡ list.block
-  up_block = omega (arith, up_value)
-
-  pub adds_own : (from to : ℕ) → adds_beside world (entry_here REGISTER from to) ≡ Some list
-  adds_own from to =
-      ap (λ b. if b then flagger (flagged_block (world.words FLAG)) world.journal else None) (eq-eqb REGISTER REGISTER refl)
-      ∙ ap (λ block. flagger block world.journal) up_block ∙ flagger_is world list shape flagged
-
-  own_cause : (from to : ℕ) → cause_of world Beside (entry_here REGISTER from to) ≡ cause_here list.block 1
-  own_cause from to =
-      ap (λ b. if b then cause_here (flagged_block (world.words FLAG)) 1 else (if REGISTER == FLAG then cause_here (flagged_block from) 2 else cause_here (block_at REGISTER) 3)) (eq-eqb REGISTER REGISTER refl)
-      ∙ ap (λ block. cause_here block 1) up_block
-
-pub make_effect : (world after : World) (seen : Seen) (list : Listed) (noted : ℕ) → Shape world → Flagged world list → world.words (decision_place list.block) ≡ decided true → noted ≡ world.words (note_place list.block) → HasWon flagged_form world after seen REGISTER noted (toggled noted list.block) → Effect world after
+-- the register
+make_effect : (world after : World) (seen : Seen) (list : Listed) (noted : ℕ) → Shape world → Flagged world list → world.words (decision_place list.block) ≡ decided true → noted ≡ world.words (note_place list.block)
+    → HasWon flagged_form world after seen REGISTER noted (toggled noted list.block) → Effect world after
 make_effect world after seen list noted shape flagged agreed own w = by_fate (shape.flaggers list flagged).fate
   where
     by_fate : Stands world list ⊎ (Made world list ⊎ IsGone world list) → Effect world after
     by_fate (inr (inr gone)) = absurd (decided_once (sym agreed ∙ gone))
     by_fate (inr (inl made)) = absurd (omega (arith, made.passed, ap versioned_version (w.0 ∙ own)))
     by_fate (inl stands) =
-        let e : after ≡ change_made list world =
-        w.2 ∙ ap (λ added. with_made world noted (toggled noted list.block) added (cause_of world Beside (entry_here REGISTER noted (toggled noted list.block)))) (adds_own world list shape flagged stands.flag noted (toggled noted list.block))
-        ∙ ap (with_made world noted (toggled noted list.block) (Some list)) (own_cause world list shape flagged stands.flag noted (toggled noted list.block))
-        ∙ ap (λ register. with_made world register (toggled register list.block) (Some list) (cause_here list.block 1)) (sym w.0) in
-        let raised : versioned_version (toggled (world.words REGISTER) list.block) ≡ versioned_version (world.words REGISTER) + 1 = subst (λ r. versioned_version (toggled r list.block) ≡ versioned_version r + 1) (sym w.0) w.1 in
-        subst (Effect world) (sym e) (makes list (record { flagged = flagged; stands = stands; agreed = agreed; raised = raised }))
+        rw (w.2, eq-eqb REGISTER REGISTER refl, up_block world list shape flagged stands.flag, flagger_is world list shape flagged, ← w.0)
+        (makes list (record { flagged = flagged; stands = stands; agreed = agreed; raised = rw w.0 w.1 }))
 
--- ---- the exchange of the flag
-
-abbrev with_cleared : World → ℕ → Option Listed → Cause → World
-with_cleared world flag added cause =
-    record {
-      words = with_word FLAG (changed_word flag 0) world.words;
-      changes = with_change map_object added world.changes;
-      used = world.used;
-      journal = record { place = FLAG; before = flag; after = changed_word flag 0; maker = Beside; cause = cause } ∷ world.journal;
-    }
-
-pub clear_effect : (world after : World) (seen : Seen) (list : Listed) (flag : ℕ) → Shape world → Flagged world list → flag ≡ flag_of list.entries → Made world list ⊎ IsGone world list → HasWon flagged_form world after seen FLAG flag (changed_word flag 0) → Effect world after
+-- the flag
+clear_effect : (world after : World) (seen : Seen) (list : Listed) (flag : ℕ) → Shape world → Flagged world list → flag ≡ flag_of list.entries → Made world list ⊎ IsGone world list
+    → HasWon flagged_form world after seen FLAG flag (changed_word flag 0) → Effect world after
 clear_effect world after seen list flag shape flagged own ends w =
-    let test : (FLAG == REGISTER) ≡ false = ne_eqb FLAG REGISTER flag_register in
-    let adds : adds_beside world (entry_here FLAG flag (changed_word flag 0)) ≡ None = ap (λ b. if b then flagger (flagged_block (world.words FLAG)) world.journal else None) test in
-    let value : versioned_value flag ≡ flag_value list.block = ap versioned_value own ∙ flag_names world list shape flagged in
-    let block : flagged_block flag ≡ list.block = omega (arith, value) in
-    let cause : cause_of world Beside (entry_here FLAG flag (changed_word flag 0)) ≡ cause_here list.block 2 =
-    ap (λ b. if b then cause_here (flagged_block (world.words FLAG)) 1 else (if FLAG == FLAG then cause_here (flagged_block flag) 2 else cause_here (block_at FLAG) 3)) test
-    ∙ ap (λ b. if b then cause_here (flagged_block flag) 2 else cause_here (block_at FLAG) 3) (eq-eqb FLAG FLAG refl) ∙ ap (λ b. cause_here b 2) block in
-    let e : after ≡ flag_cleared list flag world =
-    w.2 ∙ ap (λ added. with_cleared world flag added (cause_of world Beside (entry_here FLAG flag (changed_word flag 0)))) adds ∙ ap (with_cleared world flag None) cause in
-    subst (Effect world) (sym e) (Effect.clears list flag (record { flagged = flagged; ends = ends; own = own; here = w.0; raised = w.1 }))
+    let block : flagged_block flag ≡ list.block = omega (arith, ap versioned_value own ∙ flag_names world list shape flagged) in
+    rw (w.2, ne_eqb FLAG REGISTER flag_register, eq-eqb FLAG FLAG refl, block) (Effect.clears list flag (record { flagged = flagged; ends = ends; own = own; here = w.0; raised = w.1 }))
 
--- ---- the exchange of a decision
-
-abbrev with_decided : World → ℕ → Bool → Option Listed → Cause → World
-with_decided world place made added cause =
-    record {
-      words = with_word place (decided made) world.words;
-      changes = with_change map_object added world.changes;
-      used = world.used;
-      journal = record { place = place; before = 0; after = decided made; maker = Beside; cause = cause } ∷ world.journal;
-    }
-
-pub decide_effect : (world after : World) (seen : Seen) (list : Listed) (made : Bool) → Shape world → Flagged world list → HasWon flagged_form world after seen (decision_place list.block) 0 (decided made) → Effect world after
+-- a decision
+decide_effect : (world after : World) (seen : Seen) (list : Listed) (made : Bool) → Shape world → Flagged world list → HasWon flagged_form world after seen (decision_place list.block) 0 (decided made) → Effect world after
 decide_effect world after seen list made shape flagged w =
-    let place = decision_place list.block in
-    let not_register : (place == REGISTER) ≡ false = ne_eqb place REGISTER (decision_register list.block) in
-    let not_flag : (place == FLAG) ≡ false = ne_eqb place FLAG (decision_flag list.block) in
-    let adds : adds_beside world (entry_here place 0 (decided made)) ≡ None = ap (λ b. if b then flagger (flagged_block (world.words FLAG)) world.journal else None) not_register in
-    let cause : cause_of world Beside (entry_here place 0 (decided made)) ≡ cause_here list.block 3 =
-    ap (λ b. if b then cause_here (flagged_block (world.words FLAG)) 1 else (if place == FLAG then cause_here (flagged_block 0) 2 else cause_here (block_at place) 3)) not_register
-    ∙ ap (λ b. if b then cause_here (flagged_block 0) 2 else cause_here (block_at place) 3) not_flag ∙ ap (λ b. cause_here b 3) (block_at-block_place list.block 28 (omega arith)) in
-    let e : after ≡ change_decided list made world =
-    w.2 ∙ ap (λ added. with_decided world place made added (cause_of world Beside (entry_here place 0 (decided made)))) adds ∙ ap (with_decided world place made None) cause in
-    subst (Effect world) (sym e) (decides list made (record { flagged = flagged; undecided = w.0 }))
+    rw (w.2, ne_eqb (decision_place list.block) REGISTER (decision_register list.block), ne_eqb (decision_place list.block) FLAG (decision_flag list.block), block_at-block_place list.block 28 (omega arith))
+    (decides list made (record { flagged = flagged; undecided = w.0 }))
 
 -- ---- the requests of a help
 
@@ -135,40 +74,28 @@ decide_effect world after seen list made shape flagged w =
 pub named_block : (world : World) (list : Listed) (flag : ℕ) → Shape world → Flagged world list → flag ≡ flag_of list.entries → versioned_value flag / 4 ≡ list.block
 named_block world list flag shape flagged own = omega (arith, ap versioned_value own, flag_names world list shape flagged)
 
+-- an exchange that is lost leaves the world
+tried : (world after : World) (seen : Seen) (place from to : ℕ) → Went flagged_form (Exchange place from to) world after seen → (HasWon flagged_form world after seen place from to → Effect world after) → Effect world after
+tried world after seen place from to (inl lost) won = rw lost.1 (unchanged world)
+tried world after seen place from to (inr w) won = won w
+
 pub help_effect : (world after : World) (seen : Seen) (help : Help) (list : Listed) → Shape world → Helps help world list → Requested flagged_form (request_of_help help) world after seen → Effect world after
-help_effect world after seen (Deciding flag make) list shape h r = by_cases (went flagged_form (Exchange (decision_place (versioned_value flag / 4)) 0 (decided make)) world after seen r)
-  where
-    by_cases : Went flagged_form (Exchange (decision_place (versioned_value flag / 4)) 0 (decided make)) world after seen → Effect world after
-    by_cases (inl l) = subst (Effect world) (sym l.1) (unchanged world)
-    by_cases (inr w) = decide_effect world after seen list make shape h.0 (subst (λ block. HasWon flagged_form world after seen (decision_place block) 0 (decided make)) (named_block world list flag shape h.0 h.1) w)
-help_effect world after seen (Checking flag) list shape h r = subst (Effect world) (sym (went flagged_form (Load (decision_place (versioned_value flag / 4))) world after seen r).0) (unchanged world)
-help_effect world after seen (Reading flag) list shape h r = subst (Effect world) (sym (went flagged_form (Load (note_place (versioned_value flag / 4))) world after seen r).0) (unchanged world)
-help_effect world after seen (Changing flag noted) list shape h r = by_cases (went flagged_form (Exchange REGISTER noted (toggled noted (versioned_value flag / 4))) world after seen r)
-  where
-    by_cases : Went flagged_form (Exchange REGISTER noted (toggled noted (versioned_value flag / 4))) world after seen → Effect world after
-    by_cases (inl l) = subst (Effect world) (sym l.1) (unchanged world)
-    by_cases (inr w) = make_effect world after seen list noted shape h.0 h.2 h.3 (subst (λ block. HasWon flagged_form world after seen REGISTER noted (toggled noted block)) (named_block world list flag shape h.0 h.1) w)
-help_effect world after seen (Clearing flag made) list shape h r = by_cases (went flagged_form (Exchange FLAG flag (changed_word flag 0)) world after seen r)
-  where
-    by_cases : Went flagged_form (Exchange FLAG flag (changed_word flag 0)) world after seen → Effect world after
-    by_cases (inl l) = subst (Effect world) (sym l.1) (unchanged world)
-    by_cases (inr w) = by_made made h w
-      where
-        by_made : (m : Bool) → Helps (Clearing flag m) world list → HasWon flagged_form world after seen FLAG flag (changed_word flag 0) → Effect world after
-        by_made true h' w' = clear_effect world after seen list flag shape h'.0 h'.1 (inl h'.2) w'
-        by_made false h' w' = clear_effect world after seen list flag shape h'.0 h'.1 (inr h'.2) w'
+help_effect world after seen (Deciding flag make) list shape h r =
+    tried world after seen _ _ _ (went flagged_form (request_of_help (Deciding flag make)) world after seen r) (λ w. decide_effect world after seen list make shape h.0 (rw (named_block world list flag shape h.0 h.1) at w))
+help_effect world after seen (Checking flag) list shape h r = rw (went flagged_form (request_of_help (Checking flag)) world after seen r).0 (unchanged world)
+help_effect world after seen (Reading flag) list shape h r = rw (went flagged_form (request_of_help (Reading flag)) world after seen r).0 (unchanged world)
+help_effect world after seen (Changing flag noted) list shape h r =
+    tried world after seen _ _ _ (went flagged_form (request_of_help (Changing flag noted)) world after seen r) (λ w. make_effect world after seen list noted shape h.0 h.2 h.3 (rw (named_block world list flag shape h.0 h.1) at w))
+help_effect world after seen (Clearing flag true) list shape h r =
+    tried world after seen _ _ _ (went flagged_form (request_of_help (Clearing flag true)) world after seen r) (clear_effect world after seen list flag shape h.0 h.1 (inl h.2))
+help_effect world after seen (Clearing flag false) list shape h r =
+    tried world after seen _ _ _ (went flagged_form (request_of_help (Clearing flag false)) world after seen r) (clear_effect world after seen list flag shape h.0 h.1 (inr h.2))
 
 -- ---- the setting of a flag
 
 -- the world after the first entry of a list with a block
-abbrev with_flag : World → Listed → Entry → ℕ → World
-with_flag world list entry word =
-    record {
-      words = with_word entry.target word world.words;
-      changes = world.changes;
-      used = using_block list.block world.used;
-      journal = record { place = entry.target; before = entry.from; after = entry.to; maker = By list 0; cause = cause_here list.block 0 } ∷ world.journal;
-    }
+abbrev pub with_flag : World → Listed → Entry → ℕ → World
+with_flag world list entry word = record (exchanged flagged_form (By list 0) None entry word world) { used = using_block list.block world.used }
 
 pub flag_effect : (world : World) (list : Listed) (search : Search) (since : ℕ) (entry : Entry) (word : ℕ) → IsOffered flagged_form world list search since → IsFresh world list → 0 < list.block → world.used list.block ≡ false
     → IsFilled world list (offer_of search list.call.op list.block).stores → slice_get list.entries 0 ≡ Some entry → world.words entry.target ≡ entry.from → IsExchanged entry word → Effect world (with_flag world list entry word)
@@ -227,8 +154,8 @@ clears_effect world place e = subst (λ p. Effect world (put_word p (cleared_wor
 }))
 
 search_effect : (world after : World) (seen : Seen) (search : Search) (op : Op) (since : ℕ) → Shape world → asks search → Knows search op world since → Requested flagged_form (request_of search) world after seen → Effect world after
-search_effect world after seen (AtFlag o) op since shape asking knows r = subst (Effect world) (sym (went flagged_form (Load FLAG) world after seen r).0) (unchanged world)
-search_effect world after seen (AtRegister o flag) op since shape asking knows r = subst (Effect world) (sym (went flagged_form (Load REGISTER) world after seen r).0) (unchanged world)
+search_effect world after seen (AtFlag o) op since shape asking knows r = rw (went flagged_form (Load FLAG) world after seen r).0 (unchanged world)
+search_effect world after seen (AtRegister o flag) op since shape asking knows r = rw (went flagged_form (Load REGISTER) world after seen r).0 (unchanged world)
 search_effect world after seen (Named o flag register) op since shape asking knows r = absurd asking
 search_effect world after seen (Helping o help) op since shape asking knows r = help_effect world after seen help knows.1.1.0 shape knows.1.1.1 r
 

@@ -1,9 +1,10 @@
 -- All laws of the flagged register.
-use Rattle.std.proofs.Common.{◌≡◌, ◌≢◌, ℕ, zero, suc, ◌^◌, ◌<◌, Bool, true, false, ◌||◌, List, [], ◌∷◌, ◌++◌, length, refl, sym, ap, subst, ◌∙◌, inl, inr, ◌⊎◌, arith}
+use Rattle.std.proofs.Common.{◌≡◌, ◌≢◌, ℕ, zero, suc, ◌^◌, ◌<◌, ◌≤◌, Bool, true, false, ◌||◌, List, [], ◌∷◌, ◌++◌, length, refl, sym, ap, subst, ◌∙◌, inl, inr, ◌⊎◌, arith}
 use Rattle.std.specs.Prelude.{◌==◌, if◌then◌else◌, slice_get, Some, None, IsTrue}
 use Rattle.std.specs.FinMap as map
 use Rattle.std.specs.Ordering.{nat_cmp}
-use Rattle.std.proofs.lemmas.Bool.{eqb-true, eq-eqb, ne_eqb, or_left}
+use Rattle.std.proofs.lemmas.Bool.{eqb-true, eqb-false, eq-eqb, or_left, false≢true, cond_both}
+use Rattle.std.proofs.lemmas.Bool.Decides.{nat_tests}
 use Rattle.std.proofs.lemmas.List.Elements.{All-nil, All-cons}
 use Rattle.std.proofs.lemmas.List.Kept.{AllPairs-cons}
 use Rattle.word_fields.specs.Versioned.{versioned_value, versioned_bit, versioned_version}
@@ -13,7 +14,7 @@ use Rattle.lin_report.specs.Object.{map_object}
 use Rattle.lin_report.specs.Commands.{may_exhaust}
 use Rattle.node_arena.specs.Opening.{opening_word}
 use Rattle.node_arena.specs.MemoryMap.{block_place, field_at}
-use Rattle.node_arena.proofs.PlacesApart.{field_at-block_place, same_field}
+use Rattle.node_arena.proofs.PlacesApart.{same_field}
 use Rattle.step_memory.specs.declared.steps.Seen.{Seen}
 use Rattle.normal_traits.specs.declared.form.Found.TheVariants as found
 use Rattle.normal_traits.specs.declared.form.Wrapped.TheVariants as wrapped
@@ -21,21 +22,20 @@ use Rattle.normal_traits.specs.declared.lists.Entry.{Entry}
 use Rattle.normal_traits.specs.World.{Listed, Won, Cause, Change, World, Among, Took, Failed, Stopped, Observes, held_after, no_root}
 use Rattle.normal_traits.specs.Steps.{IsOffered, IsFresh}
 use Rattle.normal_traits.specs.Laws.{Laws, opening_world, IsGoodEntry, IsGoodStore, IsGoodOffer, WrappedWell}
-use Rattle.flagged_register_form.specs.Register.{FLAG, REGISTER, note_place, flag_value, toggles, told, flag_entry, flag_of, offer_of, found_of, begin_wrap_of, wrap_begun_of, Search, decision_place, value_at}
+use Rattle.flagged_register_form.specs.Register.{FLAG, REGISTER, note_place, flag_value, flag_entry, flag_of, offer_of, found_of, begin_wrap_of, wrap_begun_of, Search, decision_place, value_at}
 use Rattle.flagged_register_form.specs.Register.Help.{Deciding}
-use Rattle.flagged_register_form.specs.Register.Search.{AtFlag, AtRegister, Named, Helping}
+use Rattle.flagged_register_form.specs.Register.Search.{AtFlag, AtRegister, Named}
 use Rattle.flagged_register_form.specs.Meanings.{Flagged, Shape, IsOver, IsSpent, EachChanges, flagged_block, flagger, adds_beside, WasRead, Knows, Dead, is_ready, flagged_form, IsGone}
 use Rattle.flagged_register_form.proofs.Fitting.{begun_fits, found_fits, wrapped_fits}
-use Rattle.flagged_register_form.proofs.Basics.{flag_value_below, note_register, note_flag, note_decision, value_decision, decided_once}
+use Rattle.flagged_register_form.proofs.Basics.{flag_value_below, note_decision, value_decision, decided_once}
 use Rattle.flagged_register_form.proofs.Effects.{Effect, made_won, cleared_won, decided_won}
 use Rattle.flagged_register_form.proofs.Effects.Effect.{quiet, sets, makes, decides, clears}
 use Rattle.flagged_register_form.proofs.Journal.{took_of, flagged_of, flagger_flagged}
 use Rattle.flagged_register_form.proofs.Later.{decided_later, later, helps_later, knows_later, flag_rises, flagged_later}
 use Rattle.flagged_register_form.proofs.Steps.{effect_of}
 use Rattle.flagged_register_form.proofs.Kept.EachEffect.{effect_keeps}
-use Rattle.flagged_register_form.proofs.Kept.FlagLists.{flagged_from, older, newly}
-use Rattle.flagged_register_form.proofs.Basics.{value_flag, value_register}
-use Rattle.flagged_register_form.proofs.Observed.{none_content, listed}
+use Rattle.flagged_register_form.proofs.Kept.FlagLists.{flagged_from, unset, newly}
+use Rattle.flagged_register_form.proofs.Observed.{none_content, listed, plain_field}
 use Rattle.flagged_register_form.proofs.Fed.{search_asks, help_asks, search_fed_well, wrap_fed_well}
 use Rattle.client_lemmas.proofs.Places.{field_word}
 use Rattle.client_lemmas.proofs.Growing.{all_among}
@@ -111,42 +111,16 @@ good_entry world op flag register block shape read small = record {
   changed = (flag_value block, flag_value_below block small, refl);
 }
 
-good_store : (block register : ℕ) → register < 2 ^ 64 → IsGoodStore flagged_form block (note_place block, register)
-good_store block register fits = record {
-  field = 27;
-  behind = omega arith;
-  within = omega arith;
+-- a value or a note is no versioned word
+good_store : (block field word : ℕ) → 12 ≤ field → field < 28 → field ≢ 14 → field ≢ 16 → word < 2 ^ 64 → IsGoodStore flagged_form block (block_place block field, word)
+good_store block field word high low other apart fits = record {
+  field = field;
+  behind = high;
+  within = omega (arith, low);
   place = refl;
   word = fits;
-  versioned = λ e. absurd (apart e);
+  versioned = λ e. absurd (false≢true (sym (plain_field block field low other apart) ∙ e));
 }
-  where
-    flag_not : (note_place block == FLAG) ≡ false
-    flag_not = ne_eqb (note_place block) FLAG (note_flag block)
-
-    register_not : (note_place block == REGISTER) ≡ false
-    register_not = ne_eqb (note_place block) REGISTER (note_register block)
-
-    field_not : (field_at (note_place block) == 28) ≡ false
-    field_not = ap (λ field. field == 28) (field_at-block_place block 27 (omega arith))
-
-    apart : (note_place block == FLAG || note_place block == REGISTER || field_at (note_place block) == 28) ≡ true → ⊥
-    apart e = let none : (note_place block == FLAG || note_place block == REGISTER || field_at (note_place block) == 28) ≡ false = rw (flag_not, register_not, field_not) refl in absurd cc
-
-good_value : (block value : ℕ) → value < 2 ^ 32 → IsGoodStore flagged_form block (value_at block, value)
-good_value block value fits = record {
-  field = 13;
-  behind = omega arith;
-  within = omega arith;
-  place = refl;
-  word = omega (arith, fits);
-  versioned = λ e. absurd (apart e);
-}
-  where
-    apart : (value_at block == FLAG || value_at block == REGISTER || field_at (value_at block) == 28) ≡ true → ⊥
-    apart e =
-        let none : (value_at block == FLAG || value_at block == REGISTER || field_at (value_at block) == 28) ≡ false =
-        rw (ne_eqb (value_at block) FLAG (value_flag block), ne_eqb (value_at block) REGISTER (value_register block), field_at-block_place block 13 (omega arith)) refl in absurd cc
 
 -- a decision is open at first
 good_decision : (block : ℕ) → IsGoodStore flagged_form block (decision_place block, 0)
@@ -162,20 +136,11 @@ good_decision block = record {
 value_note : (block : ℕ) → value_at block ≢ note_place block
 value_note block e = absurd (omega (arith, same_field block 13 block 27 (omega arith) (omega arith) e))
 
--- a note of a block is no versioned word
-note_plain : (block field : ℕ) → field < 12 → (block_place block field == FLAG || block_place block field == REGISTER || field_at (block_place block field) == 28) ≡ false
-note_plain block field low =
-    rw (
-      ne_eqb (block_place block field) FLAG (λ e. absurd (omega (arith, low, same_field block field 0 16 (omega (arith, low)) (omega arith) e))),
-      ne_eqb (block_place block field) REGISTER (λ e. absurd (omega (arith, low, same_field block field 0 14 (omega (arith, low)) (omega arith) e))),
-      ne_eqb (field_at (block_place block field)) 28 (λ e. omega (arith, low, e, field_at-block_place block field (omega (arith, low)))),
-    ) refl
-
 offers : (world : World) (search : Search) (op : Op) (since block : ℕ) → Shape world → Knows search op world since → is_ready search → block < 2 ^ 17 → IsGoodOffer flagged_form world block (offer_of search op block)
 offers world (Named o flag register) op since block shape knows ready small =
     one_entry flagged_form world block (flag_entry flag block) ((value_at block, op.value) ∷ (note_place block, register) ∷ (decision_place block, 0) ∷ []) (good_entry world op flag register block shape knows.1.1 small)
-    (All-cons (IsGoodStore flagged_form block) (value_at block, op.value) ((note_place block, register) ∷ (decision_place block, 0) ∷ []) (good_value block op.value knows.1.1.value)
-    (All-cons (IsGoodStore flagged_form block) (note_place block, register) ((decision_place block, 0) ∷ []) (good_store block register knows.1.1.fits)
+    (All-cons (IsGoodStore flagged_form block) (value_at block, op.value) ((note_place block, register) ∷ (decision_place block, 0) ∷ []) (good_store block 13 op.value (omega arith) (omega arith) (λ e. omega (arith, e)) (λ e. omega (arith, e)) (omega (arith, knows.1.1.value)))
+    (All-cons (IsGoodStore flagged_form block) (note_place block, register) ((decision_place block, 0) ∷ []) (good_store block 27 register (omega arith) (omega arith) (λ e. omega (arith, e)) (λ e. omega (arith, e)) knows.1.1.fits)
     (All-cons (IsGoodStore flagged_form block) (decision_place block, 0) [] (good_decision block) (All-nil (IsGoodStore flagged_form block)))))
     (AllPairs-cons (λ (a b : ℕ × ℕ). a.0 ≢ b.0) (value_at block, op.value) ((note_place block, register) ∷ (decision_place block, 0) ∷ [])
     (All-cons (λ (b : ℕ × ℕ). value_at block ≢ b.0) (note_place block, register) ((decision_place block, 0) ∷ []) (value_note block)
@@ -184,50 +149,26 @@ offers world (Named o flag register) op since block shape knows ready small =
 offers world _ op since block shape knows ready small = absurd ready
 
 contends : (search : Search) (seen : Seen) → found_of search seen ≡ found.Contended → ⊥
+contends (AtRegister o flag) seen e = grind (arith, nat_tests)
 contends (AtFlag o) seen e = absurd cc
-contends (AtRegister o flag) seen e = by_key (o.key == 0) e
-  where
-    by_toggles : (b : Bool) → (if b then found.Ready else found.Answer (told o seen.before)) ≡ found.Contended → ⊥
-    by_toggles true e' = absurd cc
-    by_toggles false e' = absurd cc
-
-    by_key : (b : Bool) → (if b then (if toggles o seen.before then found.Ready else found.Answer (told o seen.before)) else found.Going) ≡ found.Contended → ⊥
-    by_key true e' = by_toggles (toggles o seen.before) e'
-    by_key false e' = absurd cc
-contends (Named o flag register) seen e = absurd cc
-contends (Helping o help) seen e = absurd cc
+contends _ seen e = absurd cc
 
 -- ---- wrap-ups and dead lists
-
--- the first entry of a list is the setting of its flag
-first_is : (list : Listed) (from : ℕ) (entry : Entry) → list.entries ≡ flag_entry from list.block ∷ [] → slice_get list.entries 0 ≡ Some entry → entry ≡ flag_entry from list.block
-first_is list from entry entries listed' = sym (the_entry list.entries entry (flag_entry from list.block) listed' entries)
 
 failed_dead : (world : World) (list : Listed) (from : ℕ) → list.entries ≡ flag_entry from list.block ∷ [] → Failed world list 0 → Dead list world
 failed_dead world list from entries failed = record {
   from = from;
   entries = entries;
-  fate = inl (subst (λ (e : Entry). versioned_version e.from < versioned_version (world.words e.target)) (first_is list from failed.entry entries failed.listed) failed.passed, λ flagged. failed.lost (took_of world list flagged));
+  fate = inl (subst (λ (e : Entry). versioned_version e.from < versioned_version (world.words e.target)) (sym (the_entry list.entries failed.entry (flag_entry from list.block) failed.listed entries)) failed.passed, λ flagged. failed.lost (took_of world list flagged));
 }
 
 wrap_begun : (world : World) (list : Listed) (search : Search) (since stop : ℕ) → Shape world → IsOffered flagged_form world list search since → Stopped world list stop
     → WrappedWell flagged_form world list stop (begin_wrap_of list.call.op list.entries stop) (wrap_begun_of list.call.op list.entries stop)
-wrap_begun world list search since stop shape offered stopped = by_stop (stop == 0) refl
-  where
-    first : (from : ℕ) × (list.entries ≡ flag_entry from list.block ∷ [])
-    first = offered_entries world list search since offered
-
-    by_stop : (b : Bool) → (stop == 0) ≡ b → WrappedWell flagged_form world list stop (Deciding (flag_of list.entries) true) (if b then wrapped.Restart else wrapped.Going)
-    by_stop true e =
-        let none : stop ≡ 0 = eqb-true stop 0 e in
-        failed_dead world list first.0 first.1 (subst (Failed world list) none (stopped.failed (omega (arith, none, ap length first.1))))
-    by_stop false e =
-        let some : 0 < stop = by_zero stop e in
-        (tt, (flagged_of world list 0 shape (stopped.took 0 some), refl))
-      where
-        by_zero : (n : ℕ) → (n == 0) ≡ false → 0 < n
-        by_zero zero e' = absurd cc
-        by_zero (suc n) e' = omega arith
+wrap_begun world list search since stop shape offered stopped =
+    let first = offered_entries world list search since offered in
+    cond_both (stop == 0) wrapped.Restart wrapped.Going (WrappedWell flagged_form world list stop (Deciding (flag_of list.entries) true))
+    (λ none. failed_dead world list first.0 first.1 (rw (eqb-true stop 0 none) at stopped.failed (omega (arith, eqb-true stop 0 none, ap length first.1))))
+    (λ some. (tt, (flagged_of world list 0 shape (stopped.took 0 (omega (arith, eqb-false stop 0 some))), refl)))
 
 -- after no effect has a list newly set a flag whose first word was passed
 lost_later : (world : World) (list : Listed) (from : ℕ) → list.entries ≡ flag_entry from list.block ∷ [] → versioned_version from < versioned_version (world.words FLAG) → ¬ Flagged world list → (next : World) → Effect world next → ¬ Flagged next list
@@ -240,12 +181,9 @@ lost_later world list from entries passed lost next (sets other from' word s) = 
         let same : flag_entry from' other.block ≡ flag_entry from list.block =
         the_entry list.entries (flag_entry from list.block) (flag_entry from' other.block) (ap (λ (es : List Entry). slice_get es 0) entries) (ap (λ (x : Listed). x.entries) one ∙ s.entries) in
         omega (arith, passed, ap (λ (e : Entry). versioned_version e.from) same, ap versioned_version s.here)
-lost_later world list from entries passed lost next (makes other m) =
-    λ flagged. lost (record { from = flagged.from; entries = flagged.entries; won = older list flagged.from (made_won other (world.words REGISTER)) world.journal refl flagged.won })
-lost_later world list from entries passed lost next (decides other made d) =
-    λ flagged. lost (record { from = flagged.from; entries = flagged.entries; won = older list flagged.from (decided_won other made) world.journal refl flagged.won })
-lost_later world list from entries passed lost next (clears other flag c) =
-    λ flagged. lost (record { from = flagged.from; entries = flagged.entries; won = older list flagged.from (cleared_won other flag) world.journal refl flagged.won })
+lost_later world list from entries passed lost next (makes other m) = λ flagged. lost (unset world next (made_won other (world.words REGISTER)) refl refl list flagged)
+lost_later world list from entries passed lost next (decides other made d) = λ flagged. lost (unset world next (decided_won other made) refl refl list flagged)
+lost_later world list from entries passed lost next (clears other flag c) = λ flagged. lost (unset world next (cleared_won other flag) refl refl list flagged)
 
 dead_later : (world after : World) (list : Listed) → Shape world → Dead list world → Effect world after → Dead list after
 dead_later world after list shape dead e = record { from = dead.from; entries = dead.entries; fate = by_fate dead.fate }
@@ -260,7 +198,7 @@ dead_first world list search since entry dead offered fresh listed' = λ e. by_f
   where
     by_fate : world.words entry.target ≡ entry.from → ((versioned_version dead.from < versioned_version (world.words FLAG)) × (¬ Flagged world list)) ⊎ (Flagged world list × IsGone world list) → ⊥
     by_fate e (inl lost) =
-        let is : entry ≡ flag_entry dead.from list.block = first_is list dead.from entry dead.entries listed' in
+        let is : entry ≡ flag_entry dead.from list.block = sym (the_entry list.entries entry (flag_entry dead.from list.block) listed' dead.entries) in
         let here : world.words FLAG ≡ dead.from = subst (λ (x : Entry). world.words x.target ≡ x.from) is e in
         omega (arith, lost.0, ap versioned_version here)
     by_fate e (inr gone) = fresh list 0 refl (took_of world list gone.0)
@@ -291,7 +229,7 @@ flagged_laws = record {
     causes_bounded = λ world shape. all_among (λ (won : Won). (world.used won.cause.block ≡ true) × (won.cause.kind < 8)) world.journal (λ item among. bounded world item.cause (shape.spent item among));
     begins_asking = λ op command. tt;
     begins_knowing = λ world op command shape. (omega arith, refl);
-    notes_plain = λ block field some low. note_plain block field low;
+    notes_plain = λ block field some low. plain_field block field (omega (arith, low)) (λ e. omega (arith, low, e)) (λ e. omega (arith, low, e));
     search_asks_well = λ world search op since command shape asking knows. search_asks world shape search op since asking knows;
     contends = λ search seen asking e. absurd (contends search seen e);
     lists = λ world search op since command knows ready. lists world search op since knows ready;

@@ -1,3 +1,2 @@
-pub mod NodesStay
 pub mod ShapeKept
 pub mod Laws

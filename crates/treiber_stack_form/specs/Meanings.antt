@@ -2,9 +2,9 @@
 use Rattle.std.specs.Prelude.{◌≡◌, ◌≢◌, ℕ, ◌/◌, ◌<◌, ◌==◌, if◌then◌else◌, Bool, true, List, [], ◌∷◌, AllPairs, ◌≤◌, false, length}
 use Rattle.word_fields.specs.Versioned.{versioned_value, versioned_bit}
 use Rattle.node_arena.specs.declared.places.TheConstants.{NODE_VALUE, NODE_NEXT}
-use Rattle.node_arena.specs.MemoryMap.{node_place, reference_to}
+use Rattle.node_arena.specs.MemoryMap.{node_place, reference_to, block_at}
 use Rattle.normal_traits.specs.declared.lists.Entry.{Entry}
-use Rattle.normal_traits.specs.World.{Maker, Cause, Won, Change, World, Among, held_after, Observes, ChangedBy, StandsOrPassed}
+use Rattle.normal_traits.specs.World.{Listed, Maker, Cause, Won, Change, World, Among, held_after, Observes, ChangedBy, StandsOrPassed}
 use Rattle.normal_traits.specs.World.Maker.{By, Beside}
 use Rattle.client_lemmas.specs.Made.{AreMade}
 use Rattle.treiber_stack_form.specs.declared.states.TheConstants.{TOP}
@@ -39,27 +39,24 @@ pub record IsNode (world : World) (block value : ℕ) (behind : List ℕ) : Type
   pub once : ¬ Among block behind
 
 -- the nodes of these blocks have these values, and each leads to the next
-abbrev pub AreLinked : World → List ℕ → List ℕ → Type 0
-AreLinked world [] [] = Unit {0}
-AreLinked world (block ∷ blocks) (value ∷ values) = IsNode world block value blocks × AreLinked world blocks values
-AreLinked world _ _ = ⊥
+pub data AreLinked (world : World) : List ℕ → List ℕ → Type 0 where
+  ends : AreLinked world [] []
+  leads : (block value : ℕ) (blocks values : List ℕ) → IsNode world block value blocks → AreLinked world blocks values → AreLinked world (block ∷ blocks) (value ∷ values)
 
 -- each change really changed what is held
 abbrev pub AreEffective : List Change → Type 0
 AreEffective [] = Unit {0}
 AreEffective (change ∷ older) = (¬ Observes stack_object change.list.call.op (held_after stack_object older)) × AreEffective older
 
--- a list's exchange made its change, and its call is told the reply
-abbrev pub MadeWell : World → Won → Maker → Type 0
-MadeWell world won (By list j) = ChangedBy world list (told list.call.op won.before)
-MadeWell world won Beside = ⊥
-
--- a won exchange is that of a list; a node that was taken is none of those that the top leads to
+-- a won exchange is that of a list, which made its change by it and whose call is told the reply; a node that was taken
+-- is none of those that the top leads to
 pub record IsKnown (world : World) (blocks : List ℕ) (won : Won) : Type 0 where
   pub used : world.used won.cause.block ≡ true
   pub kind : won.cause.kind < 2
   pub gone : won.cause.kind ≡ 1 → ¬ Among won.cause.block blocks
-  pub made : MadeWell world won won.maker
+  pub list : Listed
+  pub maker : won.maker ≡ By list 0
+  pub made : ChangedBy world list (told list.call.op won.before)
 
 -- the words are those of a stack with these changes
 pub record IsStack (world : World) : Type 0 where
@@ -83,7 +80,7 @@ pub record WasTop (world : World) (top : ℕ) : Type 0 where
 pub record WasNode (world : World) (top : ℕ) : Type 0 where
   pub was_top : WasTop world top
   pub some : versioned_value top ≢ 0
-  pub used : world.used (versioned_value top / 4) ≡ true
+  pub used : world.used (block_at (next_place top)) ≡ true
 
 -- what a search has learnt from its words; a node that was put keeps its next word
 abbrev pub Learnt : StackSearch → World → Type 0

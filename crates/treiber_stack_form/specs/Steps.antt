@@ -69,10 +69,6 @@ IsReady (PutReady top) = Unit {0}
 IsReady (TakeReady top next) = Unit {0}
 IsReady _ = ⊥
 
--- nothing is named
-abbrev pub no_offer : Offered
-no_offer = record { entries = []; stores = [] }
-
 -- the block that a list uses: a put's alone, for its node
 abbrev pub block_for : Op → ℕ → ℕ
 block_for op block = if is_put op then block else 0
@@ -93,11 +89,11 @@ put_offer top value block =
 abbrev pub take_offer : ℕ → ℕ → Offered
 take_offer top next = record { entries = top_entry top (versioned_value next) ∷ []; stores = [] }
 
--- what a ready search names
+-- what a ready search names; another names nothing
 abbrev pub offered : StackSearch → Op → ℕ → Offered
 offered (PutReady top) op block = put_offer top op.value (block_for op block)
 offered (TakeReady top next) op block = take_offer top next
-offered _ op block = no_offer
+offered _ op block = record { entries = []; stores = [] }
 
 -- what an exchange from this top tells its call: a take the node that was the top's, which has its value
 abbrev pub told : Op → ℕ → Outcome

@@ -1,64 +1,46 @@
 -- A report can tell the stack's calls, and words that are all 0 open it.
-use Rattle.std.proofs.Common.{◌≡◌, ◌≢◌, ℕ, ◌<◌, ◌==◌, Bool, true, false, cond, IsTrue, List, [], ◌∷◌, All, refl, arith}
+use Rattle.std.proofs.Common.{◌≢◌, ℕ, ◌<◌, IsTrue, List, [], ◌∷◌, All, refl, arith}
 use Rattle.std.proofs.lemmas.Bool.Decides.{nat_tests}
-use Rattle.std.proofs.lemmas.List.Elements.{All-nil, All-head, All-tail, All-cons}
+use Rattle.std.proofs.lemmas.Grind.{common_steps}
+use Rattle.std.proofs.lemmas.List.Elements.{All-nil, All-head, All-tail}
 use Rattle.lin_report.specs.declared.calls.Op.{Op}
-use Rattle.lin_report.specs.declared.calls.Reply.{Reply}
-use Rattle.lin_report.specs.declared.calls.Reply.TheVariants.{Done, Exhausted}
-use Rattle.lin_report.specs.declared.calls.TheConstants.{TAKE}
-use Rattle.lin_report.specs.Commands.{may_exhaust, IsReplyTo, VALUE_LIMIT}
-use Rattle.lin_report.specs.Object.{IsCommandOf, take_first, held_after}
+use Rattle.lin_report.specs.declared.calls.Reply.TheVariants.{Exhausted}
+use Rattle.lin_report.specs.Commands.{IsReplyTo, VALUE_LIMIT}
+use Rattle.lin_report.specs.Object.{IsCommandOf, held_after}
 use Rattle.lin_report.specs.Tellable.{IsTellable}
 use Rattle.node_arena.specs.Opening.{IsOpening}
-use Rattle.treiber_stack_form.specs.Object.{is_put, is_stack_command, stack_apply, stack_object}
+use Rattle.treiber_stack_form.specs.Object.{is_stack_command, stack_apply, stack_object}
 
 pub zeros_open : IsOpening (λ place. 0)
 zeros_open = record { zero_first = λ place low none. refl; zero_behind = λ place behind. refl; small = λ place. omega arith }
-
--- a command that doesn't put takes
-takes_else : (op : Op) → IsTrue (is_stack_command op) → is_put op ≡ false → IsTrue (op.code == TAKE)
-takes_else op command other = grind (arith, nat_tests)
-
--- each may find no block
-pub stack_exhausts : (op : Op) → IsTrue (is_stack_command op) → IsTrue (may_exhaust op)
-stack_exhausts op command = grind (arith, nat_tests)
 
 -- values in range
 abbrev InRange : List ℕ → Type 0
 InRange values = All (λ v. v < VALUE_LIMIT) values
 
--- a command leaves values in range, and is given a reply that it may be given
-abbrev Fits : Op → List ℕ × Reply → Type 0
-Fits op result = InRange result.0 × IsReplyTo op result.1 × (result.1 ≢ Exhausted)
+-- a command leaves values in range
+range_kept : (op : Op) (values : List ℕ) → op.value < VALUE_LIMIT → InRange values → InRange (stack_apply op values).0
+range_kept op [] low small = grind (arith, nat_tests, common_steps)
+range_kept op (v ∷ values) low small = grind (arith, nat_tests, common_steps, All-tail (λ v. v < VALUE_LIMIT) v values small)
 
-take_fits : (op : Op) (values : List ℕ) → IsTrue (op.code == TAKE) → InRange values → Fits op (take_first values)
-take_fits op [] takes small = (small, record { named = grind (arith, nat_tests); value = omega arith }, λ same. cc)
-take_fits op (v ∷ values) takes small =
-    (All-tail (λ w. w < VALUE_LIMIT) v values small, record { named = grind (arith, nat_tests); value = All-head (λ w. w < VALUE_LIMIT) v values small }, λ same. cc)
+-- and is given a reply that it may be given
+reply_fits : (op : Op) (values : List ℕ) → IsTrue (is_stack_command op) → InRange values → IsReplyTo op (stack_apply op values).1
+reply_fits op [] command small = record { named = grind (arith, nat_tests); value = grind (arith, nat_tests) }
+reply_fits op (v ∷ values) command small = record { named = grind (arith, nat_tests); value = grind (arith, nat_tests, All-head (λ v. v < VALUE_LIMIT) v values small) }
 
-apply_fits : (op : Op) (values : List ℕ) → IsCommandOf stack_object op → InRange values → Fits op (stack_apply op values)
-apply_fits op values command small = by_put (is_put op) refl
-  where
-    by_put : (put : Bool) → is_put op ≡ put → Fits op (cond put (op.value ∷ values, Done) (take_first values))
-    by_put true e = (All-cons (λ w. w < VALUE_LIMIT) op.value values command.value small, record { named = e; value = omega arith }, λ same. cc)
-    by_put false e = take_fits op values (takes_else op command.command e) small
-
-reply_fits : (values : List ℕ) (ops : List Op) (op : Op) → InRange values → All (IsCommandOf stack_object) ops → IsCommandOf stack_object op → IsReplyTo op (stack_apply op (held_after stack_object values ops)).1
-reply_fits values [] op small before command = (apply_fits op values command small).1
-reply_fits values (first ∷ ops) op small before command =
-    reply_fits (stack_apply first values).0 ops op (apply_fits first values (All-head (IsCommandOf stack_object) first ops before) small).0 (All-tail (IsCommandOf stack_object) first ops before) command
+-- also after commands
+fits_from : (values : List ℕ) (ops : List Op) (op : Op) → InRange values → All (IsCommandOf stack_object) ops → IsCommandOf stack_object op → IsReplyTo op (stack_apply op (held_after stack_object values ops)).1
+fits_from values [] op small before command = reply_fits op values command.command small
+fits_from values (first ∷ ops) op small before command =
+    fits_from (stack_apply first values).0 ops op (range_kept first values (All-head (IsCommandOf stack_object) first ops before).value small) (All-tail (IsCommandOf stack_object) first ops before) command
 
 answers : (op : Op) (values : List ℕ) → (stack_apply op values).1 ≢ Exhausted
-answers op values = by_put (is_put op) values
-  where
-    by_put : (put : Bool) (values : List ℕ) → (cond put (op.value ∷ values, Done) (take_first values)).1 ≢ Exhausted
-    by_put true values = λ same. cc
-    by_put false [] = λ same. cc
-    by_put false (v ∷ values) = λ same. cc
+answers op [] = grind (arith, nat_tests)
+answers op (v ∷ values) = grind (arith, nat_tests)
 
 pub stack_is_tellable : IsTellable stack_object
 stack_is_tellable = record {
   named = λ op command. grind (arith, nat_tests);
-  fits = λ ops op before command. reply_fits [] ops op (All-nil (λ v. v < VALUE_LIMIT)) before command;
+  fits = λ ops op before command. fits_from [] ops op (All-nil (λ v. v < VALUE_LIMIT)) before command;
   answers = answers;
 }

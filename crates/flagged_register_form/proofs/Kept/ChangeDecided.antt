@@ -9,7 +9,7 @@ use Rattle.flagged_register_form.proofs.Basics.{decision_flag, decided_some, dec
 use Rattle.flagged_register_form.proofs.Effects.{Decides, change_decided, decided_won}
 use Rattle.flagged_register_form.proofs.Effects.Effect.{decides}
 use Rattle.flagged_register_form.proofs.Later.{Later, later, flagged_later, note_later, made_later, decided_later, value_later, content_later}
-use Rattle.flagged_register_form.proofs.Kept.FlagLists.{older, IsDecision}
+use Rattle.flagged_register_form.proofs.Kept.FlagLists.{unset, IsDecision}
 use Rattle.flagged_register_form.proofs.Kept.SpentCauses.{spent_later, differs}
 use Rattle.normal_traits.proofs.Stays.{word_beside}
 use Rattle.client_lemmas.proofs.Words.{same_place}
@@ -56,7 +56,7 @@ decides_kept world list made shape d = record {
     own = same_place (decision_place list.block) (decided made) world.words
 
     before : (other : Listed) → Flagged after other → Flagged world other
-    before other flagged = record { from = flagged.from; entries = flagged.entries; won = older other flagged.from (decided_won list made) world.journal refl flagged.won }
+    before = unset world after (decided_won list made) refl refl
 
     stands_later : (other : Listed) → Flagged world other → Stands world other → ¬ IsGone after other → Stands after other
     stands_later other flagged stands not_gone = record {

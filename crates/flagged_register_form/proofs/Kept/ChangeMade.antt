@@ -15,7 +15,7 @@ use Rattle.flagged_register_form.proofs.Effects.{Makes, change_made, made_won}
 use Rattle.flagged_register_form.proofs.Effects.Effect.{makes}
 use Rattle.flagged_register_form.proofs.Observed.{has_key, none_content, some_content}
 use Rattle.flagged_register_form.proofs.Later.{Later, later, flagged_later, note_later, made_later, decided_later, value_later}
-use Rattle.flagged_register_form.proofs.Kept.FlagLists.{older, one_up, not_both, IsDecision}
+use Rattle.flagged_register_form.proofs.Kept.FlagLists.{unset, one_up, not_both, IsDecision}
 use Rattle.flagged_register_form.proofs.Kept.SpentCauses.{spent_later, differs}
 use Rattle.normal_traits.proofs.Stays.{word_beside}
 use Rattle.client_lemmas.proofs.Words.{same_place}
@@ -94,7 +94,7 @@ makes_kept world list shape m = record {
     }
 
     before : (other : Listed) → Flagged after other → Flagged world other
-    before other flagged' = record { from = flagged'.from; entries = flagged'.entries; won = older other flagged'.from (made_won list (world.words REGISTER)) world.journal refl flagged'.won }
+    before = unset world after (made_won list (world.words REGISTER)) refl refl
 
     unmade : (b : Change) → Among b world.changes → list ≡ b.list → ⊥
     unmade b among e = not_both world shape list m.stands (subst (λ (x : Listed). versioned_version (world.words (note_place x.block)) < versioned_version (world.words REGISTER)) (sym e) (shape.passed b among))

@@ -9,7 +9,7 @@ use Rattle.flagged_register_form.proofs.Basics.{register_flag, decision_flag}
 use Rattle.flagged_register_form.proofs.Effects.{Clears, flag_cleared, cleared_won}
 use Rattle.flagged_register_form.proofs.Effects.Effect.{clears}
 use Rattle.flagged_register_form.proofs.Later.{Later, later, flag_clear, flagged_later, note_later, made_later, decided_later, value_later, content_later}
-use Rattle.flagged_register_form.proofs.Kept.FlagLists.{older, one_up, not_both, up_value, IsDecision}
+use Rattle.flagged_register_form.proofs.Kept.FlagLists.{unset, one_up, not_both, up_value, IsDecision}
 use Rattle.flagged_register_form.proofs.Kept.SpentCauses.{spent_later, differs}
 use Rattle.normal_traits.proofs.Stays.{word_beside}
 use Rattle.client_lemmas.proofs.Words.{same_place}
@@ -53,7 +53,7 @@ clears_kept world list flag shape c = record {
     up = ap cleared_word (c.here ∙ c.own) ∙ cleared-clear (flag_of list.entries) (flag_clear world list shape c.flagged)
 
     before : (other : Listed) → Flagged after other → Flagged world other
-    before other flagged = record { from = flagged.from; entries = flagged.entries; won = older other flagged.from (cleared_won list flag) world.journal refl flagged.won }
+    before = unset world after (cleared_won list flag) refl refl
 
     flagger : (other : Listed) → Flagged world other → IsFlagger after other
     flagger other flagged = let f = shape.flaggers other flagged in record { some = f.some; small = f.small; used = f.used; key = f.key; value = value_later world after shape l other flagged ∙ f.value; fate = inr (fate f.fate); decision = subst IsDecision (sym same) f.decision }

@@ -1,8 +1,8 @@
 -- The lists that set the flag, before and after a step, and the one whose flag is up.
-use Rattle.std.proofs.Common.{◌≡◌, ℕ, ◌<◌, Bool, true, false, List, ◌∷◌, sym, ap, ◌∙◌, inl, inr, ◌⊎◌, arith}
+use Rattle.std.proofs.Common.{◌≡◌, ℕ, ◌<◌, true, false, ◌∷◌, subst, sym, ap, ◌∙◌, inl, inr, ◌⊎◌, arith}
 use Rattle.word_fields.specs.Versioned.{versioned_value, versioned_version, cleared_word}
 use Rattle.word_fields.proofs.ChangedWords.{value-cleared}
-use Rattle.normal_traits.specs.World.{Listed, Maker, Won, World, Among}
+use Rattle.normal_traits.specs.World.{Listed, Won, World, Among}
 use Rattle.normal_traits.specs.World.Maker.{By, Beside}
 use Rattle.flagged_register_form.specs.Register.{FLAG, REGISTER, note_place, flag_value, flag_of, decided}
 use Rattle.flagged_register_form.specs.Meanings.{Flagged, Stands, Shape, flag_won}
@@ -14,25 +14,20 @@ use Rattle.flagged_register_form.proofs.Later.{flag_names}
 pub flagged_from : (a b : World) (list : Listed) → ((item : Won) → Among item a.journal → Among item b.journal) → Flagged a list → Flagged b list
 flagged_from a b list f flagged = record { from = flagged.from; entries = flagged.entries; won = f (flag_won list flagged.from) flagged.won }
 
-abbrev list_of : Listed → Maker → Listed
-list_of other (By list j) = list
-list_of other Beside = other
-
-abbrev is_by : Maker → Bool
-is_by (By list j) = true
-is_by Beside = false
-
 -- an exchange beside the lists sets no flag
-pub older : (list : Listed) (from : ℕ) (new : Won) (journal : List Won) → new.maker ≡ Beside → Among (flag_won list from) (new ∷ journal) → Among (flag_won list from) journal
-older list from new journal beside (inl e) = let e' : true ≡ false = ap (λ (w : Won). is_by w.maker) e ∙ ap is_by beside in absurd cc
-older list from new journal beside (inr among) = among
+pub unset : (world after : World) (new : Won) → after.journal ≡ new ∷ world.journal → new.maker ≡ Beside → (list : Listed) → Flagged after list → Flagged world list
+unset world after new journal beside list flagged = record { from = flagged.from; entries = flagged.entries; won = by_place (subst (Among (flag_won list flagged.from)) journal flagged.won) }
+  where
+    by_place : (flag_won list flagged.from ≡ new) ⊎ Among (flag_won list flagged.from) world.journal → Among (flag_won list flagged.from) world.journal
+    by_place (inl e) = let by : By list 0 ≡ Beside = ap (λ (w : Won). w.maker) e ∙ beside in absurd cc
+    by_place (inr among) = among
 
 -- after the setting of a flag, the lists that set one are those before and the new one
 pub newly : (world : World) (list : Listed) (from word : ℕ) (other : Listed) → Flagged (flag_set list from word world) other → (other ≡ list) ⊎ Flagged world other
 newly world list from word other flagged = by_place flagged.won
   where
     by_place : Among (flag_won other flagged.from) (flag_won list from ∷ world.journal) → (other ≡ list) ⊎ Flagged world other
-    by_place (inl e) = inl (ap (λ (w : Won). list_of list w.maker) e)
+    by_place (inl e) = let by : By other 0 ≡ By list 0 = ap (λ (w : Won). w.maker) e in inl cc
     by_place (inr among) = inr (record { from = flagged.from; entries = flagged.entries; won = among })
 
 -- ---- one flag is up
