@@ -1,4 +1,4 @@
-//! Shared structures by the names of their calls: a queue, two sets and a map, each over one table of atomic words, for
+//! Shared structures by the names of their calls: a queue, a stack, two sets and a map, each over one table of atomic words, for
 //! threads of one's own. Each thread has a handle, and a handle makes the calls of its structure and no others.
 #![tactic(auto)]
 
@@ -11,6 +11,7 @@ pub use queue::{QueueHandle, SharedQueue};
 pub use refused::Refused;
 pub use set::{SetHandle, SharedSet};
 pub use shared_memory::{Shared, Totals};
+pub use stack::{SharedStack, StackHandle};
 
 mod answers;
 pub mod hash_set;
@@ -20,3 +21,5 @@ pub mod map;
 pub mod queue;
 pub mod refused;
 pub mod set;
+pub mod stack;
+mod values;
