@@ -5,7 +5,7 @@
 
 mod puts;
 
-use crate::puts::{Last, Put, follow};
+use crate::puts::{Last, Put, follow, held};
 use script_reader::read_schedule;
 use std::alloc::{AllocError, Global};
 use std::io;
@@ -25,16 +25,7 @@ fn held_after(alloc: Global, schedule: &str, last: Last) -> Result<Vec<u64>, All
             }
         }
     }
-    let mut held = Vec::new(alloc);
-    let words = cells.words();
-    let mut node = words[0];
-    for _ in 0..2u32 {
-        if node != 0 {
-            held.push(node.wrapping_add(6))?;
-            node = words.get(node as usize).copied().unwrap_or(0);
-        }
-    }
-    Ok(held)
+    held(alloc, &cells)
 }
 
 fn main(rt: HostRuntime) -> io::Result<()> {

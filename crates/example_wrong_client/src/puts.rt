@@ -2,6 +2,7 @@
 //! node 1, and the one at place 2 what is behind node 2; a word 0 names nothing. Seat 0 brings in node 1, and seat 1 node 2.
 
 use script_reader::{ScheduleEntry, Span};
+use std::alloc::{AllocError, Global};
 use step_memory::{Cells, Port, Request, Seen};
 
 /// The place of the word that names the top.
@@ -84,4 +85,22 @@ pub fn follow(cells: &mut Cells, put: &mut Put, entry: ScheduleEntry, last: Last
         let seen = cells.apply(request);
         *put = feed(*put, seen);
     }
+}
+
+/// The values that the stack holds, that of the top first. Node 1 has the value 7, and node 2 the value 8.
+pub fn held(alloc: Global, cells: &Cells) -> Result<Vec<u64>, AllocError> {
+    let mut held = Vec::new(alloc);
+    let mut node = word_at(cells, 0);
+    for _ in 0..2u32 {
+        if node != 0 {
+            held.push(node.wrapping_add(6))?;
+            node = word_at(cells, node as usize);
+        }
+    }
+    Ok(held)
+}
+
+/// The word at a place, or 0 where there is none.
+fn word_at(cells: &Cells, place: usize) -> u64 {
+    cells.words().get(place).copied().unwrap_or(0)
 }
