@@ -10,8 +10,6 @@ use std::thread::Threads;
 use std::{io, thread};
 use wait_free::{Key, OpenError, Refused, SetHandle, SharedSet, open};
 
-const THREADS: u32 = 8;
-
 const KEYS: u32 = 40;
 
 /// What one thread does. How many keys it was the first to add.
@@ -32,7 +30,7 @@ fn add_in_threads<R: Threads + Wait + Sync>(
     rt: &R,
     alloc: Global,
 ) -> Result<Vec<Result<u32, Refused>>, OpenError> {
-    let (shared, handles) = open(alloc, THREADS, 1024, 3)?;
+    let (shared, handles) = open(alloc, 8, 1024, 3)?;
     let counts = thread::map_vec(
         rt,
         handles,

@@ -10,8 +10,6 @@ use std::thread::Threads;
 use std::{io, thread};
 use wait_free::{OpenError, QueueHandle, Refused, SharedQueue, open};
 
-const THREADS: u32 = 4;
-
 const NUMBERS: u32 = 25;
 
 /// What one thread does. The sum of the numbers that it took.
@@ -35,7 +33,7 @@ fn work_in_threads<R: Threads + Wait + Sync>(
     rt: &R,
     alloc: Global,
 ) -> Result<Vec<Result<u32, Refused>>, OpenError> {
-    let (shared, handles) = open(alloc, THREADS, 1024, 3)?;
+    let (shared, handles) = open(alloc, 4, 1024, 3)?;
     let sums = thread::map_vec(
         rt,
         handles,
