@@ -35,7 +35,7 @@ fn add_in_threads<R: Threads + Wait + Sync>(
         rt,
         handles,
         &|handle|
-            requires table { handle.table ≡ shared.now.table }
+            requires table { handle.table ≡ shared.table }
         { add_all(rt, &shared, SetHandle { handle }) },
     )?;
     Ok(counts)

@@ -38,7 +38,7 @@ fn work_in_threads<R: Threads + Wait + Sync>(
         rt,
         handles,
         &|handle|
-            requires table { handle.table ≡ shared.now.table }
+            requires table { handle.table ≡ shared.table }
         { work(rt, &shared, QueueHandle { handle }) },
     )?;
     Ok(sums)
