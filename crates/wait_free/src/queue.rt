@@ -21,7 +21,7 @@ use table_tries::Whole;
 pub type SharedQueue = Shared<MsQueue>;
 
 /// The right of one thread to make the calls of a queue. Each takes no lock and no memory, and ends with the reply of
-/// its own line.
+/// its own line. `example_work_queue` is a program whose threads have one each.
 #[derive(Drop)]
 pub struct QueueHandle {
     pub handle: Handle<MsQueue>,

@@ -20,7 +20,7 @@ use treiber_stack::TreiberStack;
 pub type SharedStack = Shared<TreiberStack>;
 
 /// The right of one thread to make the calls of a stack. Each takes no lock and no memory, and ends with the reply of
-/// its own line.
+/// its own line. `thread_tests/src/handle_calls.rt` makes each of them.
 #[derive(Drop)]
 pub struct StackHandle {
     pub handle: Handle<TreiberStack>,
