@@ -1,5 +1,6 @@
 -- Handles as a structure is opened with them, and as threads leave them.
 use Rattle.std.proofs.Common.{arith, ◌≡◌, ◌∙◌, refl, sym, subst, ap, ℕ, zero, suc, ◌+◌, ◌-◌, ◌<◌, List, length, get_or}
+use Rattle.std.specs.Prelude.{All}
 use Rattle.fast_slow_engine.specs.declared.setup.Setup.{Setup}
 use Rattle.shared_memory.specs.declared.view.View.{View}
 use Rattle.shared_memory.specs.Views.{Face, Memory}
@@ -37,3 +38,7 @@ module _ {C S W : Type 0} where
         let same = each seat d inside in
         record { table = same.table ∙ was.table; opened = same.opened ∙ was.opened };
   }
+
+  -- all handles of a structure are of its table
+  pub of_table : (memory : Memory) (handles : List (Face C S W)) → AreAllHandles memory handles → All (λ handle. handle.table ≡ memory.table) handles
+  of_table memory handles all = λ seat d low. (all.each seat d low).table

@@ -47,7 +47,7 @@ pub struct Spent;
 
 impl<C: Normalized> Handle<C> {
     /// A new structure, which is empty, with the handle of seat 0.
-    pub fn first(alloc: Global, setup: Setup) -> Result<(Shared<C>, Handle<C>), NoMemory>
+    pub(crate) fn first(alloc: Global, setup: Setup) -> Result<(Shared<C>, Handle<C>), NoMemory>
         ensures table { IfOk result (λ r. r.1.table ≡ r.0.table) }
         ensures setup { IfOk result (λ r. r.0.setup ≡ setup) }
         ensures view { IfOk result (λ r. r.1.view ≡ first_view setup) }
@@ -58,7 +58,7 @@ impl<C: Normalized> Handle<C> {
     }
 
     /// The handle of the next seat, which made no call. Each handle but the first is split off the first.
-    pub fn split(&mut self, shared: &Shared<C>, seat: u32, setup: Setup) -> Handle<C>
+    pub(crate) fn split(&mut self, shared: &Shared<C>, seat: u32, setup: Setup) -> Handle<C>
         requires table { self.old.table ≡ shared.now.table }
         requires root { self.old.view.root ≡ true }
         requires next { seat ≡ self.old.view.made + 1 }
@@ -98,7 +98,7 @@ impl<C: Normalized> Handle<C> {
     }
 
     /// Takes another handle in. Its lines, and those that it took in, stay in this one's view.
-    pub fn take_in(&mut self, shared: &Shared<C>, other: Handle<C>)
+    pub(crate) fn take_in(&mut self, shared: &Shared<C>, other: Handle<C>)
         requires table { (self.old.table ≡ shared.now.table) × (other.table ≡ shared.now.table) }
         ensures table { self.new.table ≡ self.old.table }
         ensures view { self.new.view ≡ glued self.old.view other.view }
@@ -111,7 +111,7 @@ impl<C: Normalized> Handle<C> {
     /// are all lines of a run with these counters, in which each seat made the calls of its lines and none is left; that
     /// run is the run of those calls in some order of the seats, and meets what every run meets: its report is complete
     /// and linearizable, and no call was overtaken more often than may be.
-    pub fn close(self, shared: Shared<C>) -> Totals
+    pub(crate) fn close(self, shared: Shared<C>) -> Totals
         requires table { self.table ≡ shared.table }
         requires whole { IsWhole self.view }
         ensures seats { length (files_in self.view) ≡ self.view.machine.setup.seats }

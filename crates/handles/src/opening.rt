@@ -1,5 +1,5 @@
 //! A structure is opened with all of its handles.
-ghost use Rattle.std.specs.Prelude.{◌≡◌, ℕ, ◌+◌, ◌<◌, ◌≤◌, [], IfErr, IfOk, None, Err, Some, length, slice_index_or, vec_capacity};
+ghost use Rattle.std.specs.Prelude.{◌≡◌, ℕ, ◌+◌, ◌<◌, ◌≤◌, [], All, IfErr, IfOk, None, Err, Some, length, slice_index_or, vec_capacity};
 ghost use Rattle.handles.specs.declared.opening.OpenError.{OpenError};
 ghost use Rattle.handles.specs.declared.opening.OpenError.TheVariants as fault;
 ghost use Rattle.thread_runs.specs.Placed.{root_view};
@@ -10,7 +10,7 @@ use fast_slow_engine::Setup;
 use lin_report::NoMemory;
 use normal_traits::Normalized;
 use shared_memory::Shared;
-use std::alloc::Global;
+use std::alloc::{AllocError, Global};
 use thread_runs::opening::room_for;
 
 /// Why a structure was not opened. Nothing is left behind.
@@ -30,6 +30,14 @@ impl From<NoMemory> for OpenError {
     ghost from_gives = { λ _ why. why ≡ fault.NoMemory };
 
     fn from(_error: NoMemory) -> OpenError {
+        OpenError::NoMemory
+    }
+}
+
+impl From<AllocError> for OpenError {
+    ghost from_gives = { λ _ why. why ≡ fault.NoMemory };
+
+    fn from(_error: AllocError) -> OpenError {
         OpenError::NoMemory
     }
 }
@@ -103,6 +111,7 @@ pub fn open<C: Normalized>(
     ensures numbers { IfOk result (λ r. HasNumbers r.0.setup seats cap limit) }
     ensures all { IfOk result (λ r. AreAllHandles r.0 r.1.items) }
     ensures new { IfOk result (λ r. (seat : ℕ) (d : _) → seat < seats → IsNewHandle r.0 seat (slice_index_or r.1.items seat d)) }
+    ensures table { IfOk result (λ r. All (λ handle. handle.table ≡ r.0.table) r.1.items) }
 {
     let setup = setup_of(seats, cap, limit)?;
     let opened = open_all(alloc, setup)?;

@@ -1,25 +1,42 @@
 //! Handles of each structure, used call by call by one thread.
-ghost use Rattle.std.specs.Prelude.{◌≤◌};
+ghost use Rattle.std.specs.Prelude.{◌≡◌, IfSome};
 
-use fast_slow_engine::Setup;
+use normal_traits::Normalized;
+use std::alloc::Global;
+use std::sync::Wait;
 use std::test::Fail;
-use wait_free::{Handle, HashSetHandle, Key, MapHandle, QueueHandle, Refused, SetHandle};
+use wait_free::{
+    Handle, HashSetHandle, Key, MapHandle, QueueHandle, Refused, SetHandle, Shared, SharedQueue,
+    Spent, StackHandle, open,
+};
 
-/// One seat whose calls stay on the fast path.
-fn alone(cap: u32) -> Setup
-    requires some { 1 ≤ cap }
-    requires few { cap ≤ 65536 }
+/// A structure of one seat, whose calls stay on the fast path, with its handle.
+fn alone<C: Normalized>(alloc: Global, cap: u32) -> Option<(Shared<C>, Handle<C>)>
+    ensures table { IfSome result (λ r. r.1.table ≡ r.0.table) }
 {
-    Setup {
-        seats: 1,
-        cap,
-        limit: 3,
-    }
+    let Ok((shared, mut handles)) = open(alloc, 1, cap, 3) else {
+        return None;
+    };
+    let handle = handles.pop()?;
+    Some((shared, handle))
+}
+
+/// A structure of two seats, whose calls are announced at once, with both handles.
+fn together<C: Normalized>(alloc: Global, cap: u32) -> Option<(Shared<C>, Handle<C>, Handle<C>)>
+    ensures one { IfSome result (λ r. r.1.table ≡ r.0.table) }
+    ensures other { IfSome result (λ r. r.2.table ≡ r.0.table) }
+{
+    let Ok((shared, mut handles)) = open(alloc, 2, cap, 0) else {
+        return None;
+    };
+    let second = handles.pop()?;
+    let first = handles.pop()?;
+    Some((shared, first, second))
 }
 
 #[test]
 fn a_queue_is_full_where_no_block_is_left(rt: HostRuntime) -> Result<(), Fail> {
-    let Ok((shared, handle)) = Handle::first(rt.alloc(), alone(1)) else {
+    let Some((shared, handle)) = alone(rt.alloc(), 1) else {
         panic!(rt; "no memory")
     };
     let mut queue = QueueHandle { handle };
@@ -34,15 +51,9 @@ fn a_queue_is_full_where_no_block_is_left(rt: HostRuntime) -> Result<(), Fail> {
 
 #[test]
 fn a_value_goes_from_one_handle_to_another(rt: HostRuntime) -> Result<(), Fail> {
-    let setup = Setup {
-        seats: 2,
-        cap: 4,
-        limit: 0,
-    };
-    let Ok((shared, mut first)) = Handle::first(rt.alloc(), setup) else {
+    let Some((shared, first, second)) = together(rt.alloc(), 4) else {
         panic!(rt; "no memory")
     };
-    let second = first.split(&shared, 1, setup);
     let mut giver = QueueHandle { handle: second };
     let mut taker = QueueHandle { handle: first };
     assert_eq!(rt; giver.put(&rt, &shared, 7), Ok(()));
@@ -56,8 +67,38 @@ fn a_value_goes_from_one_handle_to_another(rt: HostRuntime) -> Result<(), Fail> 
 }
 
 #[test]
+fn the_last_value_of_a_stack_goes_first(rt: HostRuntime) -> Result<(), Fail> {
+    let Some((shared, handle)) = alone(rt.alloc(), 2) else {
+        panic!(rt; "no memory")
+    };
+    let mut stack = StackHandle { handle };
+    assert_eq!(rt; stack.take(&rt, &shared), Ok(None));
+    assert_eq!(rt; stack.put(&rt, &shared, 7), Ok(()));
+    assert_eq!(rt; stack.put(&rt, &shared, 8), Ok(()));
+    assert_eq!(rt; stack.put(&rt, &shared, 9), Err(Refused::Full));
+    assert_eq!(rt; stack.take(&rt, &shared), Ok(Some(8)));
+    assert_eq!(rt; stack.take(&rt, &shared), Ok(Some(7)));
+    assert_eq!(rt; stack.take(&rt, &shared), Ok(None));
+    Ok(())
+}
+
+#[test]
+fn a_value_goes_over_a_stack_from_one_handle_to_another(rt: HostRuntime) -> Result<(), Fail> {
+    let Some((shared, first, second)) = together(rt.alloc(), 4) else {
+        panic!(rt; "no memory")
+    };
+    let mut giver = StackHandle { handle: second };
+    let mut taker = StackHandle { handle: first };
+    assert_eq!(rt; giver.put(&rt, &shared, 7), Ok(()));
+    assert_eq!(rt; giver.put(&rt, &shared, 8), Ok(()));
+    assert_eq!(rt; taker.take(&rt, &shared), Ok(Some(8)));
+    assert_eq!(rt; giver.take(&rt, &shared), Ok(Some(7)));
+    Ok(())
+}
+
+#[test]
 fn a_set_tells_its_least_key(rt: HostRuntime) -> Result<(), Fail> {
-    let Ok((shared, handle)) = Handle::first(rt.alloc(), alone(4)) else {
+    let Some((shared, handle)) = alone(rt.alloc(), 4) else {
         panic!(rt; "no memory")
     };
     let mut set = SetHandle { handle };
@@ -77,7 +118,7 @@ fn a_set_tells_its_least_key(rt: HostRuntime) -> Result<(), Fail> {
 
 #[test]
 fn a_hash_set_keeps_keys_of_one_list_apart(rt: HostRuntime) -> Result<(), Fail> {
-    let Ok((shared, handle)) = Handle::first(rt.alloc(), alone(2)) else {
+    let Some((shared, handle)) = alone(rt.alloc(), 2) else {
         panic!(rt; "no memory")
     };
     let mut set = HashSetHandle { handle };
@@ -94,7 +135,7 @@ fn a_hash_set_keeps_keys_of_one_list_apart(rt: HostRuntime) -> Result<(), Fail> 
 
 #[test]
 fn a_key_of_a_map_keeps_its_value(rt: HostRuntime) -> Result<(), Fail> {
-    let Ok((shared, handle)) = Handle::first(rt.alloc(), alone(8)) else {
+    let Some((shared, handle)) = alone(rt.alloc(), 8) else {
         panic!(rt; "no memory")
     };
     let mut map = MapHandle { handle };
@@ -113,5 +154,32 @@ fn a_key_of_a_map_keeps_its_value(rt: HostRuntime) -> Result<(), Fail> {
 fn keys_are_below_their_limit(rt: HostRuntime) -> Result<(), Fail> {
     assert_eq!(rt; Key::new(1_048_575).map(|key| key.get()), Some(1_048_575));
     assert_eq!(rt; Key::new(1_048_576), None);
+    Ok(())
+}
+
+/// Makes so many calls that look at the first value. Whether each finds the queue empty.
+fn look<R: Wait>(rt: &R, shared: &SharedQueue, queue: &mut QueueHandle, count: u32) -> bool
+    requires table { queue.old.handle.table ≡ shared.now.table }
+    ensures table { queue.new.handle.table ≡ shared.now.table }
+{
+    for _ in 0..count {
+        if queue.peek(rt, shared) != Ok(None) {
+            return false;
+        }
+    }
+    true
+}
+
+#[test]
+fn a_handle_is_spent_after_as_many_calls_as_its_seat_can_number(
+    rt: HostRuntime,
+) -> Result<(), Fail> {
+    let Some((shared, handle)) = alone(rt.alloc(), 1) else {
+        panic!(rt; "no memory")
+    };
+    let mut queue = QueueHandle { handle };
+    assert!(rt; look(&rt, &shared, &mut queue, 65_535));
+    assert_eq!(rt; queue.peek(&rt, &shared), Err(Spent));
+    assert_eq!(rt; queue.put(&rt, &shared, 7), Err(Refused::Spent));
     Ok(())
 }

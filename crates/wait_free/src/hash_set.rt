@@ -24,7 +24,7 @@ pub type Buckets = BucketSet<32>;
 pub type SharedHashSet = Shared<Buckets>;
 
 /// The right of one thread to make the calls of a hash set. Each takes no lock and no memory, and ends with the reply of
-/// its own line.
+/// its own line. `thread_tests/src/handle_calls.rt` makes each of them.
 #[derive(Drop)]
 pub struct HashSetHandle {
     pub handle: Handle<Buckets>,

@@ -21,7 +21,7 @@ use table_tries::Whole;
 pub type SharedMap = Shared<EllenTree>;
 
 /// The right of one thread to make the calls of a map. Each takes no lock and no memory, and ends with the reply of its
-/// own line.
+/// own line. `thread_tests/src/handle_calls.rt` makes each of them.
 #[derive(Drop)]
 pub struct MapHandle {
     pub handle: Handle<EllenTree>,

@@ -8,9 +8,10 @@ ghost use Rattle.wait_free.specs.declared.refused.Refused.{Refused};
 
 use crate::answers::value_told;
 use crate::refused::Refused;
+use crate::values::{put_answer, take_answer};
 use handles::{Handle, Spent};
+use lin_report::Op;
 use lin_report::calls::{PEEK, PUT, TAKE};
-use lin_report::{Op, Reply};
 use ms_queue::MsQueue;
 use shared_memory::Shared;
 use std::sync::Wait;
@@ -20,30 +21,10 @@ use table_tries::Whole;
 pub type SharedQueue = Shared<MsQueue>;
 
 /// The right of one thread to make the calls of a queue. Each takes no lock and no memory, and ends with the reply of
-/// its own line.
+/// its own line. `example_work_queue` is a program whose threads have one each.
 #[derive(Drop)]
 pub struct QueueHandle {
     pub handle: Handle<MsQueue>,
-}
-
-/// What a put tells by the reply of its line.
-fn put_answer(reply: Reply) -> Result<(), Refused>
-    ensures { result ≡ put_answer reply }
-{
-    match reply {
-        Reply::Exhausted => Err(Refused::Full),
-        _ => Ok(()),
-    }
-}
-
-/// What a take tells by the reply of its line.
-fn take_answer(reply: Reply) -> Result<Option<u32>, Refused>
-    ensures { result ≡ take_answer reply }
-{
-    match reply {
-        Reply::Exhausted => Err(Refused::Full),
-        _ => Ok(value_told(reply)),
-    }
 }
 
 impl QueueHandle {

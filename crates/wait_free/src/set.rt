@@ -21,7 +21,8 @@ use table_tries::Whole;
 pub type SharedSet = Shared<HarrisList>;
 
 /// The right of one thread to make the calls of a sorted set. Each takes no lock and no memory, and ends with the reply
-/// of its own line. A call passes the keys below its own: for many keys take a `HashSetHandle`.
+/// of its own line. A call passes the keys below its own: for many keys take a `HashSetHandle`. `example_shared_set` is a
+/// program whose threads have one each.
 #[derive(Drop)]
 pub struct SetHandle {
     pub handle: Handle<HarrisList>,
