@@ -27,6 +27,7 @@ impl<C: Normalized> Core<C> {
         requires command { IsCommandOf C.form.object op }
         ensures taken { OnOk result (self.new ≡ submitted seat op self.old) }
         ensures refused { OnErr result (self.new ≡ self.old) }
+        ensures seats { length self.new.files ≡ length self.old.files }
         ensures spent { result ≡ Err NotSubmitted.Spent ↔ 65535 ≤ length (file_of self.old.files seat) }
     {
         if self.seats[seat as usize].is_full() {
