@@ -40,7 +40,7 @@ module _ {S W : Type 0} where
   seat_still i (Some mech) None longer move is h = absurd (search rules)
   seat_still i (Some mech) (Some f) longer move is h =
       let g = is f refl in
-      ap (move_of_seat i (Some mech)) g.1.0 ∙ over_still i f g.0 (rests mech.phase) mech move g.1.1 h
+      ap (move_of_seat i (Some mech)) g.1 ∙ over_still i f g.0 (rests mech.phase) mech move g.2 h
 
   -- the move of a seat is its move over files one of which has grown
   pub move_stays : (files : List (List Op)) (seat : ℕ) (op : Op) (i : ℕ) (state : RunState S W) (move : Move) → next_move files i state ≡ Some move → next_move (grown seat op files) i state ≡ Some move

@@ -21,6 +21,10 @@ use Rattle.event_core.specs.Submissions.{grown, has_move, is_idle, submitted}
 use Rattle.event_core.proofs.Rooms.{begun_set, owed_set}
 use Rattle.event_core.proofs.StepsAreMoves.{file_at, moves, moves_not, over_turn, put_same, rebuilt, seat_at, turned_core}
 
+not_idle : (t : Turn) → is_idle (core_turn_of t) ≡ false
+not_idle turn.Going = refl
+not_idle (turn.Returned receipt) = refl
+
 module _ {S W : Type 0} where
   -- the file of a seat in a core
   pub file_is : (seats : List (Seat S W)) (i : ℕ) (s : Seat S W) → i < length seats → s ≡ slice_index_or seats i s → file_of (map (λ (seat : Seat S W). seat.file) seats) i ≡ s.file
@@ -99,10 +103,6 @@ module _ {S W : Type 0} where
         }
 
   -- ---- whether a seat has a step
-
-  not_idle : (t : Turn) → is_idle (core_turn_of t) ≡ false
-  not_idle turn.Going = refl
-  not_idle (turn.Returned receipt) = refl
 
   module _ (form : NormalForm S W) (setup : Setup) (words : List ℕ) (seats : List (Seat S W)) (receipts : List Receipt) (events : List Event) (i : ℕ) (s : Seat S W) (inside : i < length seats) (at : s ≡ slice_index_or seats i s) where
     step_by : (over : Bool) → is_over s ≡ over → not over ≡ has_move i (core_of setup words seats receipts events)
