@@ -1,7 +1,9 @@
 -- A core with a command more in the file of a seat.
-use Rattle.std.proofs.Common.{arith, ◌≡◌, ◌∙◌, refl, sym, subst, ap, ℕ, zero, suc, ◌+◌, ◌-◌, ◌*◌, ◌<◌, ◌≤◌, ◌++◌, List, [], ◌∷◌, length, length-set, map, slice_get, slice_set, slice_index_or, Bool, true, false, not}
-use Rattle.std.specs.Prelude.{is_some, sum_by}
-use Rattle.std.proofs.lemmas.List.{length-append, map-set}
+use Rattle.std.proofs.Common.{arith, ◌≡◌, ◌∙◌, refl, sym, subst, ap, ℕ, zero, suc, ◌+◌, ◌-◌, ◌*◌, ◌<◌, ◌≤◌, ◌++◌, List, [], ◌∷◌, length, length-set, map, take, slice_get, slice_set, slice_index_or, Bool, true, false, not}
+use Rattle.std.specs.Prelude.{is_some, nat_le, sum_by}
+use Rattle.std.proofs.lemmas.Bool.{leb-false, leb-true}
+use Rattle.std.proofs.lemmas.List.{length-append, length-map, map-set}
+use Rattle.std.proofs.lemmas.List.Sums.{sum_by_more}
 use Rattle.std.proofs.lemmas.Option.{get_or_from_slice_get}
 use Rattle.std.proofs.Math.Seq.{map-set_same}
 use Rattle.lin_report.specs.declared.calls.Op.{Op}
@@ -15,11 +17,11 @@ use Rattle.fast_slow_engine.specs.declared.setup.Turn.TheVariants as turn
 use Rattle.fast_slow_engine.specs.Mechs.{Mech}
 use Rattle.fast_slow_engine.specs.PhaseTable.{lines_left}
 use Rattle.fast_slow_engine.specs.Runs.{Move, next_move}
-use Rattle.event_core.specs.Cores.{HaveBegun, IsCore, IsRun, core_of, core_turn, core_turn_of}
+use Rattle.event_core.specs.Cores.{CoreView, HaveBegun, IsCore, IsRun, core_of, core_turn, core_turn_of}
 use Rattle.event_core.specs.Seats.{Seat, is_over, lines_owed}
 use Rattle.event_core.specs.Submissions.{grown, has_move, is_idle, submitted}
 use Rattle.event_core.proofs.Rooms.{begun_set, owed_set}
-use Rattle.event_core.proofs.StepsAreMoves.{file_at, moves, moves_not, over_turn, put_same, rebuilt, seat_at, turned_core}
+use Rattle.event_core.proofs.StepsAreMoves.{file_at, moves, moves_not, over_turn, put_same, rebuilt, seat_at, seated, turned_core}
 
 not_idle : (t : Turn) → is_idle (core_turn_of t) ≡ false
 not_idle turn.Going = refl
@@ -29,6 +31,38 @@ module _ {S W : Type 0} where
   -- the file of a seat in a core
   pub file_is : (seats : List (Seat S W)) (i : ℕ) (s : Seat S W) → i < length seats → s ≡ slice_index_or seats i s → file_of (map (λ (seat : Seat S W). seat.file) seats) i ≡ s.file
   file_is seats i s inside at = get_or_from_slice_get (map (λ (seat : Seat S W). seat.file) seats) i s.file [] (file_at seats i s (seat_at seats i s inside at))
+
+  pub file_in : {view : CoreView S W} (setup : Setup) (words : List ℕ) (seats : List (Seat S W)) (receipts : List Receipt) (events : List Event) (i : ℕ) (s : Seat S W)
+      → core_of setup words seats receipts events ≡ view → i < length view.files → s ≡ slice_index_or seats i s → file_of view.files i ≡ s.file
+  file_in setup words seats receipts events i s is inside at =
+      ap (λ (v : CoreView S W). file_of v.files i) (sym is) ∙ file_is seats i s (seated setup words seats receipts events i is inside) at
+
+  -- whether the file of a seat is full
+  pub is_full_in : {view : CoreView S W} (setup : Setup) (words : List ℕ) (seats : List (Seat S W)) (receipts : List Receipt) (events : List Event) (i : ℕ) (s : Seat S W)
+      → core_of setup words seats receipts events ≡ view → i < length view.files → s ≡ slice_index_or seats i s → (full : Bool) → full ≡ nat_le 65535 (length s.file) → full ≡ true → 65535 ≤ length (file_of view.files i)
+  is_full_in setup words seats receipts events i s is inside at full tells yes =
+      subst (λ f. 65535 ≤ length f) (sym (file_in setup words seats receipts events i s is inside at)) (leb-true 65535 (length s.file) (sym tells ∙ yes))
+
+  pub has_room_in : {view : CoreView S W} (setup : Setup) (words : List ℕ) (seats : List (Seat S W)) (receipts : List Receipt) (events : List Event) (i : ℕ) (s : Seat S W)
+      → core_of setup words seats receipts events ≡ view → i < length view.files → s ≡ slice_index_or seats i s → (full : Bool) → full ≡ nat_le 65535 (length s.file) → full ≡ false → length (file_of view.files i) < 65535
+  has_room_in setup words seats receipts events i s is inside at full tells no =
+      subst (λ f. length f < 65535) (sym (file_in setup words seats receipts events i s is inside at)) (leb-false 65535 (length s.file) (sym tells ∙ no))
+
+  -- there are as many files as there were
+  pub files_in : {view : CoreView S W} (setup : Setup) (words : List ℕ) (seats : List (Seat S W)) (receipts : List Receipt) (events : List Event) (i : ℕ) (s' : Seat S W)
+      → core_of setup words seats receipts events ≡ view → length (map (λ (seat : Seat S W). seat.file) (slice_set seats i s')) ≡ length view.files
+  files_in setup words seats receipts events i s' is =
+      length-map (slice_set seats i s') (λ (seat : Seat S W). seat.file) ∙ length-set seats i s' ∙ sym (length-map seats (λ (seat : Seat S W). seat.file)) ∙ ap (λ (v : CoreView S W). length v.files) is
+
+  -- one more file is counted
+  pub one_counted : (seats : List (Seat S W)) (i : ℕ) (s : Seat S W) (so_far more : ℕ) → (so_far ≡ sum_by (λ (seat : Seat S W). length seat.file) (take i seats)) × (so_far ≤ 65535 * i) → i < length seats → s ≡ slice_index_or seats i s
+      → more ≡ length s.file → more ≤ 65535 → (so_far + more ≡ sum_by (λ (seat : Seat S W). length seat.file) (take (i + 1) seats)) × (so_far + more ≤ 65535 * (i + 1))
+  one_counted seats i s so_far more counted inside at is few =
+      let next = sum_by_more (λ (seat : Seat S W). length seat.file) seats i s inside in
+      let here = ap (λ (seat : Seat S W). length seat.file) at in
+      let sum = counted.0 in
+      let most = counted.1 in
+      (omega (arith, next, here, sum, is), omega (arith, most, few))
 
   -- the core with the seat that has the command
   pub submitted_core : (setup : Setup) (words : List ℕ) (seats : List (Seat S W)) (receipts receipts' : List Receipt) (events events' : List Event) (i : ℕ) (s s' : Seat S W) (op : Op)
