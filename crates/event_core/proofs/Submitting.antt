@@ -40,13 +40,13 @@ module _ {S W : Type 0} where
   -- whether the file of a seat is full
   pub is_full_in : {view : CoreView S W} (setup : Setup) (words : List ℕ) (seats : List (Seat S W)) (receipts : List Receipt) (events : List Event) (i : ℕ) (s : Seat S W)
       → core_of setup words seats receipts events ≡ view → i < length view.files → s ≡ slice_index_or seats i s → (full : Bool) → full ≡ nat_le 65535 (length s.file) → full ≡ true → 65535 ≤ length (file_of view.files i)
-  is_full_in setup words seats receipts events i s is inside at full tells yes =
-      subst (λ f. 65535 ≤ length f) (sym (file_in setup words seats receipts events i s is inside at)) (leb-true 65535 (length s.file) (sym tells ∙ yes))
+  is_full_in setup words seats receipts events i s is inside at full tells is_true =
+      subst (λ f. 65535 ≤ length f) (sym (file_in setup words seats receipts events i s is inside at)) (leb-true 65535 (length s.file) (sym tells ∙ is_true))
 
   pub has_room_in : {view : CoreView S W} (setup : Setup) (words : List ℕ) (seats : List (Seat S W)) (receipts : List Receipt) (events : List Event) (i : ℕ) (s : Seat S W)
       → core_of setup words seats receipts events ≡ view → i < length view.files → s ≡ slice_index_or seats i s → (full : Bool) → full ≡ nat_le 65535 (length s.file) → full ≡ false → length (file_of view.files i) < 65535
-  has_room_in setup words seats receipts events i s is inside at full tells no =
-      subst (λ f. length f < 65535) (sym (file_in setup words seats receipts events i s is inside at)) (leb-false 65535 (length s.file) (sym tells ∙ no))
+  has_room_in setup words seats receipts events i s is inside at full tells is_false =
+      subst (λ f. length f < 65535) (sym (file_in setup words seats receipts events i s is inside at)) (leb-false 65535 (length s.file) (sym tells ∙ is_false))
 
   -- there are as many files as there were
   pub files_in : {view : CoreView S W} (setup : Setup) (words : List ℕ) (seats : List (Seat S W)) (receipts : List Receipt) (events : List Event) (i : ℕ) (s' : Seat S W)
