@@ -32,9 +32,10 @@ module _ {S W : Type 0} (form : NormalForm S W) where
       let found = the_move (next_move files i (run_of form setup was)) are.1 in
       let stays = move_stays files seat op i (run_of form setup was) found.0 found.1 in
       let now : next_move (grown seat op files) i (run_of form setup (moves_over form setup (grown seat op files) older)) ≡ Some found.0
-      = ap (λ moves. next_move (grown seat op files) i (run_of form setup moves)) before.0 ∙ stays in
-      (ap (λ moves. with_move (next_move (grown seat op files) i (run_of form setup moves)) moves) before.0 ∙ ap (λ o. with_move o was) (stays ∙ sym found.1),
-       (before.1, ap is_some now))
+      = ap (λ moves. next_move (grown seat op files) i (run_of form setup moves)) before.0 ∙ stays in (
+        ap (λ moves. with_move (next_move (grown seat op files) i (run_of form setup moves)) moves) before.0 ∙ ap (λ o. with_move o was) (stays ∙ sym found.1),
+        (before.1, ap is_some now),
+      )
 
   pub new_holds : (setup : Setup) (files : List (List Op)) → HoldsRun form (core_new form setup files) []
   new_holds setup files = record { steps = tt; state = refl }
