@@ -6,3 +6,6 @@ pub mod Rooms
 pub mod Publications
 pub mod StepEvents
 pub mod Renewals
+pub mod GrownFiles
+pub mod HeldRuns
+pub mod Submitting

@@ -21,7 +21,7 @@ use Rattle.event_core.proofs.StepsAreMoves.{mech_at, over_stays, put_same, seat_
 module _ {S W : Type 0} where
   -- ---- calls begun
 
-  begun_set : (seats : List (Seat S W)) (i : ℕ) (s : Seat S W) → HaveBegun seats → s.mech.number ≤ length s.file → HaveBegun (slice_set seats i s)
+  pub begun_set : (seats : List (Seat S W)) (i : ℕ) (s : Seat S W) → HaveBegun seats → s.mech.number ≤ length s.file → HaveBegun (slice_set seats i s)
   begun_set [] i s have few = tt
   begun_set (x ∷ seats) zero s have few = (few, have.1)
   begun_set (x ∷ seats) (suc i) s have few = (have.0, begun_set seats i s have.1 few)
@@ -38,7 +38,7 @@ module _ {S W : Type 0} where
   -- ---- room
 
   -- what the seats owe, with another one at a place
-  owed_set : (f : Seat S W → ℕ) (seats : List (Seat S W)) (i : ℕ) (s other : Seat S W) → i < length seats → s ≡ slice_index_or seats i s → sum_by f (slice_set seats i other) + f s ≡ sum_by f seats + f other
+  pub owed_set : (f : Seat S W → ℕ) (seats : List (Seat S W)) (i : ℕ) (s other : Seat S W) → i < length seats → s ≡ slice_index_or seats i s → sum_by f (slice_set seats i other) + f s ≡ sum_by f seats + f other
   owed_set f seats i s other inside at = ap (λ (x : Seat S W). sum_by f (slice_set seats i other) + f x) at ∙ sum_by-set f seats i other s inside
 
   module _ (form : NormalForm S W) (setup : Setup) where
@@ -81,8 +81,9 @@ module _ {S W : Type 0} where
     pub room_for_lines : lines_owed s1 ≡ lines_owed s → lines + lines_owed s1 ≤ line_room
     room_for_lines same =
         let left = is.for_lines in
+        let all = is.for_all_lines in
         let own = subst (λ (x : Seat S W). lines_owed x ≤ sum_by lines_owed seats) (sym at) (get_or-le-sum_by lines_owed seats i s inside) in
-        omega (arith, left, own, same)
+        omega (arith, left, all, own, same)
 
     module _ (keeps : (moves : List Move) → AreMoves form setup moves → KeepsQueue form setup moves) (can : CanMove form (command_of s) s.mech) (s2 : Seat S W) (words' : List ℕ)
         (w : words' ≡ words_after (mech_request form s1.mech) words) (m2 : s2.mech ≡ mech_fed form s1.mech (seen_of (mech_request form s1.mech) words)) (f2 : s2.file ≡ s1.file) (few : s2.mech.number ≤ length s2.file) where
@@ -128,7 +129,7 @@ module _ {S W : Type 0} where
             count = length-set seats i s2 ∙ is.count;
             begun = begun_set seats i s2 is.begun few;
             run = subst (IsRun form setup words' (map (λ seat. seat.mech) (slice_set seats i s2))) (sym noted) stepped_run;
-            for_lines = omega (arith, of_lines, begun_lines, stepped_lines, more_lines, same_line_room, lines_left);
+            for_lines = omega (arith, of_lines, begun_lines, stepped_lines, more_lines, same, lines_left);
             for_all_lines = omega (arith, all, same, same_line_room);
             for_events = omega (arith, fits, same, same_event_room);
           }

@@ -144,7 +144,7 @@ module _ {S W F : Type 0} (commands : F → List Op) (form : NormalForm S W) (se
         count = fresh_count 0 files ∙ count;
         begun = fresh_begun 0 files;
         run = subst (IsRun form setup words (map (λ seat. seat.mech) (new_seats setup 0 (map commands files)))) (sym e) (fresh_run words files (w ∙ w') count);
-        for_lines = omega (arith, owed, c, l, lr);
+        for_lines = omega (arith, owed, all, l);
         for_all_lines = omega (arith, all, c, lr);
         for_events = omega (arith, all, c, er);
       })

@@ -63,18 +63,18 @@ module _ {S W : Type 0} where
   pub mech_at : (seats : List (Seat S W)) (i : ℕ) (s : Seat S W) → slice_get seats i ≡ Some s → slice_get (map (λ (seat : Seat S W). seat.mech) seats) i ≡ Some s.mech
   mech_at seats i s at = slice_get-map (λ (seat : Seat S W). seat.mech) seats i ∙ ap (option_map (λ (seat : Seat S W). seat.mech)) at
 
-  file_at : (seats : List (Seat S W)) (i : ℕ) (s : Seat S W) → slice_get seats i ≡ Some s → slice_get (map (λ (seat : Seat S W). seat.file) seats) i ≡ Some s.file
+  pub file_at : (seats : List (Seat S W)) (i : ℕ) (s : Seat S W) → slice_get seats i ≡ Some s → slice_get (map (λ (seat : Seat S W). seat.file) seats) i ≡ Some s.file
   file_at seats i s at = slice_get-map (λ (seat : Seat S W). seat.file) seats i ∙ ap (option_map (λ (seat : Seat S W). seat.file)) at
 
   -- its next move in the run
-  moves : (setup : Setup) (words : List ℕ) (seats : List (Seat S W)) (receipts : List Receipt) (events : List Event) (i : ℕ) (s : Seat S W) → slice_get seats i ≡ Some s → is_over s ≡ false
+  pub moves : (setup : Setup) (words : List ℕ) (seats : List (Seat S W)) (receipts : List Receipt) (events : List Event) (i : ℕ) (s : Seat S W) → slice_get seats i ≡ Some s → is_over s ≡ false
       → next_move (core_of setup words seats receipts events).files i (core_of setup words seats receipts events).state ≡ Some (record { seat = i; begins = command_of s })
   moves setup words seats receipts events i s at over =
       ap (λ m. move_of_seat i m (slice_get (map (λ (seat : Seat S W). seat.file) seats) i)) (mech_at seats i s at)
       ∙ ap (move_of_seat i (Some s.mech)) (file_at seats i s at)
       ∙ move_by i s.file s.mech (rests s.mech.phase) over
 
-  moves_not : (setup : Setup) (words : List ℕ) (seats : List (Seat S W)) (receipts : List Receipt) (events : List Event) (i : ℕ) (s : Seat S W) → slice_get seats i ≡ Some s → is_over s ≡ true
+  pub moves_not : (setup : Setup) (words : List ℕ) (seats : List (Seat S W)) (receipts : List Receipt) (events : List Event) (i : ℕ) (s : Seat S W) → slice_get seats i ≡ Some s → is_over s ≡ true
       → next_move (core_of setup words seats receipts events).files i (core_of setup words seats receipts events).state ≡ None
   moves_not setup words seats receipts events i s at over =
       ap (λ m. move_of_seat i m (slice_get (map (λ (seat : Seat S W). seat.file) seats) i)) (mech_at seats i s at)
@@ -116,7 +116,7 @@ module _ {S W : Type 0} where
         ap (λ m. record { setup = setup; files = map (λ (seat : Seat S W). seat.file) seats; state = after_move form m view.state }) (moves setup words seats receipts events i s at over)
         ∙ ap (λ o. record { setup = setup; files = map (λ (seat : Seat S W). seat.file) seats; state = moved_by form o (record { seat = i; begins = command_of s }) view.state }) (mech_at seats i s at)
 
-    turned_core : (setup : Setup) (words : List ℕ) (seats : List (Seat S W)) (receipts : List Receipt) (events : List Event) (i : ℕ) (s : Seat S W) → slice_get seats i ≡ Some s → is_over s ≡ false
+    pub turned_core : (setup : Setup) (words : List ℕ) (seats : List (Seat S W)) (receipts : List Receipt) (events : List Event) (i : ℕ) (s : Seat S W) → slice_get seats i ≡ Some s → is_over s ≡ false
         → core_turn form i (core_of setup words seats receipts events)
         ≡ core_turn_of (mech_turn (begun (command_of s) s.mech) (seen_of (mech_request form (begun (command_of s) s.mech)) words))
     turned_core setup words seats receipts events i s at over =

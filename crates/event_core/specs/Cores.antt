@@ -41,14 +41,14 @@ HaveBegun [] = Unit {0}
 HaveBegun (seat ∷ seats) = (seat.mech.number ≤ length seat.file) × HaveBegun seats
 
 -- what a core keeps: the words with which a run over one block opens, since behind them every opening has zeros; a seat
--- for each of the setup; the run that it holds; room for all lines that the seats still owe, beside so many; and, of each
--- command, room for a line and for four events
+-- for each of the setup; the run that it holds; no more lines, with those that the seats still owe, than there are
+-- commands; and, of each command, room for a line and for four events
 pub record IsCore {S W : Type 0} (form : NormalForm S W) (setup : Setup) (opening words : List ℕ) (seats : List (Seat S W)) (lines line_room : ℕ) (events : List Event) (event_room : ℕ) : Type 0 where
   pub opened : opening ≡ opening_words form.opening 1
   pub count : length seats ≡ setup.seats
   pub begun : HaveBegun seats
   pub run : IsRun form setup words (map (λ seat. seat.mech) seats) events
-  pub for_lines : lines + sum_by lines_owed seats ≤ line_room
+  pub for_lines : lines + sum_by lines_owed seats ≤ sum_by (λ seat. length seat.file) seats
   pub for_all_lines : sum_by (λ seat. length seat.file) seats ≤ line_room
   pub for_events : 4 * sum_by (λ seat. length seat.file) seats ≤ event_room
 

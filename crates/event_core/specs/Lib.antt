@@ -2,3 +2,4 @@ pub mod Seats
 pub mod Noted
 pub mod Cores
 pub mod Watching
+pub mod Submissions

@@ -20,6 +20,8 @@ use overtaking_law::greatest_overtaken;
 use std::alloc::Global;
 use std::marker::Model;
 
+pub mod submitting;
+
 /// What a step of a seat has come to.
 #[derive(Clone, Copy, Debug, PartialEq, Eq)]
 pub enum CoreTurn {

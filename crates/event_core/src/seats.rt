@@ -1,15 +1,18 @@
 //! A seat with the file of its commands.
-ghost use Rattle.std.specs.Prelude.{◌≡◌, ◌+◌, ◌<◌, ◌≤◌, true, false, is_some, not, length};
+ghost use Rattle.std.specs.Prelude.{◌≡◌, ◌+◌, ◌++◌, ◌∷◌, ◌<◌, ◌≤◌, [], true, false, is_some, nat_le, not, length, OnErr, OnOk};
 ghost use Rattle.std.specs.Option.{option_to_list};
 ghost use Rattle.step_memory.specs.Step.{seen_of, words_after};
 ghost use Rattle.fast_slow_engine.specs.Runs.{CanMove, begun, returned};
 ghost use Rattle.fast_slow_engine.specs.PhaseTable.{ends, lists, mech_event, mech_fed, mech_new, mech_pending, mech_request, mech_turn, rests};
 
 use fast_slow_engine::{Machine, Plays, Setup, Turn};
-use lin_report::{Event, Op, PendingCall};
+use lin_report::{Event, NoMemory, Op, PendingCall};
 use normal_traits::Normalized;
 use std::marker::Model;
 use step_memory::{Request, Seen};
+
+/// The most commands of a file: a seat can number no more.
+const MOST_COMMANDS: usize = 65_535;
 
 /// The machine of a seat, and its commands.
 #[derive(Drop)]
@@ -31,6 +34,7 @@ impl<C: Normalized> Model for Seat<C> {
 impl<C: Normalized> Seat<C> {
     ghost use Rattle.std.specs.Prelude.{Some, None};
     ghost use Rattle.lin_report.specs.CommandFiles.{IsCommandFile};
+    ghost use Rattle.lin_report.specs.Object.{IsCommandOf};
     ghost use Rattle.event_core.specs.Seats.{command_of, is_over, lines_owed};
 
     /// Begins the seat's next command where no call runs. Whether a call runs then.
@@ -65,6 +69,39 @@ impl<C: Normalized> Seat<C> {
             machine: Machine::new(seat, setup),
             file,
         }
+    }
+
+    /// Whether a call runs or a command is left.
+    pub fn has_step(&self) -> bool
+        ensures { result ≡ not (is_over self.now) }
+    {
+        !self.machine.is_idle() || (self.machine.number() as usize) < self.file.len()
+    }
+
+    /// How many commands the file has.
+    pub fn commands(&self) -> usize
+        ensures count { result ≡ length self.now.file }
+        ensures few { result ≤ 65535 }
+    {
+        self.file.len()
+    }
+
+    /// Whether the file has as many commands as a seat can number.
+    pub fn is_full(&self) -> bool
+        ensures { result ≡ nat_le 65535 (length self.now.file) }
+    {
+        self.file.len() >= MOST_COMMANDS
+    }
+
+    /// Puts a command last in the file.
+    pub fn put_last(&mut self, op: Op) -> Result<(), NoMemory>
+        requires room { length self.old.file < 65535 }
+        requires command { IsCommandOf C.form.object op }
+        ensures mech { self.new.mech ≡ self.old.mech }
+        ensures file { OnOk result (self.new.file ≡ self.old.file ++ op ∷ []) }
+        ensures refused { OnErr result (self.new ≡ self.old) }
+    {
+        self.file.push(op).map_err(|_| NoMemory)
     }
 
     /// Whether the next step draws a tick.
