@@ -21,9 +21,7 @@ fn work<R: Wait>(rt: &R, shared: &SharedQueue, mut queue: QueueHandle) -> Result
     }
     let mut sum = 0u32;
     for _ in 0..NUMBERS {
-        if let Some(number) = queue.take(rt, shared)? {
-            sum = sum.wrapping_add(number);
-        }
+        sum = sum.wrapping_add(queue.take(rt, shared)?.unwrap_or(0));
     }
     Ok(sum)
 }

@@ -1,40 +1,50 @@
-//! A client with a mistake, and a schedule that shows it: a put that stores its node as the top, where it should exchange the
-//! top from the word that it has loaded. It hasn't the client laws, so no engine is given it. Puts that are made one after the
-//! other don't tell it from the right one. A put that comes in before the last step of another does, each time in the same way.
+//! A wrong client, and the schedules that show its mistake. Two seats count to two, each by a load of the count and a store of
+//! one more. Every order of their steps is replayed. Where both load before one of them stores, a count is lost. An exchange
+//! from the count that was loaded, as the client laws ask for each change, fails there, so that the seat can begin anew.
 #![tactic(auto)]
 
-mod puts;
-
-use crate::puts::{Last, Put, follow, held};
-use script_reader::read_schedule;
 use std::alloc::{AllocError, Global};
 use std::io;
-use step_memory::Cells;
+use step_memory::{Cells, Port, Request};
 
-/// One put after the other; and the put of seat 1 before the last step of that of seat 0.
-const SCHEDULES: [&str; 2] = ["0 end\n1 end\n", "0 exchange\n1 end\n0 end\n"];
+/// The place of the count.
+const COUNT: u32 = 0;
 
-/// The values that are held after a schedule, that of the top first: seat 0 puts 7, and seat 1 puts 8.
-fn held_after(alloc: Global, schedule: &str, last: Last) -> Result<Vec<u64>, AllocError> {
-    let mut cells = Cells::new([0, 0, 0].to_vec(alloc)?);
-    let mut puts = [Put::Load, Put::Load];
-    if let Ok(entries) = read_schedule(alloc, schedule.as_bytes(), 2) {
-        for entry in entries {
-            if let Some(put) = puts.get_mut(entry.seat as usize) {
-                follow(&mut cells, put, entry, last);
-            }
+/// The orders in which two seats can make two steps each, the number of a seat for each step.
+const ORDERS: [&str; 6] = ["0011", "0101", "0110", "1001", "1010", "1100"];
+
+/// Makes the next step of a seat that has loaded this count, or nothing yet. What it has loaded then.
+fn step(cells: &mut Cells, loaded: Option<u64>) -> Option<u64> {
+    match loaded {
+        None => Some(cells.apply(Request::Load { at: COUNT }).before),
+        Some(count) => {
+            let value = count.wrapping_add(1);
+            let _ = cells.apply(Request::Store { at: COUNT, value });
+            None
         }
     }
-    held(alloc, &cells)
+}
+
+/// The count after the steps of both seats in an order.
+fn count_after(alloc: Global, order: &str) -> Result<u64, AllocError> {
+    let mut cells = Cells::new([0].to_vec(alloc)?);
+    let mut loaded = [None, None];
+    for name in order.bytes() {
+        let seat = usize::from(name == b'1');
+        loaded[seat] = step(&mut cells, loaded[seat]);
+    }
+    Ok(cells.words().first().copied().unwrap_or(0))
 }
 
 fn main(rt: HostRuntime) -> io::Result<()> {
-    for schedule in SCHEDULES {
-        println!(rt; "by the schedule {schedule:?}")?;
-        for last in [Last::Exchange, Last::Store] {
-            let held = held_after(rt.alloc(), schedule, last)?;
-            println!(rt; "  {last:?}: {held:?}")?;
-        }
+    for order in ORDERS {
+        let count = count_after(rt.alloc(), order)?;
+        let found = if count == 2 {
+            "right"
+        } else {
+            "a count is lost"
+        };
+        println!(rt; "steps by {order}: {count}, {found}")?;
     }
     Ok(())
 }
