@@ -1,5 +1,5 @@
 -- A move that a seat has over its file stays its move where a file grows at its end.
-use Rattle.std.proofs.Common.{rules, ◌≡◌, ◌∙◌, refl, sym, subst, ap, ℕ, zero, suc, Bool, true, false, List, [], ◌∷◌, ◌++◌, slice_get, Option, Some, None, option_map}
+use Rattle.std.proofs.Common.{rules, ◌≡◌, ◌∙◌, refl, subst, ap, ℕ, zero, suc, Bool, true, false, List, [], ◌∷◌, ◌++◌, slice_get, Option, Some, None, option_map}
 use Rattle.lin_report.specs.declared.calls.Op.{Op}
 use Rattle.fast_slow_engine.specs.Mechs.{Mech}
 use Rattle.fast_slow_engine.specs.PhaseTable.{rests}

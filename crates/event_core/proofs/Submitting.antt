@@ -1,5 +1,5 @@
 -- A core with a command more in the file of a seat.
-use Rattle.std.proofs.Common.{arith, ◌≡◌, ◌∙◌, refl, sym, subst, ap, ℕ, zero, suc, ◌+◌, ◌-◌, ◌*◌, ◌<◌, ◌≤◌, ◌++◌, List, [], ◌∷◌, length, length-set, map, take, slice_get, slice_set, slice_index_or, Bool, true, false, not}
+use Rattle.std.proofs.Common.{arith, ◌≡◌, ◌∙◌, refl, sym, subst, ap, ℕ, zero, suc, ◌+◌, ◌-◌, ◌*◌, ◌<◌, ◌≤◌, ◌++◌, List, [], ◌∷◌, length, length-set, map, take, slice_set, slice_index_or, Bool, true, false, not}
 use Rattle.std.specs.Prelude.{is_some, nat_le, sum_by}
 use Rattle.std.proofs.lemmas.Bool.{leb-false, leb-true}
 use Rattle.std.proofs.lemmas.List.{length-append, length-map, map-set}
@@ -16,12 +16,11 @@ use Rattle.fast_slow_engine.specs.declared.setup.Turn.{Turn}
 use Rattle.fast_slow_engine.specs.declared.setup.Turn.TheVariants as turn
 use Rattle.fast_slow_engine.specs.Mechs.{Mech}
 use Rattle.fast_slow_engine.specs.PhaseTable.{lines_left}
-use Rattle.fast_slow_engine.specs.Runs.{Move, next_move}
 use Rattle.event_core.specs.Cores.{CoreView, HaveBegun, IsCore, IsRun, core_of, core_turn, core_turn_of}
 use Rattle.event_core.specs.Seats.{Seat, is_over, lines_owed}
-use Rattle.event_core.specs.Submissions.{grown, has_move, is_idle, submitted}
+use Rattle.event_core.specs.Submissions.{has_move, is_idle, submitted}
 use Rattle.event_core.proofs.Rooms.{begun_set, owed_set}
-use Rattle.event_core.proofs.StepsAreMoves.{file_at, moves, moves_not, over_turn, put_same, rebuilt, seat_at, seated, turned_core}
+use Rattle.event_core.proofs.StepsAreMoves.{file_at, moves, moves_not, over_turn, rebuilt, seat_at, seated, turned_core}
 
 not_idle : (t : Turn) → is_idle (core_turn_of t) ≡ false
 not_idle turn.Going = refl

@@ -1,6 +1,7 @@
 //! A set that eight threads share: each adds the same 40 keys, and counts those that were absent when it added them. A key is
 //! absent for one thread alone, so the counts add up to the number of keys.
 #![tactic(auto)]
+
 ghost use Rattle.std.specs.Prelude.{◌≡◌};
 
 use std::alloc::Global;

@@ -1,4 +1,4 @@
-use Rattle.std.proofs.Common.{rules, arith, ◌∙◌, ◌+◌, ◌≤◌, ◌*◌, refl, sym, subst, ap, length, sum_by, vec_capacity}
+use Rattle.std.proofs.Common.{rules, arith, ◌∙◌, refl, ap, length, sum_by}
 use Rattle.event_core.specs.Submissions.{submitted}
 use Rattle.event_core.proofs.StepsAreMoves.{put_same, seated}
 use Rattle.event_core.proofs.Submitting.{file_in, files_in, has_room_in, is_full_in, roomier, same_core, submitted_core, submitted_kept}
