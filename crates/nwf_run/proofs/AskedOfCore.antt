@@ -3,7 +3,8 @@ use Rattle.std.proofs.Common.{◌≡◌, ◌≢◌, ℕ, ◌&&◌, nat_lt, nat_l
 use Rattle.std.specs.Str.{bytes_eq}
 use Rattle.lin_report.specs.declared.calls.Client.{Client}
 use Rattle.client_reports.specs.declared.loading.Load.{Load}
-use Rattle.nwf_run.specs.CommandLine.{Asked, Replay, Sweep, asked_of, asked_words, client_named, load_words, number_in, replay_of, replay_words, sweep_of, sweep_words}
+use Rattle.command_line.specs.Words.{client_named, number_in}
+use Rattle.nwf_run.specs.CommandLine.{Asked, Replay, Sweep, asked_of, asked_words, load_words, replay_of, replay_words, sweep_of, sweep_words}
 use Rattle.nwf_run.specs.CommandLine.Asked.{a_replay, a_sweep, a_load, a_run}
 
 -- a core makes what is asked for: no thread is needed, and a sweep has command files alone

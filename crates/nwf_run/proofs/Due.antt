@@ -12,11 +12,11 @@ use Rattle.nwf_run.specs.Answers.{GivesDue, IsDue}
 use Rattle.nwf_run.specs.Answers.IsDue.{unserved, reports, exhausts, refuses}
 use Rattle.client_reports.specs.Judging.{AcceptedBefore, IsFirstRefused, refusal_in}
 use Rattle.nwf_run.specs.Reading.{Refuses, files_by_name, first_of}
-use Rattle.nwf_run.specs.Replaying.{AreRunsFor, Ends, IsReplayOf, Makes, Reports, StopsFor, text_for}
+use Rattle.nwf_run.specs.Replaying.{AreRunsFor, Ends, IsReplayOf, Makes, Reports, StopsFor, text_for, AreSweepOf}
 use Rattle.nwf_run.specs.Replaying.Reports.{wrote, failed}
 use Rattle.client_reports.specs.Runs.{FilesRun}
 use Rattle.nwf_run.specs.Stops.{status_of, message_of, refused_message}
-use Rattle.client_reports.specs.Sweeps.{AreSweepOf, SomeExhausts}
+use Rattle.client_reports.specs.Sweeps.{SomeExhausts}
 use Rattle.nwf_run.specs.CommandLine.{Asked, Replay, Sweep, files_asked}
 use Rattle.nwf_run.specs.CommandLine.Asked.{a_replay, a_sweep, a_load, a_run}
 use Rattle.client_reports.proofs.JudgedFiles.{after_schedule, commands_accepted}

@@ -19,9 +19,9 @@ use Rattle.client_reports.specs.Forms.{form_of}
 use Rattle.client_reports.specs.Judging.{Accepts, SayFirst}
 use Rattle.client_reports.specs.Loads.{IsLoadOf, ROUNDS_OF_A_CALL}
 use Rattle.nwf_run.specs.Reading.{files_by_name}
-use Rattle.nwf_run.specs.Replaying.{IsReplayOf, OfOne}
+use Rattle.nwf_run.specs.Replaying.{IsReplayOf, OfOne, AreSweepOf}
 use Rattle.client_reports.specs.Runs.{FilesRun, IsRun}
-use Rattle.client_reports.specs.Sweeps.{AreSwept, AreSweepOf, longest, stop_runs}
+use Rattle.client_reports.specs.Sweeps.{AreSwept, longest, stop_runs}
 use Rattle.nwf_run.specs.CommandLine.{Replay, Sweep}
 
 -- ---- setups with the same numbers are the same

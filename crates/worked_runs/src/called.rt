@@ -61,12 +61,7 @@ fn told(core: &Core<MsQueue>, place: usize) -> Option<(u32, Reply)> {
 }
 
 /// Submits a command to a seat so often, while the seat takes it. The last answer.
-fn submit_often(
-    core: &mut Core<MsQueue>,
-    seat: u32,
-    op: Op,
-    count: u32,
-) -> Result<(), NotSubmitted>
+fn submit_often(core: &mut Core<MsQueue>, seat: u32, op: Op, count: u32) -> Result<(), NotSubmitted>
     requires seat { seat < length core.old.files }
     requires command { IsCommandOf queue_object op }
     ensures seats { length core.new.files ≡ length core.old.files }

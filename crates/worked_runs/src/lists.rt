@@ -5,8 +5,8 @@ use crate::runs::drive_seats;
 use event_core::Core;
 use fast_slow_engine::Setup;
 use harris_list::HarrisList;
-use lin_report::calls::{ADD, DEL, HAS};
-use lin_report::{Op, Reply};
+use lin_report::{Client, Reply};
+use script_reader::read_script;
 use std::alloc::Global;
 
 /// The word with which the list begins.
@@ -32,22 +32,13 @@ fn marked(version: u64, node: u64) -> u64 {
     leads(version, node) | 1
 }
 
-/// A command with a key.
-fn keyed(code: u8, key: u32) -> Op {
-    Op {
-        code,
-        key,
-        value: 0,
-    }
-}
-
 /// The run of three seats: the first adds 1 and 2 and deletes 1, the second deletes 2, the third asks for 2.
 fn three_seats(alloc: Global) -> Option<Core<HarrisList>>
     ensures seats { IfSome result (λ core. length core.files ≡ 3) }
 {
-    let first = vec![in alloc; keyed(ADD, 1), keyed(ADD, 2), keyed(DEL, 1)].ok()?;
-    let second = vec![in alloc; keyed(DEL, 2)].ok()?;
-    let third = vec![in alloc; keyed(HAS, 2)].ok()?;
+    let first = read_script(alloc, b"add 1\nadd 2\ndel 1\n", Client::List).ok()?;
+    let second = read_script(alloc, b"del 2\n", Client::List).ok()?;
+    let third = read_script(alloc, b"has 2\n", Client::List).ok()?;
     let files = vec![in alloc; first, second, third].ok()?;
     let setup = Setup {
         seats: 3,
