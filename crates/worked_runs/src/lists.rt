@@ -1,11 +1,14 @@
 //! Runs of the list: a node that is deleted is marked, and then one exchange leads past it.
 ghost use Rattle.std.specs.Prelude.{◌≡◌, IfSome, length};
+ghost use Rattle.lin_report.specs.CommandFiles.{IsCommandFile};
+ghost use Rattle.lin_report.specs.Object.{object_of};
+ghost use Rattle.lin_report.specs.declared.calls.Client.TheVariants.{List};
 
 use crate::runs::drive_seats;
 use event_core::Core;
 use fast_slow_engine::Setup;
 use harris_list::HarrisList;
-use lin_report::{Client, Reply};
+use lin_report::{Client, Op, Reply};
 use script_reader::read_script;
 use std::alloc::Global;
 
@@ -32,13 +35,23 @@ fn marked(version: u64, node: u64) -> u64 {
     leads(version, node) | 1
 }
 
+/// The commands of a list that a text says.
+fn list_file(alloc: Global, text: &[u8]) -> Option<Vec<Op>>
+    ensures commands { IfSome result (λ ops. IsCommandFile (object_of List) ops.items) }
+{
+    let Ok(commands) = read_script(alloc, text, Client::List) else {
+        return None;
+    };
+    Some(commands)
+}
+
 /// The run of three seats: the first adds 1 and 2 and deletes 1, the second deletes 2, the third asks for 2.
 fn three_seats(alloc: Global) -> Option<Core<HarrisList>>
     ensures seats { IfSome result (λ core. length core.files ≡ 3) }
 {
-    let first = read_script(alloc, b"add 1\nadd 2\ndel 1\n", Client::List).ok()?;
-    let second = read_script(alloc, b"del 2\n", Client::List).ok()?;
-    let third = read_script(alloc, b"has 2\n", Client::List).ok()?;
+    let first = list_file(alloc, b"add 1\nadd 2\ndel 1\n")?;
+    let second = list_file(alloc, b"del 2\n")?;
+    let third = list_file(alloc, b"has 2\n")?;
     let files = vec![in alloc; first, second, third].ok()?;
     let setup = Setup {
         seats: 3,
